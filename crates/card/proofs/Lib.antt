@@ -1,0 +1,4 @@
+pub mod Table
+pub mod Wall
+pub mod Counting
+pub mod Overlap

@@ -1,0 +1,44 @@
+-- The overlap of two quorums, once for all n and t, and what n > 3t gives the counts.
+-- Assumes nothing.
+use Prim.Native.Nat.{ℕ, _+_, _*_, _-_, _≤_, _<_}
+use mathlib.Core.Bool.{Bool, not, _&&_}
+use native.Mathlib.Omega.{arith}
+use lib.Dec.{T}
+use Rattle.card.specs.Card.{tolerated, quorum, amplify, deliver}
+use Rattle.card.specs.Count.{count}
+use Rattle.card.proofs.Counting.{count-and, count-find}
+
+-- Two sets of at least q houses, more than half of n and t, share one that is not wrong when at most t are wrong.
+pub share : (n t q : ℕ) (wrong P Q : ℕ → Bool) → n + t < q + q → count wrong n ≤ t → q ≤ count P n → q ≤ count Q n
+    → (i : ℕ) × (i < n) × T (P i && Q i) × T (not (wrong i))
+share n t q wrong P Q more w p r = count-find (λ i. P i && Q i) wrong n (omega (arith, count-and P Q n))
+
+-- the quorum is such a number
+pub quorum-more : (n t : ℕ) → n + t < quorum n t + quorum n t
+unfolding quorum
+quorum-more n t = omega arith
+
+-- Two quorums of n houses share an honest one when at most t are wrong.
+pub overlap : (n t : ℕ) (wrong P Q : ℕ → Bool) → count wrong n ≤ t → quorum n t ≤ count P n → quorum n t ≤ count Q n
+    → (i : ℕ) × (i < n) × T (P i && Q i) × T (not (wrong i))
+overlap n t wrong P Q = share n t (quorum n t) wrong P Q (quorum-more n t)
+
+module _ (n t : ℕ) (third : 3 * t < n) where
+  -- n - t houses are a quorum, and enough to deliver
+  pub rest-quorum : quorum n t ≤ n - t
+  unfolding quorum
+  rest-quorum = omega arith
+
+  pub rest-deliver : deliver t ≤ n - t
+  unfolding deliver
+  rest-deliver = omega arith
+
+  -- n - 2t are enough for a READY
+  pub rest-amplify : amplify t ≤ n - 2 * t
+  unfolding amplify
+  rest-amplify = omega arith
+
+-- the card's t is below a third
+pub tolerated-third : (n : ℕ) → 0 < n → 3 * tolerated n < n
+unfolding tolerated
+tolerated-third n h = omega arith

@@ -1,0 +1,59 @@
+-- The card as a list, and its two formulas, proved over the whole card by one test that antt computes.
+-- Assumes nothing.
+use mathlib.Core.Path.{_≡_, _∙_, ap, refl}
+use mathlib.Core.Bool.{Bool, true, _&&_, and-eq-true-iff}
+use mathlib.Core.List.{List, [], _∷_}
+use Prim.Native.Nat.{ℕ, _+_, _-_, _<_, _≤_}
+use native.Mathlib.Omega.{arith}
+use lib.Dec.{leb, eqb}
+use lib.ListN.{getD}
+use borrow.Author.Tests.{leb-true, eqb-true}
+use Rattle.card.specs.declared.Column.{Column}
+use Rattle.card.specs.Card.{largest, houses, tolerated, quorum, columnOf}
+use Rattle.card.proofs.Table.{at}
+
+abbrev column : ℕ → ℕ → Column
+column t q = record { t = t; quorum = q }
+
+abbrev card : List Column
+card =
+    column 0 1 ∷ column 0 2 ∷ column 0 2 ∷ column 1 3 ∷ column 1 4 ∷ column 1 4 ∷ column 2 5 ∷ column 2 6
+    ∷ column 2 6 ∷ column 3 7 ∷ column 3 8 ∷ column 3 8 ∷ column 4 9 ∷ column 4 10 ∷ column 4 10 ∷ column 5 11 ∷ []
+
+-- the entry at k is the column for k + 1 houses
+abbrev right : ℕ → Column → Bool
+right k x = eqb (x .t) (tolerated (k + 1)) && eqb (x .quorum) (quorum (k + 1) (tolerated (k + 1)))
+
+right-is : (k : ℕ) (x : Column) → right k x ≡ true → x ≡ columnOf (k + 1)
+unfolding columnOf
+right-is k x h =
+    let t = tolerated (k + 1) in
+    let q = quorum (k + 1) t in
+    let both = and-eq-true-iff (eqb (x .t) t) (eqb (x .quorum) q) .0 h in
+    let p = eqb-true (x .t) t (both .0) in
+    let r = eqb-true (x .quorum) q (both .1) in
+    λ i. record { t = p i; quorum = r i }
+
+-- how many houses there may be, as numbers
+pub houses-between : (n : ℕ) → houses n ≡ true → (1 ≤ n) × (n ≤ largest)
+unfolding houses
+houses-between n h =
+    let both = and-eq-true-iff (leb 1 n) (leb n largest) .0 h in
+    (leb-true 1 n (both .0), leb-true n largest (both .1))
+
+pub card-is : (z : Column) (n : ℕ) → houses n ≡ true → getD card (n - 1) z ≡ columnOf n
+unfolding tolerated quorum largest
+card-is z n h =
+    let b = houses-between n h in
+    let e : n - 1 + 1 ≡ n = omega arith in
+    let k : n - 1 < 16 = omega arith in
+    right-is (n - 1) (getD card (n - 1) z) (at right z card refl (n - 1) k) ∙ ap columnOf e
+
+-- a number of houses is written in one byte, and so is t
+pub houses-byte : (n : ℕ) → houses n ≡ true → n < 256
+unfolding largest
+houses-byte n h = let b = houses-between n h in omega arith
+
+pub tolerated-byte : (n : ℕ) → houses n ≡ true → tolerated n < 256
+unfolding tolerated
+tolerated-byte n h = let l = houses-byte n h in omega arith

@@ -1,0 +1,52 @@
+-- Numbers on the wall: how many houses there may be, the tolerated t, the echo quorum, and the counts that the steps compare with.
+-- Assumes nothing.
+use Prim.Native.Nat.{ℕ, _+_, _*_, _-_, _/_}
+use mathlib.Core.Bool.{Bool, _&&_}
+use lib.Dec.{leb}
+use Rattle.card.specs.declared.Column.{Column}
+use Rattle.card.specs.declared.Counts.{Counts}
+
+-- the largest number of houses
+unfoldable pub largest : ℕ
+largest = 16
+
+-- houses n: 1 to 16
+unfoldable pub houses : ℕ → Bool
+unfolding largest
+houses n = leb 1 n && leb n largest
+
+-- t is (n-1)/3 rounded down
+unfoldable pub tolerated : ℕ → ℕ
+tolerated n = (n - 1) / 3
+
+-- a half, rounded up
+abbrev pub halfUp : ℕ → ℕ
+halfUp m = (m + 1) / 2
+
+-- the quorum is (n+t+1)/2 rounded up
+unfoldable pub quorum : ℕ → ℕ → ℕ
+quorum n t = halfUp (n + t + 1)
+
+-- the card's column for n houses
+unfoldable pub columnOf : ℕ → Column
+unfolding tolerated quorum
+columnOf n = record { t = tolerated n; quorum = quorum n (tolerated n) }
+
+-- READYs that make a READY: at least t+1
+unfoldable pub amplify : ℕ → ℕ
+amplify t = t + 1
+
+-- READYs that deliver: at least 2t+1
+unfoldable pub deliver : ℕ → ℕ
+deliver t = 2 * t + 1
+
+-- the counts for n houses
+unfoldable pub countsOf : ℕ → Counts
+unfolding tolerated quorum amplify deliver
+countsOf n =
+    record {
+      t = tolerated n;
+      quorum = quorum n (tolerated n);
+      amplify = amplify (tolerated n);
+      deliver = deliver (tolerated n);
+    }
