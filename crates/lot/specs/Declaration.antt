@@ -1,0 +1,27 @@
+-- A declaration: its 20 bytes and its five numbers.
+-- Assumes nothing.
+use Prim.Native.Nat.{ℕ, _+_}
+use mathlib.Core.List.{List, _++_}
+use Rattle.words.specs.declared.Quad.{Quad}
+use Rattle.words.specs.Words.{quadOf, listOf, wordAt}
+use Rattle.lot.specs.declared.Declaration.{Declaration}
+
+-- the declaration whose 20 bytes, big-endian, stand at i: lot, colonies, kilograms, moisture's bits, conductivity's bits
+unfoldable pub declarationAt : List ℕ → ℕ → Declaration
+declarationAt s i =
+    record {
+      lot = wordAt s i;
+      colonies = wordAt s (i + 4);
+      kilograms = wordAt s (i + 8);
+      moisture = wordAt s (i + 12);
+      conductivity = wordAt s (i + 16);
+    }
+
+-- five numbers, one after the other
+abbrev pub five : Quad → Quad → Quad → Quad → Quad → List ℕ
+five l c k m e = listOf l ++ (listOf c ++ (listOf k ++ (listOf m ++ listOf e)))
+
+-- a declaration is 20 bytes
+unfoldable pub bytesOf : Declaration → List ℕ
+bytesOf d =
+    five (quadOf (d .lot)) (quadOf (d .colonies)) (quadOf (d .kilograms)) (quadOf (d .moisture)) (quadOf (d .conductivity))

@@ -1,0 +1,3 @@
+pub mod Declaration
+pub mod Sheet
+pub mod Kept
