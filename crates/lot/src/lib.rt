@@ -6,7 +6,8 @@ ghost use lib.Ieee.{binary32, ofBits, toBits};
 ghost use lib.ListN.{length};
 ghost use Rattle.lot.specs.Declaration.{declarationAt, bytesOf};
 ghost use Rattle.lot.specs.Sheet.{finite, within, passes, gateLegal, readingsOf, admitted, plausible};
-ghost use Rattle.lot.specs.Kept.{keptAt, gateOf, keptOf, keptForm, keptLegal, sheetAt, sheetLegalAt, isSheet, laid, sheetWritten, judged};
+ghost use Rattle.lot.specs.Kept.{keptAt, gateOf, keptOf, keptForm, keptLegal, sheetAt, sheetLegalAt};
+ghost use Rattle.lot.specs.Kept.{isSheet, laid, sheetWritten, judged};
 use words::Quad;
 
 // A declaration's five numbers; the readings as their bits.

@@ -22,10 +22,12 @@ quad-of-requires-5 c κs = search needs
 
 returns : tie.Need-returns
 unfolding bytesOf
-returns c = let q4 = c .before in
+returns c =
+    let q4 = c .before in
     let q3 = q4 .before in
     let q2 = q3 .before in
-    λ i. five (q2 .before .quad-of .ensures i) (q2 .quad-of2 .ensures i) (q3 .quad-of3 .ensures i) (q4 .quad-of4 .ensures i) (c .quad-of5 .ensures i)
+    let q1 = q2 .before in
+    λ i. five (q1 .quad-of .ensures i) (q2 .quad-of2 .ensures i) (q3 .quad-of3 .ensures i) (q4 .quad-of4 .ensures i) (c .quad-of5 .ensures i)
 
 pub bytes-of-spec : {M : Type 1} → statement M
 bytes-of-spec =

@@ -18,11 +18,13 @@ is-nan (fin s m e) h = cc
 
 returns : tie.Need-returns
 unfolding div ofBits
-returns c = let b = c .before .args .bits in
+returns c =
+    let b = c .before .args .bits in
     sym (is-nan (ofBits binary32 b) (sym (nanBits-is binary32 b) ∙ nanBits-above binary32 b ∙ lt-ltb _ _ (c .if1 .taken)))
 
 float-from-bits-result : tie.Need-float-from-bits-result
-float-from-bits-result c = subst (λ (t : Bool). T (not t)) (sym (nanBits-above binary32 (c .before .args .bits) ∙ le-ltb _ _ (c .if1 .left))) tt
+float-from-bits-result c =
+    subst (λ (t : Bool). T (not t)) (sym (nanBits-above binary32 (c .before .args .bits) ∙ le-ltb _ _ (c .if1 .left))) tt
 
 returns-2 : tie.Need-returns-2
 returns-2 c = search needs

@@ -27,7 +27,8 @@ float-of-requires-3 c κs = search needs
 
 returns-3 : tie.Need-returns-3
 unfolding gateOf
-returns-3 c = let d = c .before .before in
+returns-3 c =
+    let d = c .before .before in
     rw (ne-eqb _ _ (d .before .before .if1 .left), ne-eqb _ _ (d .if2 .left))
     (ap₂ Between (c .before .float-of2 .ensures) (c .float-of3 .ensures))
 

@@ -25,7 +25,8 @@ is-finite-requires-3 c κs = search needs
 
 returns : tie.Need-returns
 unfolding gateLegal
-returns c = let f3 = c .before in
+returns c =
+    let f3 = c .before in
     let f2 = f3 .before .before in
     rw (f2 .before .before .g2 .given .1, ← f2 .is-finite2 .ensures, f3 .before .if1 .taken, ← f3 .is-finite3 .ensures, c .if2 .taken)
 
@@ -39,13 +40,15 @@ returns-3 c = rw (c .before .before .g .given .1) (c .is-finite .ensures)
 
 returns-4 : tie.Need-returns-4
 unfolding gateLegal
-returns-4 c = let f3 = c .before in
+returns-4 c =
+    let f3 = c .before in
     let f2 = f3 .before .before in
     rw (f2 .before .before .g2 .given .1, ← f2 .is-finite2 .ensures, f3 .before .if1 .taken, ← f3 .is-finite3 .ensures, c .if2 .left)
 
 returns-5 : tie.Need-returns-5
 unfolding gateLegal
-returns-5 c = let f2 = c .before in
+returns-5 c =
+    let f2 = c .before in
     rw (f2 .before .before .g2 .given .1, ← f2 .is-finite2 .ensures, c .if1 .left)
 
 pub is-legal-gate-spec : {M : Type 1} → statement M

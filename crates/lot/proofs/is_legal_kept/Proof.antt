@@ -18,7 +18,8 @@ is-legal-gate-requires c κs = search needs
 
 returns : tie.Need-returns
 unfolding keptLegal
-returns c = let f = c .before .before .before in
+returns c =
+    let f = c .before .before .before in
     rw (← f .is-form .ensures, c .before .before .if1 .taken) (c .is-legal-gate .ensures ∙ ap gateLegal (c .before .gate-of .ensures))
 
 returns-2 : tie.Need-returns-2

@@ -21,7 +21,8 @@ admits-requires c κs = search needs
 
 returns : tie.Need-returns
 unfolding plausible
-returns c = let m = c .before .before .before in
+returns c =
+    let m = c .before .before .before in
     rw (← m .most .ensures, le-leb _ _ (c .before .before .if1 .taken))
     (c .admits .ensures ∙ ap (admitted (m .before .before .args .s)) (c .before .readings-of .ensures))
 

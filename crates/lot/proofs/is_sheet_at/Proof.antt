@@ -26,13 +26,15 @@ is-legal-kept-requires-2 c κs = search needs
 
 returns : tie.Need-returns
 unfolding sheetLegalAt
-returns c = let k = c .before .before .before in
+returns c =
+    let k = c .before .before .before in
     rw (← ap keptLegal (k .before .kept-at .ensures), ← k .is-legal-kept .ensures, c .before .before .if1 .taken)
     (c .is-legal-kept2 .ensures ∙ ap keptLegal (c .before .kept-at2 .ensures))
 
 returns-2 : tie.Need-returns-2
 unfolding sheetLegalAt
-returns-2 c = let k = c .before in
+returns-2 c =
+    let k = c .before in
     rw (← ap keptLegal (k .before .kept-at .ensures), ← k .is-legal-kept .ensures, c .if1 .left)
 
 pub is-sheet-at-spec : {M : Type 1} → statement M

@@ -25,14 +25,16 @@ is-plausible-requires c κs = search needs
 
 returns : tie.Need-returns
 unfolding judged
-returns c = let d = c .before .before in
+returns c =
+    let d = c .before .before in
     let s = d .before .before in
     let e = c .before .is-plausible .ensures ∙ ap₂ plausible (s .sheet-at .ensures) (d .declaration-at .ensures) in
     rw (← s .before .before .is-sheet .ensures, s .before .if1 .taken, ← e, c .if2 .taken)
 
 returns-2 : tie.Need-returns-2
 unfolding judged
-returns-2 c = let d = c .before .before in
+returns-2 c =
+    let d = c .before .before in
     let s = d .before .before in
     let e = c .before .is-plausible .ensures ∙ ap₂ plausible (s .sheet-at .ensures) (d .declaration-at .ensures) in
     rw (← s .before .before .is-sheet .ensures, s .before .if1 .taken, ← e, c .if2 .left)

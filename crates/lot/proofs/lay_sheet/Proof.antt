@@ -22,7 +22,8 @@ quad-of-requires-5 : tie.Need-quad-of-requires-5
 quad-of-requires-5 c κs = search needs
 
 returns : tie.Need-returns
-returns c = let q4 = c .before in
+returns c =
+    let q4 = c .before in
     let q3 = q4 .before in
     let q2 = q3 .before in
     let a = q2 .before .before .args in

@@ -29,7 +29,8 @@ gate-of-requires-2 c κs = search needs
 
 returns : tie.Need-returns
 unfolding sheetAt
-returns c = let m = c .before .before in
+returns c =
+    let m = c .before .before in
     let w = m .before .before .word-at .ensures in
     let x = m .gate-of .ensures ∙ ap gateOf (m .before .kept-at .ensures) in
     let y = c .gate-of2 .ensures ∙ ap gateOf (c .before .kept-at2 .ensures) in

@@ -25,7 +25,8 @@ lay-sheet-requires c κs = search needs
 
 returns : tie.Need-returns
 unfolding sheetWritten sheetLegal sheetBytes
-returns c = let k = c .before .before in
+returns c =
+    let k = c .before .before in
     let g2 = k .before .before in
     let g1 = g2 .before .before in
     let e = c .lay-sheet .ensures ∙ ap₂ (laid (g1 .before .args .s .cap)) (k .kept-of .ensures) (c .before .kept-of2 .ensures) in
@@ -34,7 +35,8 @@ returns c = let k = c .before .before in
 
 returns-2 : tie.Need-returns-2
 unfolding sheetWritten sheetLegal
-returns-2 c = let g2 = c .before in
+returns-2 c =
+    let g2 = c .before in
     let g1 = g2 .before .before in
     rw (← g1 .is-legal-gate .ensures, g2 .before .if1 .taken, ← g2 .is-legal-gate2 .ensures, c .if2 .left)
 
