@@ -1,3 +1,2 @@
 pub mod Declaration
 pub mod Sheet
-pub mod Kept

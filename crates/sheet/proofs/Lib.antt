@@ -1,0 +1,3 @@
+pub mod Gates
+pub mod OneForm
+pub mod Settled

@@ -1,0 +1,149 @@
+-- A sheet and its 22 bytes settle each other, so a sheet has one byte form; judging at the bytes is judging.
+-- Assumes nothing.
+use Prim.Native.Nat.{ℕ, _+_, _^_, _<_}
+use mathlib.Core.Path.{_≡_, refl, sym, ap, ap₂, _∙_}
+use mathlib.Core.Bool.{Bool, true, false, cond, _&&_, and-eq-true-iff}
+use mathlib.Core.List.{List, _∷_, _++_}
+use lib.Dec.{T, eqb}
+use lib.Ieee.{Float, binary32, fits, ofBits, toBits}
+use lib.Ieee.Bits.{ofBits-toBits, toBits-ofBits}
+use lib.ListN.{length, getD}
+use borrow.Author.Tests.{eqb-true}
+use Rattle.words.specs.Words.{Bytes, wordAt}
+use Rattle.words.proofs.Laws.{word-be, be-wordAt, wordAt-small}
+use Rattle.words.proofs.Listed.{listed-is}
+use Rattle.lot.specs.declared.Gate.{Gate}
+use Rattle.lot.specs.declared.Gate.the-variants.{Open, AtMost, Between}
+use Rattle.lot.specs.declared.Sheet.{Sheet}
+use Rattle.sheet.specs.declared.Kept.{Kept}
+use Rattle.lot.specs.declared.Declaration.{Declaration}
+use Rattle.lot.specs.Declaration.{declarationAt, bytesOf}
+use Rattle.lot.specs.Sheet.{gateLegal, sheetLegal, plausible, judgedBy}
+use Rattle.sheet.specs.Kept.{keptOf, gateOf, keptForm, keptLegal, laid, sheetBytes, keptAt, sheetAt, sheetLegalAt, isSheet, judged}
+use Rattle.lot.proofs.Declared.{numbers-of-bytes}
+use Rattle.sheet.proofs.Gates.{no-nan, at-most-finite, low-finite, high-finite, sheet-sized}
+
+-- ---- a gate and the form in which it is kept
+
+-- each limit is a value of binary32, as every `f32` is
+abbrev pub GateFits : Gate → Type 0
+GateFits Open = Unit
+GateFits (AtMost high) = T (fits binary32 high)
+GateFits (Between low high) = T (fits binary32 low) × T (fits binary32 high)
+
+gate-of-kept : (g : Gate) → GateFits g → gateOf (keptOf g) ≡ g
+unfolding gateOf
+gate-of-kept Open f = refl
+gate-of-kept (AtMost high) f = ap AtMost (ofBits-toBits binary32 high f)
+gate-of-kept (Between low high) f = ap₂ Between (ofBits-toBits binary32 low (f .0)) (ofBits-toBits binary32 high (f .1))
+
+form-of-kept : (g : Gate) → keptForm (keptOf g) ≡ true
+unfolding keptForm
+form-of-kept Open = refl
+form-of-kept (AtMost high) = refl
+form-of-kept (Between low high) = refl
+
+legal-of-kept : (g : Gate) → GateFits g → keptLegal (keptOf g) ≡ gateLegal g
+unfolding keptLegal
+legal-of-kept g f = rw (form-of-kept g) (ap gateLegal (gate-of-kept g f))
+
+legal-gate : (k : Kept) → keptLegal k ≡ true → gateLegal (gateOf k) ≡ true
+unfolding keptLegal
+legal-gate k h = and-eq-true-iff (keptForm k) (gateLegal (gateOf k)) .0 h .1
+
+module _ (k : Kept) (low : k .low < 2 ^ 32) (high : k .high < 2 ^ 32) (h : keptLegal k ≡ true) where
+  kept-of-gate : keptOf (gateOf k) ≡ k
+  unfolding keptLegal keptForm gateOf
+  kept-of-gate = go (eqb (k .kind) 0) (eqb (k .kind) 1) refl refl
+    where
+      lo : Float
+      lo = ofBits binary32 (k .low)
+
+      hi : Float
+      hi = ofBits binary32 (k .high)
+
+      form : keptForm k ≡ true
+      form = and-eq-true-iff (keptForm k) (gateLegal (gateOf k)) .0 h .0
+
+      go : (b c : Bool) → eqb (k .kind) 0 ≡ b → eqb (k .kind) 1 ≡ c → keptOf (gateOf k) ≡ k
+      go true c e f =
+          let z = and-eq-true-iff (eqb (k .low) 0) (eqb (k .high) 0) .0 (rw e at form) in
+          let kind = eqb-true (k .kind) 0 e in
+          let l = eqb-true (k .low) 0 (z .0) in
+          let u = eqb-true (k .high) 0 (z .1) in
+          rw e (λ i. record { kind = sym kind i; low = sym l i; high = sym u i })
+      go false true e f =
+          let g = rw (e, f) at (legal-gate k h) in
+          let kind = eqb-true (k .kind) 1 f in
+          let l = eqb-true (k .low) 0 (rw (e, f) at form) in
+          let u = toBits-ofBits binary32 (k .high) high (no-nan hi (at-most-finite hi g)) in
+          rw (e, f) (λ i. record { kind = sym kind i; low = sym l i; high = u i })
+      go false false e f =
+          let g = rw (e, f) at (legal-gate k h) in
+          let kind = eqb-true (k .kind) 2 (rw (e, f) at form) in
+          let l = toBits-ofBits binary32 (k .low) low (no-nan lo (low-finite lo hi g)) in
+          let u = toBits-ofBits binary32 (k .high) high (no-nan hi (high-finite lo hi g)) in
+          rw (e, f) (λ i. record { kind = sym kind i; low = l i; high = u i })
+
+-- ---- from a sheet to its bytes and back
+
+moisture-laid : (cap : ℕ) (m c : Kept) → keptAt (laid cap m c) 4 ≡ m
+moisture-laid cap m c = λ i. record { kind = m .kind; low = word-be (m .low) i; high = word-be (m .high) i }
+
+conductivity-laid : (cap : ℕ) (m c : Kept) → keptAt (laid cap m c) 13 ≡ c
+conductivity-laid cap m c = λ i. record { kind = c .kind; low = word-be (c .low) i; high = word-be (c .high) i }
+
+module _ (s : Sheet) (m : GateFits (s .moisture)) (c : GateFits (s .conductivity)) where
+  moisture-kept : keptAt (sheetBytes s) 4 ≡ keptOf (s .moisture)
+  unfolding sheetBytes
+  moisture-kept = moisture-laid (s .cap) (keptOf (s .moisture)) (keptOf (s .conductivity))
+
+  conductivity-kept : keptAt (sheetBytes s) 13 ≡ keptOf (s .conductivity)
+  unfolding sheetBytes
+  conductivity-kept = conductivity-laid (s .cap) (keptOf (s .moisture)) (keptOf (s .conductivity))
+
+  pub sheet-of-bytes : sheetAt (sheetBytes s) 0 ≡ s
+  unfolding sheetAt sheetBytes
+  sheet-of-bytes =
+      let x = ap gateOf moisture-kept ∙ gate-of-kept (s .moisture) m in
+      let y = ap gateOf conductivity-kept ∙ gate-of-kept (s .conductivity) c in
+      λ i. record { cap = word-be (s .cap) i; moisture = x i; conductivity = y i }
+
+  pub legal-bytes : isSheet (sheetBytes s) ≡ sheetLegal s
+  unfolding isSheet sheetLegalAt sheetBytes sheetLegal
+  legal-bytes =
+      let x = ap keptLegal moisture-kept ∙ legal-of-kept (s .moisture) m in
+      let y = ap keptLegal conductivity-kept ∙ legal-of-kept (s .conductivity) c in
+      λ i. x i && y i
+
+  pub judged-bytes : (d : Declaration) → judged (sheetBytes s) (bytesOf d) ≡ judgedBy s d
+  unfolding judged judgedBy
+  judged-bytes d =
+      λ i. cond (legal-bytes i) (cond (plausible (sheet-of-bytes i) (numbers-of-bytes d i)) 0 5) 10
+
+-- ---- from bytes to the sheet and back
+
+module _ (b : List ℕ) (bytes : Bytes b) (h : isSheet b ≡ true) where
+  both : (keptLegal (keptAt b 4) ≡ true) × (keptLegal (keptAt b 13) ≡ true)
+  unfolding isSheet sheetLegalAt
+  both =
+      and-eq-true-iff (keptLegal (keptAt b 4)) (keptLegal (keptAt b 13)) .0
+      (and-eq-true-iff (eqb (length b) 22) (sheetLegalAt b 0) .0 h .1)
+
+  pub bytes-legal : sheetLegal (sheetAt b 0) ≡ true
+  unfolding sheetLegal sheetAt
+  bytes-legal = rw (legal-gate (keptAt b 4) (both .0), legal-gate (keptAt b 13) (both .1))
+
+  pub bytes-of-sheet : sheetBytes (sheetAt b 0) ≡ b
+  unfolding sheetBytes sheetAt
+  bytes-of-sheet =
+      let small = wordAt-small b bytes in
+      let w = be-wordAt b bytes in
+      let m = kept-of-gate (keptAt b 4) (small 5) (small 9) (both .0) in
+      let c = kept-of-gate (keptAt b 13) (small 14) (small 18) (both .1) in
+      ap₂ (laid (wordAt b 0)) m c
+      ∙ sym (listed-is b 22 (sheet-sized b h) ∙ (λ i. w 0 i ++ (getD b 4 0 ∷ w 5 i ++ (w 9 i ++ (getD b 13 0 ∷ w 14 i ++ w 18 i)))))
+
+-- one byte form per meaning
+pub one-form : (b c : List ℕ) → Bytes b → Bytes c → isSheet b ≡ true → isSheet c ≡ true → sheetAt b 0 ≡ sheetAt c 0 → b ≡ c
+one-form b c x y h k e = sym (bytes-of-sheet b x h) ∙ ap sheetBytes e ∙ bytes-of-sheet c y k
