@@ -27,7 +27,9 @@ returns c =
     let q3 = q4 .before in
     let q2 = q3 .before in
     let q1 = q2 .before in
-    λ i. five (q1 .quad-of .ensures i) (q2 .quad-of2 .ensures i) (q3 .quad-of3 .ensures i) (q4 .quad-of4 .ensures i) (c .quad-of5 .ensures i)
+    λ i.
+    five (q1 .quad-of .ensures i) (q2 .quad-of2 .ensures i) (q3 .quad-of3 .ensures i)
+    (q4 .quad-of4 .ensures i) (c .quad-of5 .ensures i)
 
 pub bytes-of-spec : {M : Type 1} → statement M
 bytes-of-spec =

@@ -1,0 +1,4 @@
+pub mod Form
+pub mod RoundTrip
+pub mod Told
+pub mod Settled

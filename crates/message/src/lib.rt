@@ -1,0 +1,147 @@
+// One message, 36 bytes: the reader and the writer.
+ghost use mathlib.Core.Path.{_≡_};
+ghost use Prim.Native.Nat.{_+_, _<_};
+ghost use lib.ListN.{length};
+ghost use Rattle.message.specs.Message.{isKind, fieldAt, tagged, wellFormed, readOf, told, writtenOf};
+use lot::Declaration;
+
+// What reading finds: the message's numbers, or bytes that are no message.
+pub enum Reading {
+    Message {
+        kind: u8,
+        season: u32,
+        sender: u8,
+        number: u8,
+        lot: u32,
+        colonies: u32,
+        kilograms: u32,
+        moisture: u32,
+        conductivity: u32,
+    },
+    Malformed,
+}
+
+// What writing gives: answer 0 and the message, or answer 2 and zeros.
+pub struct Written {
+    pub answer: u8,
+    pub message: [u8; 36],
+}
+
+// 1 SEND, 2 ECHO, 3 READY.
+fn is_kind(kind: u8) -> bool
+    ensures { λ r. ⌜ r ≡ isKind kind ⌝ }
+{
+    1 <= kind && kind <= 3
+}
+
+// At i stand a tag and a two-byte length.
+fn is_field(s: &[u8], i: usize, tag: u8, len: u32) -> bool
+    requires { ⌜ i + 2 < length (now s) ⌝ }
+    ensures { λ r. ⌜ r ≡ fieldAt (now (s .entry)) i tag len ⌝ }
+{
+    if s[i] == tag {
+        return words::wide(s[i + 1]) * 256 + words::wide(s[i + 2]) == len;
+    }
+    false
+}
+
+// The three tags and lengths, in this order.
+fn is_tagged(s: &[u8]) -> bool
+    requires { ⌜ length (now s) ≡ 36 ⌝ }
+    ensures { λ r. ⌜ r ≡ tagged (now (s .entry)) ⌝ }
+{
+    if is_field(s, 0, 1, 1) {
+        if is_field(s, 4, 2, 6) {
+            return is_field(s, 13, 3, 20);
+        }
+    }
+    false
+}
+
+// Exactly these fields, in this order.
+fn is_well_formed(s: &[u8]) -> bool
+    ensures { λ r. ⌜ r ≡ wellFormed (now (s .entry)) ⌝ }
+{
+    if s.len() == 36 {
+        if is_tagged(s) {
+            return is_kind(s[3]);
+        }
+    }
+    false
+}
+
+pub fn read_message(s: &[u8]) -> Reading
+    ensures { λ r. ⌜ told r ≡ readOf (now (s .entry)) ⌝ }
+{
+    if is_well_formed(s) {
+        let d = lot::declaration_at(s, 16);
+        return Reading::Message {
+            kind: s[3],
+            season: words::word_at(s, 7),
+            sender: s[11],
+            number: s[12],
+            lot: d.lot,
+            colonies: d.colonies,
+            kilograms: d.kilograms,
+            moisture: d.moisture,
+            conductivity: d.conductivity,
+        };
+    }
+    Reading::Malformed
+}
+
+pub fn write_message(kind: u8, season: u32, sender: u8, number: u8, d: Declaration) -> Written
+    ensures { λ r. ⌜ r ≡ writtenOf kind season sender number d ⌝ }
+{
+    if is_kind(kind) {
+        let s = words::quad_of(season);
+        let l = words::quad_of(d.lot);
+        let c = words::quad_of(d.colonies);
+        let k = words::quad_of(d.kilograms);
+        let m = words::quad_of(d.moisture);
+        let e = words::quad_of(d.conductivity);
+        let message = [
+            1,
+            0,
+            1,
+            kind,
+            2,
+            0,
+            6,
+            s.a,
+            s.b,
+            s.c,
+            s.d,
+            sender,
+            number,
+            3,
+            0,
+            20,
+            l.a,
+            l.b,
+            l.c,
+            l.d,
+            c.a,
+            c.b,
+            c.c,
+            c.d,
+            k.a,
+            k.b,
+            k.c,
+            k.d,
+            m.a,
+            m.b,
+            m.c,
+            m.d,
+            e.a,
+            e.b,
+            e.c,
+            e.d,
+        ];
+        return Written { answer: 0, message };
+    }
+    Written {
+        answer: 2,
+        message: [0; 36],
+    }
+}
