@@ -1,0 +1,71 @@
+-- Counting the copies in the mail that pass a test.
+-- Assumes nothing.
+use mathlib.Core.Path.{_≡_, refl, sym, ap, _∙_}
+use mathlib.Core.Bool.{Bool, true, false, not, _&&_}
+use mathlib.Core.Option.{Option, none, some}
+use mathlib.Core.List.{List, [], _∷_, _++_}
+use Prim.Native.Nat.{ℕ, zero, suc, _+_, _≤_, _<_}
+use native.Mathlib.Omega.{arith}
+use lib.Dec.{T}
+use Rattle.card.specs.Count.{bit, count}
+use Rattle.card.proofs.Counting.{count-mono, count-pos}
+use Rattle.protocol.specs.Entry.{Decl, Kind, SEND, ECHO, READY, isKind}
+use Rattle.protocol.specs.Run.{Copy, at, used, use-at, copyTo, toAll, tally}
+
+bit-one : (a : Bool) → T a → bit a ≡ 1
+bit-one true t = refl
+bit-one false t = absurd t
+
+pub bit-split : (a b : Bool) → bit (a && b) + bit (a && not b) ≡ bit a
+bit-split true true = refl
+bit-split true false = refl
+bit-split false b = refl
+
+pub tally-mono : (P Q : Copy → Bool) (l : List Copy) → ((m : Copy) → T (P m) → T (Q m)) → tally P l ≤ tally Q l
+tally-mono P Q [] f = omega arith
+tally-mono P Q (m ∷ l) f = omega (arith, count-mono (λ i. P m) (λ i. Q m) 1 (λ i h. f m), tally-mono P Q l f)
+
+pub tally-same : (P Q : Copy → Bool) (l : List Copy) → ((m : Copy) → P m ≡ Q m) → tally P l ≡ tally Q l
+tally-same P Q [] f = refl
+tally-same P Q (m ∷ l) f = omega (arith, ap bit (f m), tally-same P Q l f)
+
+pub tally-append : (P : Copy → Bool) (l k : List Copy) → tally P (l ++ k) ≡ tally P l + tally P k
+tally-append P [] k = omega arith
+tally-append P (m ∷ l) k = omega (arith, tally-append P l k)
+
+-- of those that pass P, some pass Q too and the others do not
+pub tally-split : (P Q : Copy → Bool) (l : List Copy) → tally (λ m. P m && Q m) l + tally (λ m. P m && not (Q m)) l ≡ tally P l
+tally-split P Q [] = refl
+tally-split P Q (m ∷ l) = omega (arith, bit-split (P m) (Q m), tally-split P Q l)
+
+pub tally-at : (P : Copy → Bool) (l : List Copy) (i : ℕ) (m : Copy) → at l i ≡ some m → T (P m) → 0 < tally P l
+tally-at P [] i m e t = absurd (let z : _≡_ {A = ℕ} 0 1 = cc in omega arith)
+tally-at P (x ∷ l) zero m e t = let z : x ≡ m = cc in omega (arith, bit-one (P x) (rw z t))
+tally-at P (x ∷ l) (suc i) m e t = omega (arith, tally-at P l i m e t)
+
+-- one copy is consumed
+pub tally-use : (P : Copy → Bool) (l : List Copy) (i : ℕ) (m : Copy) → at l i ≡ some m
+    → tally P (use-at l i) + bit (P m) ≡ tally P l + bit (P (used m))
+tally-use P [] i m e = absurd (let z : _≡_ {A = ℕ} 0 1 = cc in omega arith)
+tally-use P (x ∷ l) zero m e = let z : x ≡ m = cc in rw z (omega arith)
+tally-use P (x ∷ l) (suc i) m e = omega (arith, tally-use P l i m e)
+
+-- n copies, one to each house
+pub tally-toAll : (P : Copy → Bool) (j c r : ℕ) (k : Kind) (v : Decl) (n : ℕ) → tally P (toAll j c r k v n) ≡ count (λ q. P (copyTo j c r k v q)) n
+tally-toAll P j c r k v zero = refl
+tally-toAll P j c r k v (suc n) =
+    omega (arith, tally-append P (toAll j c r k v n) (copyTo j c r k v n ∷ []), tally-toAll P j c r k v n)
+
+-- each copy is of one kind
+pub tally-kinds : (A P : Copy → Bool) (l : List Copy)
+    → tally (λ m. A m && P m) l
+        ≡ tally (λ m. A m && (isKind SEND (m .kind) && P m)) l + tally (λ m. A m && (isKind ECHO (m .kind) && P m)) l
+            + tally (λ m. A m && (isKind READY (m .kind) && P m)) l
+tally-kinds A P [] = refl
+tally-kinds A P (m ∷ l) = omega (arith, go (A m) (P m) (m .kind), tally-kinds A P l)
+  where
+    go : (a p : Bool) (k : Kind) → bit (a && p) ≡ bit (a && (isKind SEND k && p)) + bit (a && (isKind ECHO k && p)) + bit (a && (isKind READY k && p))
+    go true p SEND = omega arith
+    go true p ECHO = omega arith
+    go true p READY = omega arith
+    go false p k = refl
