@@ -10,16 +10,17 @@ use lib.Dec.{T}
 use Rattle.card.specs.Count.{bit, count}
 use Rattle.card.proofs.Counting.{count-mono, count-pos}
 use Rattle.protocol.specs.Entry.{Decl, Kind, SEND, ECHO, READY, isKind}
-use Rattle.protocol.specs.Run.{Copy, at, used, use-at, copyTo, toAll, tally}
+use Rattle.protocol.specs.Run.{Copy, at, used, use-at, copyTo, toAll, tally, onIt, copiesOf}
 
 bit-one : (a : Bool) → T a → bit a ≡ 1
 bit-one true t = refl
 bit-one false t = absurd t
 
-pub bit-split : (a b : Bool) → bit (a && b) + bit (a && not b) ≡ bit a
-bit-split true true = refl
-bit-split true false = refl
-bit-split false b = refl
+bit-split : (a b c : Bool) → bit (a && (b && c)) + bit (a && (b && not c)) ≡ bit (a && b)
+bit-split true true true = refl
+bit-split true true false = refl
+bit-split true false c = refl
+bit-split false b c = refl
 
 pub tally-mono : (P Q : Copy → Bool) (l : List Copy) → ((m : Copy) → T (P m) → T (Q m)) → tally P l ≤ tally Q l
 tally-mono P Q [] f = omega arith
@@ -33,10 +34,11 @@ pub tally-append : (P : Copy → Bool) (l k : List Copy) → tally P (l ++ k) �
 tally-append P [] k = omega arith
 tally-append P (m ∷ l) k = omega (arith, tally-append P l k)
 
--- of those that pass P, some pass Q too and the others do not
-pub tally-split : (P Q : Copy → Bool) (l : List Copy) → tally (λ m. P m && Q m) l + tally (λ m. P m && not (Q m)) l ≡ tally P l
-tally-split P Q [] = refl
-tally-split P Q (m ∷ l) = omega (arith, bit-split (P m) (Q m), tally-split P Q l)
+-- of an entry's copies that pass P, some pass Q too and the others do not
+pub copies-split : (j c : ℕ) (P Q : Copy → Bool) (l : List Copy)
+    → copiesOf j c (λ m. P m && Q m) l + copiesOf j c (λ m. P m && not (Q m)) l ≡ copiesOf j c P l
+copies-split j c P Q [] = refl
+copies-split j c P Q (m ∷ l) = omega (arith, bit-split (onIt j c m) (P m) (Q m), copies-split j c P Q l)
 
 pub tally-at : (P : Copy → Bool) (l : List Copy) (i : ℕ) (m : Copy) → at l i ≡ some m → T (P m) → 0 < tally P l
 tally-at P [] i m e t = absurd (let z : _≡_ {A = ℕ} 0 1 = cc in omega arith)
@@ -57,12 +59,12 @@ tally-toAll P j c r k v (suc n) =
     omega (arith, tally-append P (toAll j c r k v n) (copyTo j c r k v n ∷ []), tally-toAll P j c r k v n)
 
 -- each copy is of one kind
-pub tally-kinds : (A P : Copy → Bool) (l : List Copy)
-    → tally (λ m. A m && P m) l
-        ≡ tally (λ m. A m && (isKind SEND (m .kind) && P m)) l + tally (λ m. A m && (isKind ECHO (m .kind) && P m)) l
-            + tally (λ m. A m && (isKind READY (m .kind) && P m)) l
-tally-kinds A P [] = refl
-tally-kinds A P (m ∷ l) = omega (arith, go (A m) (P m) (m .kind), tally-kinds A P l)
+pub copies-kinds : (j c : ℕ) (P : Copy → Bool) (l : List Copy)
+    → copiesOf j c P l
+        ≡ copiesOf j c (λ m. isKind SEND (m .kind) && P m) l + copiesOf j c (λ m. isKind ECHO (m .kind) && P m) l
+            + copiesOf j c (λ m. isKind READY (m .kind) && P m) l
+copies-kinds j c P [] = refl
+copies-kinds j c P (m ∷ l) = omega (arith, go (onIt j c m) (P m) (m .kind), copies-kinds j c P l)
   where
     go : (a p : Bool) (k : Kind) → bit (a && p) ≡ bit (a && (isKind SEND k && p)) + bit (a && (isKind ECHO k && p)) + bit (a && (isKind READY k && p))
     go true p SEND = omega arith

@@ -146,25 +146,29 @@ tally P (m ∷ l) = bit (P m) + tally P l
 
 -- a copy on the entry of sender j and number c
 abbrev pub onIt : ℕ → ℕ → Copy → Bool
-onIt j c m = is j c (m .sender) (m .number)
+onIt j c m = is (m .sender) (m .number) j c
+
+-- how many copies of the entry pass a test
+abbrev pub copiesOf : ℕ → ℕ → (Copy → Bool) → List Copy → ℕ
+copiesOf j c P l = tally (λ m. onIt j c m && P m) l
 
 module _ (B : Wall) (j c : ℕ) where
   -- between honest houses, a house's copy to itself included
   abbrev pub isBetween : Copy → Bool
-  isBetween m = onIt j c m && (right B (m .from) && right B (m .to))
+  isBetween m = right B (m .from) && right B (m .to)
 
   abbrev pub copies : State → ℕ
-  copies s = tally (onIt j c) (s .mail)
+  copies s = copiesOf j c (λ m. true) (s .mail)
 
   abbrev pub readies : State → ℕ
-  readies s = tally (λ m. onIt j c m && isKind READY (m .kind)) (s .mail)
+  readies s = copiesOf j c (λ m. isKind READY (m .kind)) (s .mail)
 
   abbrev pub between : State → ℕ
-  between s = tally isBetween (s .mail)
+  between s = copiesOf j c isBetween (s .mail)
 
   abbrev pub consumed-between : State → ℕ
-  consumed-between s = tally (λ m. isBetween m && m .consumed) (s .mail)
+  consumed-between s = copiesOf j c (λ m. isBetween m && m .consumed) (s .mail)
 
   -- every copy of this entry between honest houses is consumed; other entries may be in flight
   abbrev pub Drained : State → Type 0
-  Drained s = tally (λ m. isBetween m && not (m .consumed)) (s .mail) ≡ 0
+  Drained s = copiesOf j c (λ m. isBetween m && not (m .consumed)) (s .mail) ≡ 0
