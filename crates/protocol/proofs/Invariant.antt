@@ -111,11 +111,15 @@ module _ (B : Wall) (j c : ℕ) where
         (A .done .moves .new k v e))
         (λ p. I .owner p k v) p
 
+    -- what the call leaves as heard from an honest house, that house gave before
+    pub act-heard : (k : Kind) (p : ℕ) (v : Decl) → heard k p (o .entry) ≡ some v → T (may j k p) → T (right B p) → own k (s .house p) ≡ some v
+    act-heard k p v h m g = ⊎-elim (λ x. I .given r k p v x m g) (λ x. A .honest k p v x g) (A .done .hears k p v h m)
+
     act-given : (q : ℕ) (k : Kind) (p : ℕ) (v : Decl) → heard k p (H′ q) ≡ some v → T (may j k p) → T (right B p) → own k (H′ p) ≡ some v
     unfolding H′
     act-given q k p v =
         upd-all (λ q x. heard k p x ≡ some v → T (may j k p) → T (right B p) → own k (H′ p) ≡ some v) (s .house) r (o .entry)
-        (λ h m g. own-stays p k v (⊎-elim (λ x. I .given r k p v x m g) (λ x. A .honest k p v x g) (A .done .hears k p v h m)))
+        (λ h m g. own-stays p k v (act-heard k p v h m g))
         (λ q h m g. own-stays p k v (I .given q k p v h m g)) q
 
     act-truthful : copiesOf j c (λ m. not (true-to H′ m)) (mail ++ posted j c r (o .message) (B .rules .n)) ≡ 0

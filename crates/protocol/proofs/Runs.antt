@@ -11,13 +11,13 @@ use native.Mathlib.Omega.{arith}
 use lib.Dec.{T, T-not, eqb, ltb, eqb→eq, eqb-refl}
 use Rattle.card.specs.Count.{bit, count}
 use Rattle.card.proofs.Counting.{count-none, count-one}
-use Rattle.protocol.specs.Entry.{Decl, Kind, Entry, Rules, fresh, heard, own, isKind, isSome, holds, upd}
+use Rattle.protocol.specs.Entry.{Decl, Kind, SEND, ECHO, READY, Entry, Rules, fresh, heard, own, isKind, isSome, holds, upd}
 use Rattle.protocol.specs.Steps.{Say, say, Out, refused, may, receive}
 use Rattle.protocol.specs.Book.{Each, is, place, Call, publishing, receiving, inBook, senderOf, numberOf, onEntry, outcome, after, publication}
 use Rattle.protocol.specs.Run.{Wall, Copy, Given, State, Step, publish, consume, wrong, right, start, at, used, use-at, posted, push, opens}
 use Rattle.protocol.specs.Run.{called, consumes, step, run, tally, onIt, copiesOf}
 use Rattle.protocol.proofs.Basics.{bcase, T-of, T-not-of, true-of, false-of, not-of, and-l, and-r, and-mk, and-false, both, isKind-eq, isKind-refl}
-use Rattle.protocol.proofs.Basics.{some-of, isSome-of, holds-eq, none-some, upd-all, upd-same}
+use Rattle.protocol.proofs.Basics.{some-of, isSome-of, holds-eq, none-some, upd-all, upd-same, Heeded}
 use Rattle.protocol.proofs.Moves.{Local, Moves, filled-heard, listOf}
 use Rattle.protocol.proofs.Calls.{Brings, Done, outcome-done, outcome-booked, receive-taken}
 use Rattle.protocol.proofs.Mail.{tally-append, tally-toAll, tally-at, tally-use, copies-split}
@@ -141,3 +141,115 @@ module _ (B : Wall) (s : State) (i : ℕ) (m : Copy) (e : at (s .mail) i ≡ som
                 (λ t. heard-same (B .rules) (m .sender) (m .to) (opens m) (H (m .to)) o (outcome-done (B .rules) (B .numbers) (m .to) (opens m) (s .gave .books (m .to))) k p x
                 (λ w b. T-not-of t (rw (b .0, b .1) way-refl)))
                 (λ q t. refl) q t)))
+
+-- a fact Ψ of one entry of every book that each call keeps is kept by every step, beside the invariant
+module _ (B : Wall) (j c : ℕ) (Ψ : (ℕ → Entry) → Type 0)
+    (keep : (s : View) → Inv B j c s → Ψ (s .house) → (r : ℕ) (a : Call) (o : Out) (mail : List Copy) → Act B j c s r a o mail → Ψ (upd (s .house) r (o .entry))) where
+  abbrev Kept : View → Type 0
+  Kept u = Inv B j c u × Ψ (u .house)
+
+  abbrev Holds : State → Type 0
+  Holds s = Kept (view j c s)
+
+  call-holds : (r : ℕ) (a : Call) (s : State) (mail : List Copy)
+      → (senderOf r a ≡ j → numberOf a ≡ c → Inv B j c (view j c s) → Act B j c (view j c s) r a (out B j c r a s mail) mail)
+      → (is (senderOf r a) (numberOf a) j c ≡ false → (P : Copy → Bool) → copiesOf j c P mail ≡ copiesOf j c P (s .mail))
+      → Holds s → Holds (called B r a (s .gave) mail)
+  call-holds r a s mail f f₂ H =
+      bcase (is (senderOf r a) (numberOf a) j c)
+      (λ t. let e = sym (eqb→eq j (senderOf r a) (and-l (eqb j (senderOf r a)) _ (T-of t))) in
+      let e₂ = sym (eqb→eq c (numberOf a) (and-r (eqb j (senderOf r a)) _ (T-of t))) in
+      let A = f e e₂ (H .0) in
+      subst Kept (sym (view-here B j c r a s mail e e₂))
+      (act-inv B j c (view j c s) (H .0) r a (out B j c r a s mail) mail A, keep (view j c s) (H .0) (H .1) r a (out B j c r a s mail) mail A))
+      (λ t. subst Kept (sym (view-elsewhere B j c r a s mail t))
+      (else-inv B j c (view j c s) _ (λ P. others t P) (H .0), H .1))
+    where
+      others : is (senderOf r a) (numberOf a) j c ≡ false → (P : Copy → Bool)
+          → copiesOf j c P (mail ++ posted (senderOf r a) (numberOf a) r (out B j c r a s mail .message) (B .rules .n)) ≡ copiesOf j c P (s .mail)
+      others t P =
+          omega (
+            arith,
+            tally-append (λ m. onIt j c m && P m) mail (posted (senderOf r a) (numberOf a) r (out B j c r a s mail .message) (B .rules .n)),
+            posted-elsewhere B j c (senderOf r a) (numberOf a) r (out B j c r a s mail .message) (B .rules .n) P t,
+            f₂ t P,
+          )
+
+  step-holds : (a : Step) (s : State) → Holds s → Holds (step B a s)
+  unfolding step consumes
+  step-holds (publish r c₂ v) s H = go (right B r) refl
+    where
+      go : (b : Bool) → right B r ≡ b → Holds (cond b (called B r (publishing c₂ v) (s .gave) (s .mail)) s)
+      go true t =
+          call-holds r (publishing c₂ v) s (s .mail)
+          (λ e e₂ I. plain-act B j c s I r (publishing c₂ v) e e₂ (T-of t) (λ k p w b g. b)) (λ t P. refl) H
+      go false t = H
+  step-holds (consume i) s H = go (at (s .mail) i) refl
+    where
+      go₂ : (m : Copy) → at (s .mail) i ≡ some m → (b : Bool) → (right B (m .to) && not (m .consumed)) ≡ b
+          → Holds (cond b (called B (m .to) (opens m) (s .gave) (use-at (s .mail) i)) s)
+      go₂ m e true t =
+          call-holds (m .to) (opens m) s (use-at (s .mail) i)
+          (λ x x₂. subst (λ (y : ℕ). Inv B y c (view y c s) → Act B y c (view y c s) (m .to) (opens m) (out B y c (m .to) (opens m) s (use-at (s .mail) i)) (use-at (s .mail) i)) x
+          (subst (λ (y : ℕ). Inv B (m .sender) y (view (m .sender) y s) → Act B (m .sender) y (view (m .sender) y s) (m .to) (opens m) (out B (m .sender) y (m .to) (opens m) s (use-at (s .mail) i)) (use-at (s .mail) i)) x₂
+          (consume-act B s i m e (and-l (right B (m .to)) _ (T-of t)) (false-of (m .consumed) (and-r (right B (m .to)) _ (T-of t))))))
+          (λ x P. omega (arith, tally-use (λ m. onIt j c m && P m) (s .mail) i m e, ap bit (no-copy m (P m) x), ap bit (no-copy m (P (used m)) x)))
+          H
+        where
+          no-copy : (m : Copy) (b : Bool) → onIt j c m ≡ false → (onIt j c m && b) ≡ false
+          no-copy m b x = rw x
+      go₂ m e false t = H
+
+      go : (x : Option Copy) → at (s .mail) i ≡ x → Holds (consumes B i x s)
+      go none e = H
+      go (some m) e = go₂ m e (right B (m .to) && not (m .consumed)) refl
+  step-holds (wrong p r k j₂ c₂ v) s H = go (right B r && not (right B p)) refl
+    where
+      go : (b : Bool) → (right B r && not (right B p)) ≡ b → Holds (cond b (called B r (receiving p k j₂ c₂ v) (s .gave) (s .mail)) s)
+      go true t =
+          call-holds r (receiving p k j₂ c₂ v) s (s .mail)
+          (λ e e₂ I. plain-act B j c s I r (receiving p k j₂ c₂ v) e e₂ (and-l (right B r) _ (T-of t))
+          (λ l q w b g. T-not (right B p) (and-r (right B r) _ (T-of t)) (rw (b .1) at g)))
+          (λ t P. refl) H
+      go false t = H
+
+  run-holds : (l : List Step) (s : State) → Holds s → Holds (run B l s)
+  unfolding run
+  run-holds [] s H = H
+  run-holds (a ∷ l) s H = run-holds l (step B a s) (step-holds a s H)
+
+  pub holds-from-start : Ψ (λ r. fresh) → (l : List Step) → Holds (run B l start)
+  holds-from-start z l = run-holds l start (start-inv, z)
+    where
+      fresh-own : (k : Kind) → own k fresh ≡ none
+      fresh-own SEND = refl
+      fresh-own ECHO = refl
+      fresh-own READY = refl
+
+      fresh-heard : (k : Kind) (p : ℕ) → heard k p fresh ≡ none
+      fresh-heard SEND p = refl
+      fresh-heard ECHO p = refl
+      fresh-heard READY p = refl
+
+      unheeded : (m : ℕ) (o : Option Decl) → Heeded m (B .rules .n) (λ p. none) o
+      unheeded m o v a b = absurd (omega (arith, count-none (λ p. false) (B .rules .n) (λ i l. refl)))
+
+      start-inv : Inv B j c (view j c start)
+      start-inv =
+          record {
+            local = λ r. record {
+              echoes-heeded = unheeded (B .rules .quorum) none;
+              readies-heeded = unheeded (B .rules .amplify) none;
+              delivery-heeded = unheeded (B .rules .deliver) none;
+              ready-backed = λ v e. absurd (none-some none v refl e);
+              delivery-backed = λ v e. absurd (none-some none v refl e);
+              delivery-ok = λ v e. absurd (none-some none v refl e);
+            };
+            owner = λ p k v e. absurd (none-some (own k fresh) v (fresh-own k) e);
+            given = λ r k p v e m g. absurd (none-some (heard k p fresh) v (fresh-heard k p) e);
+            truthful = refl;
+            sent = λ k F Q. rw (count-none (λ p. F p && isSome (own k fresh)) (B .rules .n) (λ i l. and-false (F i) _ (ap isSome (fresh-own k)))) (omega arith);
+            consumed = λ k p r g g₂ m. ap (λ o. bit (isSome o)) (sym (fresh-heard k p));
+            delivered = λ r. refl;
+            published = λ r. refl;
+          }
