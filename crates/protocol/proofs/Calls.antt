@@ -83,7 +83,7 @@ module _ (R : Rules) (j : ℕ) where
   unfolding receive
   receive-taken p k v e a b m h =
       let zero-is : must (ltb p (R .n)) 4 (must (R .ok v) 5 (must (may j k p) 6 (recording (heard k p e) v))) ≡ 0 =
-          must-pass (ltb p (R .n)) 4 _ a ∙ must-pass (R .ok v) 5 _ b ∙ must-pass (may j k p) 6 _ m ∙ ap (λ o. recording o v) h ∙ recording-none v
+      must-pass (ltb p (R .n)) 4 _ a ∙ must-pass (R .ok v) 5 _ b ∙ must-pass (may j k p) 6 _ m ∙ ap (λ o. recording o v) h ∙ recording-none v
       in
       rw zero-is (takes-heard k p v e)
 

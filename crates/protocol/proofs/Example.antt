@@ -1,25 +1,27 @@
 -- The run of four houses, computed: the premises of the claims can be met.
 -- Assumes nothing.
 use mathlib.Core.Path.{_≡_, refl}
-use mathlib.Core.List.{List, [], _∷_}
 use Prim.Native.Nat.{ℕ}
 use lib.Dec.{lit<, lit≤}
 use Rattle.card.specs.Card.{quorum, amplify, deliver}
 use Rattle.protocol.specs.Entry.{same}
 use Rattle.protocol.specs.Steps.{publishes, takesSend, takesEcho, takesReady, recording, receive, publish}
 use Rattle.protocol.specs.Book.{outcome, after}
-use Rattle.protocol.specs.Run.{State, start, called, consumes, step, run, copies, Drained}
-use Rattle.protocol.specs.Thresholds.{rulesOf}
-use Rattle.protocol.specs.Example.{wall, lot, consumeAll, steps}
+use Rattle.protocol.specs.Run.{called, consumes, step, run}
+use Rattle.protocol.specs.Thresholds.{rulesOf, wallOf}
+use Rattle.protocol.specs.Example.{wall, lot, consumeAll, steps, end, Met}
+use Rattle.protocol.proofs.Season.{season, carded}
 
-test : copies wall 0 0 (run wall steps start) ≡ 28
-unfolding wall consumeAll steps run step consumes called after outcome publish receive recording publishes takesSend takesEcho takesReady same rulesOf quorum amplify deliver
-test = refl
-
-test2 : Drained wall 0 0 (run wall steps start)
-unfolding wall consumeAll steps run step consumes called after outcome publish receive recording publishes takesSend takesEcho takesReady same rulesOf quorum amplify deliver
-test2 = refl
-
-test3 : (run wall steps start) .gave .deliveries 1 0 0 ≡ lot ∷ []
-unfolding wall consumeAll steps run step consumes called after outcome publish receive recording publishes takesSend takesEcho takesReady same rulesOf quorum amplify deliver
-test3 = refl
+pub example : Met
+unfolding wallOf rulesOf quorum amplify deliver wall consumeAll steps end run step consumes called
+    after outcome publish receive recording publishes takesSend takesEcho takesReady same
+example =
+    record {
+      few = lit≤ tt;
+      published = refl;
+      drained = refl;
+      cost = refl;
+      cost-between = refl;
+      delivered = λ r g. season wall 1 steps 0 0 .complete (carded 4 1 1 _ _ (lit< tt) (lit≤ tt)) refl .equal tt r g;
+      lied = (refl, refl, refl);
+    }

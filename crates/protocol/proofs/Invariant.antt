@@ -152,7 +152,7 @@ module _ (B : Wall) (j c : ℕ) where
 
     act-sent : (k : Kind) (F Q : ℕ → Bool)
         → copiesOf j c (way k F Q) (mail ++ posted j c r (o .message) (B .rules .n))
-            ≡ count Q (B .rules .n) * count (λ p. F p && isSome (own k (H′ p))) (B .rules .n)
+        ≡ count Q (B .rules .n) * count (λ p. F p && isSome (own k (H′ p))) (B .rules .n)
     unfolding H′
     act-sent k F Q =
         omega (

@@ -61,8 +61,8 @@ tally-toAll P j c r k v (suc n) =
 -- each copy is of one kind
 pub copies-kinds : (j c : ℕ) (P : Copy → Bool) (l : List Copy)
     → copiesOf j c P l
-        ≡ copiesOf j c (λ m. isKind SEND (m .kind) && P m) l + copiesOf j c (λ m. isKind ECHO (m .kind) && P m) l
-            + copiesOf j c (λ m. isKind READY (m .kind) && P m) l
+    ≡ copiesOf j c (λ m. isKind SEND (m .kind) && P m) l + copiesOf j c (λ m. isKind ECHO (m .kind) && P m) l
+    + copiesOf j c (λ m. isKind READY (m .kind) && P m) l
 copies-kinds j c P [] = refl
 copies-kinds j c P (m ∷ l) = omega (arith, go (onIt j c m) (P m) (m .kind), copies-kinds j c P l)
   where

@@ -116,7 +116,7 @@ module _ (B : Wall) (s : State) (i : ℕ) (m : Copy) (e : at (s .mail) i ≡ som
 
         marks′ : (k : Kind) (p q : ℕ) → T (right B p) → T (right B q) → T (may (m .sender) k p)
             → copiesOf (m .sender) (m .number) (λ m₂. way k (eqb p) (eqb q) m₂ && m₂ .consumed) (use-at (s .mail) i)
-                ≡ bit (isSome (heard k p (upd H (m .to) (o .entry) q)))
+            ≡ bit (isSome (heard k p (upd H (m .to) (o .entry) q)))
         marks′ k p q g₁ g₂ x =
             omega (
               arith,
@@ -128,7 +128,7 @@ module _ (B : Wall) (s : State) (i : ℕ) (m : Copy) (e : at (s .mail) i ≡ som
           where
             go : (b : Bool) → way k (eqb p) (eqb q) m ≡ b
                 → bit (isSome (heard k p (H q))) + bit (onIt (m .sender) (m .number) m && (way k (eqb p) (eqb q) m && true))
-                    ≡ bit (isSome (heard k p (upd H (m .to) (o .entry) q)))
+                ≡ bit (isSome (heard k p (upd H (m .to) (o .entry) q)))
             go true t =
                 let z : k ≡ m .kind = isKind-eq k (m .kind) (and-l (isKind k (m .kind)) _ (T-of t)) in
                 let y : T (eqb p (m .from) && eqb q (m .to)) = and-r (isKind k (m .kind)) _ (T-of t) in
@@ -137,10 +137,13 @@ module _ (B : Wall) (s : State) (i : ℕ) (m : Copy) (e : at (s .mail) i ≡ som
                 rw (t, true-of (onIt (m .sender) (m .number) m) (is-refl (m .sender) (m .number)), z, z₂, z₃, upd-same H (m .to) (o .entry), unheard, taken .1)
             go false t =
                 rw (t, and-false (onIt (m .sender) (m .number) m) false refl)
-                (omega (arith, ap bit (upd-all (λ q x. way k (eqb p) (eqb q) m ≡ false → isSome (heard k p (H q)) ≡ isSome (heard k p x)) H (m .to) (o .entry)
-                (λ t. heard-same (B .rules) (m .sender) (m .to) (opens m) (H (m .to)) o (outcome-done (B .rules) (B .numbers) (m .to) (opens m) (s .gave .books (m .to))) k p x
-                (λ w b. T-not-of t (rw (b .0, b .1) way-refl)))
-                (λ q t. refl) q t)))
+                (omega (
+                  arith,
+                  ap bit (upd-all (λ q x. way k (eqb p) (eqb q) m ≡ false → isSome (heard k p (H q)) ≡ isSome (heard k p x)) H (m .to) (o .entry)
+                      (λ t. heard-same (B .rules) (m .sender) (m .to) (opens m) (H (m .to)) o (outcome-done (B .rules) (B .numbers) (m .to) (opens m) (s .gave .books (m .to))) k p x
+                      (λ w b. T-not-of t (rw (b .0, b .1) way-refl)))
+                      (λ q t. refl) q t),
+                ))
 
 -- a fact Ψ of one entry of every book that each call keeps is kept by every step, beside the invariant
 module _ (B : Wall) (j c : ℕ) (Ψ : (ℕ → Entry) → Type 0)

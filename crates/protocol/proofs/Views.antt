@@ -72,7 +72,7 @@ module _ (B : Wall) (j c : ℕ) where
 
     pub view-elsewhere : is (senderOf r a) (numberOf a) j c ≡ false
         → view j c (called B r a (s .gave) mail)
-            ≡ record { house = λ q. s .gave .books q j c; deliveries = λ q. s .gave .deliveries q j c; publications = λ q. s .gave .publications q j c; mail = mail ++ posted (senderOf r a) (numberOf a) r (out .message) (B .rules .n) }
+        ≡ record { house = λ q. s .gave .books q j c; deliveries = λ q. s .gave .deliveries q j c; publications = λ q. s .gave .publications q j c; mail = mail ++ posted (senderOf r a) (numberOf a) r (out .message) (B .rules .n) }
     unfolding called after
     view-elsewhere e =
         λ i. record {

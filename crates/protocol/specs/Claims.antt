@@ -7,11 +7,13 @@ use mathlib.Core.List.{List, [], _∷_}
 use Prim.Native.Nat.{ℕ, _+_, _*_, _≤_, _<_}
 use lib.Dec.{T}
 use lib.ListN.{length}
+use Rattle.card.specs.Card.{tolerated}
 use Rattle.protocol.specs.Entry.{Decl, Entry, Rules}
 use Rattle.protocol.specs.Steps.{Out}
 use Rattle.protocol.specs.Book.{Each, is, Call, senderOf, numberOf, outcome, after}
-use Rattle.protocol.specs.Run.{Wall, Copy, State, Step, right, h, start, run, at, opens, onIt, copies, readies, between, consumed-between, Drained}
-use Rattle.protocol.specs.Thresholds.{Tolerated, rulesOf}
+use Rattle.protocol.specs.Run.{Wall, Copy, State, Step, right, h, start, run, at, opens}
+use Rattle.protocol.specs.Run.{onIt, copies, readies, between, consumed-between, Drained}
+use Rattle.protocol.specs.Thresholds.{wallOf, AtMost, Tolerated}
 
 -- An accepted publication or message changes the named entry alone. Two books that agree on one entry give the same answer, message
 -- and delivery to any call that names that entry, and end agreeing on it, whatever the other entries hold.
@@ -87,8 +89,18 @@ module _ (B : Wall) (j c : ℕ) where
     -- at exactly hn READY messages.
     pub all-readies : (q : ℕ) (v : Decl) → Delivered s q v → readies B j c s ≡ h B * B .rules .n
 
-  -- in any order of calls
-  pub record Season (t : ℕ) (l : List Step) : Type 0 where
+  -- in any order of calls; `Few` says that at most t houses are wrong
+  pub record Season (Few : Type 0) (l : List Step) : Type 0 where
     pub bounded : Bounded (run B l start)
-    pub agreed : Tolerated B t (right B) → Agreed (run B l start)
-    pub complete : Tolerated B t (right B) → Drained B j c (run B l start) → Complete (run B l start)
+    pub agreed : Few → Agreed (run B l start)
+    pub complete : Few → Drained B j c (run B l start) → Complete (run B l start)
+
+-- of every run and every entry
+pub record Claims : Type 0 where
+  -- with any thresholds that meet the inequalities,
+  pub thresholds : (B : Wall) (t : ℕ) (l : List Step) (j c : ℕ) → Season B j c (Tolerated B t (right B)) l
+  -- and with those of the wall card: take n houses, t the number 01 tolerates, at most t of them wrong, h honest;
+  pub card : (n numbers : ℕ) (ok : Decl → Bool) (honest : ℕ → Bool) → 0 < n → (l : List Step) (j c : ℕ)
+      → Season (wallOf n (tolerated n) numbers ok honest) j c (AtMost (wallOf n (tolerated n) numbers ok honest) (tolerated n)) l
+  -- and the rule between entries.
+  pub alone : (R : Rules) (numbers own : ℕ) (a : Call) → Alone R numbers own a

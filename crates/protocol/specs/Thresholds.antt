@@ -11,6 +11,11 @@ use Rattle.protocol.specs.Run.{Wall, right}
 unfoldable pub rulesOf : (n t : ℕ) → (Decl → Bool) → Rules
 rulesOf n t ok = record { n = n; quorum = quorum n t; amplify = amplify t; deliver = deliver t; ok = ok }
 
+-- the wall of n houses of which t may be wrong
+unfoldable pub wallOf : (n t numbers : ℕ) → (Decl → Bool) → (honest : ℕ → Bool) → Wall
+unfolding rulesOf
+wallOf n t numbers ok honest = record { rules = rulesOf n t ok; numbers = numbers; honest = honest }
+
 -- at most t are wrong, and `up` honest houses take part
 pub record Thresholds (R : Rules) (t up : ℕ) : Type 0 where
   pub overlapping : R .n + t < R .quorum + R .quorum
@@ -19,7 +24,11 @@ pub record Thresholds (R : Rules) (t up : ℕ) : Type 0 where
   pub echoed : R .quorum ≤ up
   pub vouched : R .deliver ≤ up
 
--- at most t houses are wrong, and the houses that pass `up` are honest and take part
+-- at most t of them wrong
+abbrev pub AtMost : Wall → ℕ → Type 0
+AtMost B t = count (λ p. not (right B p)) (B .rules .n) ≤ t
+
+-- at most t are wrong, and those that pass `up` are honest and take part
 pub record Tolerated (B : Wall) (t : ℕ) (up : ℕ → Bool) : Type 0 where
-  pub few : count (λ p. not (right B p)) (B .rules .n) ≤ t
+  pub few : AtMost B t
   pub thresholds : Thresholds (B .rules) t (count up (B .rules .n))
