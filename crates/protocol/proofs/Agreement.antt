@@ -1,21 +1,21 @@
 -- Where at most t houses are wrong, all READYs of honest houses on an entry are for one declaration, and so are deliveries.
 -- Assumes nothing.
 use mathlib.Core.Path.{_≡_, refl, sym, _∙_}
-use mathlib.Core.Bool.{Bool, true, false, not, cond, _&&_}
+use mathlib.Core.Bool.{Bool, true, false, not, cond}
 use mathlib.Core.Logic.{⊎-elim}
-use mathlib.Core.Option.{Option, none, some, Option·some-injective}
+use mathlib.Core.Option.{none, some, Option·some-injective}
 use mathlib.Core.List.{List}
-use Prim.Native.Nat.{ℕ, _+_, _≤_, _<_}
+use Prim.Native.Nat.{ℕ, _≤_, _<_}
 use native.Mathlib.Omega.{arith}
 use lib.Dec.{T, eqb-refl}
 use Rattle.card.specs.Count.{count}
 use Rattle.card.proofs.Counting.{count-mono, count-find, count-le}
 use Rattle.card.proofs.Overlap.{share}
-use Rattle.protocol.specs.Entry.{Decl, SEND, ECHO, READY, Entry, fresh, holds, upd}
+use Rattle.protocol.specs.Entry.{Decl, SEND, ECHO, READY, Entry, holds, upd}
 use Rattle.protocol.specs.Steps.{Out}
 use Rattle.protocol.specs.Book.{Call}
-use Rattle.protocol.specs.Run.{Wall, Copy, Step, right, start, run}
-use Rattle.protocol.specs.Thresholds.{Thresholds, Tolerated}
+use Rattle.protocol.specs.Run.{n, Wall, Copy, Step, right, start, run}
+use Rattle.protocol.specs.Thresholds.{Tolerated}
 use Rattle.protocol.proofs.Basics.{not-not, and-l, and-r, none-some, holds-eq, eq-holds, upd-all}
 use Rattle.protocol.proofs.Invariant.{View, Inv, Act, act-heard}
 use Rattle.protocol.proofs.Views.{view}
@@ -35,39 +35,39 @@ vouch-to false x g t = absurd g
 
 -- a quorum vouches for each READY that an honest house sent
 abbrev pub Backed : Wall → (ℕ → Entry) → Type 0
-Backed B H = (r : ℕ) (v : Decl) → H r .readySent ≡ some v → B .rules .quorum ≤ count (vouch B H v) (B .rules .n)
+Backed B H = (r : ℕ) (v : Decl) → H r .readySent ≡ some v → B .rules .quorum ≤ count (vouch B H v) (n B)
 
 module _ (B : Wall) (t : ℕ) (up : ℕ → Bool) (Y : Tolerated B t up) where
   -- more than t houses pass a test: an honest one does
-  pub honest-one : (P : ℕ → Bool) → t < count P (B .rules .n) → (p : ℕ) × T (right B p) × T (P p)
+  pub honest-one : (P : ℕ → Bool) → t < count P (n B) → (p : ℕ) × T (right B p) × T (P p)
   honest-one P l =
-      let x = count-find P (λ p. not (right B p)) (B .rules .n) (omega (arith, Y .few)) in
+      let x = count-find P (λ p. not (right B p)) (n B) (omega (arith, Y .few)) in
       (x .0, not-not (right B (x .0)) (x .3), x .2)
 
   keep-backed : (j c : ℕ) (s : View) → Inv B j c s → Backed B (s .house) → (r : ℕ) (a : Call) (o : Out) (mail : List Copy)
       → Act B j c s r a o mail → Backed B (upd (s .house) r (o .entry))
   keep-backed j c s I K r a o mail A q v =
-      upd-all (λ q x. x .readySent ≡ some v → B .rules .quorum ≤ count (vouch B (upd (s .house) r (o .entry)) v) (B .rules .n))
+      upd-all (λ q x. x .readySent ≡ some v → B .rules .quorum ≤ count (vouch B (upd (s .house) r (o .entry)) v) (n B))
       (s .house) r (o .entry) here (λ q e. more (K q v e)) q
     where
       sent : (p : ℕ) → s .house p .send ≡ some v → upd (s .house) r (o .entry) p .send ≡ some v
       sent p =
           upd-all (λ p x. s .house p .send ≡ some v → x .send ≡ some v) (s .house) r (o .entry) (A .done .moves .filled .send v) (λ p e. e) p
 
-      more : B .rules .quorum ≤ count (vouch B (s .house) v) (B .rules .n) → B .rules .quorum ≤ count (vouch B (upd (s .house) r (o .entry)) v) (B .rules .n)
+      more : B .rules .quorum ≤ count (vouch B (s .house) v) (n B) → B .rules .quorum ≤ count (vouch B (upd (s .house) r (o .entry)) v) (n B)
       more l =
           omega (
             arith,
-            count-mono (vouch B (s .house) v) (vouch B (upd (s .house) r (o .entry)) v) (B .rules .n)
+            count-mono (vouch B (s .house) v) (vouch B (upd (s .house) r (o .entry)) v) (n B)
                 (λ p i t. vouch-of (right B p) _ (λ g. eq-holds _ v (sent p (holds-eq (s .house p .send) v (vouch-to (right B p) _ g t))))),
           )
 
-      here : o .entry .readySent ≡ some v → B .rules .quorum ≤ count (vouch B (upd (s .house) r (o .entry)) v) (B .rules .n)
+      here : o .entry .readySent ≡ some v → B .rules .quorum ≤ count (vouch B (upd (s .house) r (o .entry)) v) (n B)
       here e =
           ⊎-elim
           (λ l. more (omega (
             arith,
-            count-mono (λ p. holds (o .entry .echo p) v) (vouch B (s .house) v) (B .rules .n)
+            count-mono (λ p. holds (o .entry .echo p) v) (vouch B (s .house) v) (n B)
                 (λ p i t. vouch-of (right B p) _ (λ g. eq-holds (s .house p .send) v (act-heard B j c s I r a o mail A ECHO p v (holds-eq (o .entry .echo p) v t) tt g))),
           )))
           (λ l. let x = honest-one (λ p. holds (o .entry .ready p) v) (omega (arith, Y .thresholds .amplified)) in
@@ -81,14 +81,14 @@ module _ (B : Wall) (t : ℕ) (up : ℕ → Bool) (Y : Tolerated B t up) where
     -- a READY's declaration is one that an honest house gave an ECHO of
     vouched : (r : ℕ) (v : Decl) → s .house r .readySent ≡ some v → (p : ℕ) × T (right B p) × (s .house p .send ≡ some v)
     vouched r v e =
-        let x = honest-one (vouch B (s .house) v) (omega (arith, K r v e, Y .thresholds .overlapping, Y .thresholds .echoed, count-le up (B .rules .n))) in
+        let x = honest-one (vouch B (s .house) v) (omega (arith, K r v e, Y .thresholds .overlapping, Y .thresholds .echoed, count-le up (n B))) in
         (x .0, x .1, holds-eq (s .house (x .0) .send) v (vouch-to (right B (x .0)) _ (x .1) (x .2)))
 
     ready-agree : (r q : ℕ) (v w : Decl) → s .house r .readySent ≡ some v → s .house q .readySent ≡ some w → v ≡ w
     ready-agree r q v w a b =
         let P : ℕ → Bool = vouch B (s .house) v in
         let Q : ℕ → Bool = vouch B (s .house) w in
-        let x = share (B .rules .n) t (B .rules .quorum) (λ p. not (right B p)) P Q (Y .thresholds .overlapping) (Y .few) (K r v a) (K q w b) in
+        let x = share (n B) t (B .rules .quorum) (λ p. not (right B p)) P Q (Y .thresholds .overlapping) (Y .few) (K r v a) (K q w b) in
         let g = not-not (right B (x .0)) (x .3) in
         let d : s .house (x .0) .send ≡ some v = holds-eq _ v (vouch-to (right B (x .0)) _ g (and-l (P (x .0)) (Q (x .0)) (x .2))) in
         let e : s .house (x .0) .send ≡ some w = holds-eq _ w (vouch-to (right B (x .0)) _ g (and-r (P (x .0)) (Q (x .0)) (x .2))) in

@@ -7,13 +7,13 @@ use mathlib.Core.Option.{Option, none, some}
 use Prim.Native.Nat.{ℕ, zero, suc}
 use native.Mathlib.Omega.{arith}
 use lib.Dec.{T, ltb, eqb→eq, eqb-refl}
-use Rattle.protocol.specs.Entry.{Decl, Kind, SEND, ECHO, READY, Entry, Rules, heard, own, isNone, upd}
-use Rattle.protocol.specs.Steps.{Say, say, Out, refused, settle, must, record-heard, may, recording}
-use Rattle.protocol.specs.Steps.{publishes, takesSend, takesEcho, takesReady, takes, receive, publish}
-use Rattle.protocol.specs.Book.{Each, is, Call, publishing, receiving, inBook, senderOf, numberOf, onEntry, outcome, after, publication}
+use Rattle.protocol.specs.Entry.{Decl, Kind, SEND, ECHO, READY, Entry, Rules, heard, own, isNone}
+use Rattle.protocol.specs.Steps.{Say, say, Out, refused, settle, must, may, recording, publishes, takesSend, takesEcho, takesReady}
+use Rattle.protocol.specs.Steps.{takes, receive, publish}
+use Rattle.protocol.specs.Book.{Book, Call, publishing, receiving, inBook, senderOf, numberOf, onEntry, outcome, after, publication}
 use Rattle.protocol.specs.Claims.{Alone}
-use Rattle.protocol.proofs.Basics.{bcase, T-of, T-not-of, and-mk, none-of, none-some, must-zero, must-pass, upd-same, upd-new}
-use Rattle.protocol.proofs.Moves.{Local, Moves, filled-refl, other-kind, no-message, takes-moves, takes-local, refused-moves}
+use Rattle.protocol.proofs.Basics.{none-of, none-some, must-zero, must-pass, upd-same, upd-new}
+use Rattle.protocol.proofs.Moves.{Local, Moves, other-kind, no-message, takes-moves, takes-local, refused-moves}
 
 -- 7 stands for a full slot, and 0 for an empty one
 pub recording-free : (o : Option Decl) (v : Decl) → recording o v ≡ 0 → o ≡ none
@@ -151,13 +151,13 @@ module _ (R : Rules) (j : ℕ) where
 
 module _ (R : Rules) (numbers own : ℕ) (a : Call) where
   -- the entry that the call names
-  abbrev named : Each Entry → Entry
+  abbrev named : Book → Entry
   named b = b (senderOf own a) (numberOf a)
 
-  abbrev answered : Bool → Each Entry → Out
+  abbrev answered : Bool → Book → Out
   answered y b = cond y (onEntry R a (senderOf own a) (named b)) (refused 4 (named b))
 
-  pub outcome-done : (b : Each Entry) → Done R (senderOf own a) own a (named b) (outcome R numbers own a b)
+  pub outcome-done : (b : Book) → Done R (senderOf own a) own a (named b) (outcome R numbers own a b)
   unfolding outcome
   outcome-done b = go (inBook R numbers (senderOf own a) (numberOf a))
     where
@@ -174,7 +174,7 @@ module _ (R : Rules) (numbers own : ℕ) (a : Call) where
       go false = refused-done R (senderOf own a) own 4 a (named b) (none-is a)
 
   -- a message is given on an entry of the book only
-  pub outcome-booked : (b : Each Entry) (m : Say) → outcome R numbers own a b .message ≡ some m → T (inBook R numbers (senderOf own a) (numberOf a))
+  pub outcome-booked : (b : Book) (m : Say) → outcome R numbers own a b .message ≡ some m → T (inBook R numbers (senderOf own a) (numberOf a))
   unfolding outcome
   outcome-booked b m = go (inBook R numbers (senderOf own a) (numberOf a))
     where

@@ -1,7 +1,6 @@
 -- The run of four houses, computed: the premises of the claims can be met.
 -- Assumes nothing.
-use mathlib.Core.Path.{_≡_, refl}
-use Prim.Native.Nat.{ℕ}
+use mathlib.Core.Path.{refl}
 use lib.Dec.{lit<, lit≤}
 use Rattle.card.specs.Card.{quorum, amplify, deliver}
 use Rattle.protocol.specs.Entry.{same}
@@ -9,7 +8,7 @@ use Rattle.protocol.specs.Steps.{publishes, takesSend, takesEcho, takesR
 use Rattle.protocol.specs.Book.{outcome, after}
 use Rattle.protocol.specs.Run.{called, consumes, step, run}
 use Rattle.protocol.specs.Thresholds.{rulesOf, wallOf}
-use Rattle.protocol.specs.Example.{wall, lot, consumeAll, steps, end, Met}
+use Rattle.protocol.specs.Example.{wall, consumeAll, steps, end, Met}
 use Rattle.protocol.proofs.Season.{season, carded}
 
 pub example : Met

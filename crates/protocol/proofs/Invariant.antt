@@ -2,21 +2,21 @@
 -- Assumes nothing.
 use mathlib.Core.Path.{_≡_, refl, sym, ap, _∙_}
 use mathlib.Core.Bool.{Bool, true, false, not, cond, _&&_}
-use mathlib.Core.Logic.{_≢_, _⊎_, inl, inr, ⊎-elim}
+use mathlib.Core.Logic.{⊎-elim}
 use mathlib.Core.Option.{Option, none, some}
-use mathlib.Core.List.{List, [], _∷_, _++_}
-use Prim.Native.Nat.{ℕ, zero, suc, _+_, _*_, _≤_, _<_}
+use mathlib.Core.List.{List, _++_}
+use Prim.Native.Nat.{ℕ, suc, _+_, _*_}
 use native.Mathlib.Omega.{arith}
 use lib.Dec.{T, T-not, not-T, eqb, ltb, eqb-refl, ltb→lt}
 use Rattle.card.specs.Count.{bit, count}
 use Rattle.card.proofs.Counting.{count-same, count-set, count-none}
-use Rattle.protocol.specs.Entry.{Decl, Kind, Entry, Rules, heard, own, isKind, isSome, holds, upd}
+use Rattle.protocol.specs.Entry.{Decl, Kind, Entry, heard, own, isKind, isSome, holds, upd}
 use Rattle.protocol.specs.Steps.{Say, say, Out, may}
-use Rattle.protocol.specs.Book.{is, Call, inBook, publication}
-use Rattle.protocol.specs.Run.{Wall, Copy, right, used, copyTo, toAll, posted, push, tally, onIt, copiesOf}
-use Rattle.protocol.proofs.Basics.{bcase, T-of, T-not-of, true-of, false-of, and-l, and-r, and-mk, and-false, both, isKind-eq, isKind-refl}
-use Rattle.protocol.proofs.Basics.{some-of, isSome-of, holds-eq, eq-holds, upd-all, upd-same, upd-other}
-use Rattle.protocol.proofs.Moves.{Local, Moves, filled-heard, filled-own, no-message, listOf}
+use Rattle.protocol.specs.Book.{sameEntry, Call, inBook, publication}
+use Rattle.protocol.specs.Run.{n, Wall, Copy, right, consumedCopy, copyTo, toAll, posted, push, tally, onIt, copiesOf}
+use Rattle.protocol.proofs.Basics.{T-of, T-not-of, true-of, and-l, and-r, and-mk, and-false, both, isKind-eq, isKind-refl, some-of}
+use Rattle.protocol.proofs.Basics.{isSome-of, holds-eq, eq-holds, upd-all, upd-same, upd-other}
+use Rattle.protocol.proofs.Moves.{Local, filled-own, no-message, listOf}
 use Rattle.protocol.proofs.Calls.{Brings, Done}
 use Rattle.protocol.proofs.Mail.{tally-mono, tally-append, tally-toAll}
 
@@ -35,7 +35,7 @@ way k F Q m = isKind k (m .kind) && (F (m .from) && Q (m .to))
 abbrev pub true-to : (ℕ → Entry) → Copy → Bool
 true-to H m = holds (own (m .kind) (H (m .from))) (m .decl)
 
-pub is-refl : (j c : ℕ) → T (is j c j c)
+pub is-refl : (j c : ℕ) → T (sameEntry j c j c)
 is-refl j c = and-mk (eqb j j) (eqb c c) (eqb-refl j) (eqb-refl c)
 
 -- of a message of kind l from house r, the copies that pass
@@ -43,7 +43,7 @@ way-toAll : (j c r : ℕ) (k l : Kind) (F Q : ℕ → Bool) (w : Decl) (n : ℕ)
     → tally (λ m. onIt j c m && way k F Q m) (toAll j c r l w n) ≡ count (λ q. (isKind k l && F r) && Q q) n
 way-toAll j c r k l F Q w n =
     tally-toAll (λ m. onIt j c m && way k F Q m) j c r l w n
-    ∙ count-same _ _ n (λ q h. regroup (is j c j c) (isKind k l) (F r) (Q q) (is-refl j c))
+    ∙ count-same _ _ n (λ q h. regroup (sameEntry j c j c) (isKind k l) (F r) (Q q) (is-refl j c))
   where
     regroup : (t a b q : Bool) → T t → (t && (a && (b && q))) ≡ ((a && b) && q)
     regroup true true b q x = refl
@@ -63,7 +63,7 @@ module _ (B : Wall) (j c : ℕ) where
     pub truthful : copiesOf j c (λ m. not (true-to (s .house) m)) (s .mail) ≡ 0
     -- a message given is one copy to each house
     pub sent : (k : Kind) (F Q : ℕ → Bool)
-        → copiesOf j c (way k F Q) (s .mail) ≡ count Q (B .rules .n) * count (λ p. F p && isSome (own k (s .house p))) (B .rules .n)
+        → copiesOf j c (way k F Q) (s .mail) ≡ count Q (n B) * count (λ p. F p && isSome (own k (s .house p))) (n B)
     -- between honest houses, what was heard is what was consumed
     pub consumed : (k : Kind) (p r : ℕ) → T (right B p) → T (right B r) → T (may j k p)
         → copiesOf j c (λ m. way k (eqb p) (eqb r) m && m .consumed) (s .mail) ≡ bit (isSome (heard k p (s .house r)))
@@ -76,7 +76,7 @@ module _ (B : Wall) (j c : ℕ) where
     pub done : Done (B .rules) j r a (s .house r) o
     pub booked : (m : Say) → o .message ≡ some m → T (inBook (B .rules) (B .numbers) j c)
     pub honest : (k : Kind) (p : ℕ) (v : Decl) → Brings a k p v → T (right B p) → own k (s .house p) ≡ some v
-    pub unmarked : (P : Copy → Bool) → ((m : Copy) → P (used m) ≡ P m) → tally P mail ≡ tally P (s .mail)
+    pub unmarked : (P : Copy → Bool) → ((m : Copy) → P (consumedCopy m) ≡ P m) → tally P mail ≡ tally P (s .mail)
     pub marks : (k : Kind) (p q : ℕ) → T (right B p) → T (right B q) → T (may j k p)
         → copiesOf j c (λ m. way k (eqb p) (eqb q) m && m .consumed) mail ≡ bit (isSome (heard k p (upd (s .house) r (o .entry) q)))
 
@@ -87,7 +87,7 @@ module _ (B : Wall) (j c : ℕ) where
         house = upd (s .house) r (o .entry);
         deliveries = upd (s .deliveries) r (push (o .delivery) (s .deliveries r));
         publications = upd (s .publications) r (push (publication a (o .answer)) (s .publications r));
-        mail = mail ++ posted j c r (o .message) (B .rules .n);
+        mail = mail ++ posted j c r (o .message) (n B);
       }
 
   module _ (s : View) (I : Inv s) (r : ℕ) (a : Call) (o : Out) (mail : List Copy) (A : Act s r a o mail) where
@@ -122,12 +122,12 @@ module _ (B : Wall) (j c : ℕ) where
         (λ h m g. own-stays p k v (act-heard k p v h m g))
         (λ q h m g. own-stays p k v (I .given q k p v h m g)) q
 
-    act-truthful : copiesOf j c (λ m. not (true-to H′ m)) (mail ++ posted j c r (o .message) (B .rules .n)) ≡ 0
+    act-truthful : copiesOf j c (λ m. not (true-to H′ m)) (mail ++ posted j c r (o .message) (n B)) ≡ 0
     unfolding H′
     act-truthful =
         omega (
           arith,
-          tally-append untrue mail (posted j c r (o .message) (B .rules .n)),
+          tally-append untrue mail (posted j c r (o .message) (n B)),
           tally-mono untrue before mail (λ m t. and-mk (onIt j c m) _ (and-l (onIt j c m) _ t) (not-T (true-to (s .house) m) (λ x. T-not (true-to H′ m) (and-r (onIt j c m) _ t) (stays m x)))),
           A .unmarked before (λ m. refl),
           I .truthful,
@@ -143,21 +143,21 @@ module _ (B : Wall) (j c : ℕ) where
         stays : (m : Copy) → T (true-to (s .house) m) → T (true-to H′ m)
         stays m t = eq-holds _ (m .decl) (own-stays (m .from) (m .kind) (m .decl) (holds-eq _ (m .decl) t))
 
-        new : (x : Option Say) → o .message ≡ x → tally untrue (posted j c r x (B .rules .n)) ≡ 0
+        new : (x : Option Say) → o .message ≡ x → tally untrue (posted j c r x (n B)) ≡ 0
         new none e = refl
         new (some (say k v)) e =
             let gave : own k (H′ r) ≡ some v = rw (upd-same (s .house) r (o .entry)) (A .done .moves .says k v e .1) in
-            tally-toAll untrue j c r k v (B .rules .n)
-            ∙ count-none _ (B .rules .n) (λ q l. and-false (is j c j c) _ (ap not (true-of (holds (own k (H′ r)) v) (eq-holds _ v gave))))
+            tally-toAll untrue j c r k v (n B)
+            ∙ count-none _ (n B) (λ q l. and-false (sameEntry j c j c) _ (ap not (true-of (holds (own k (H′ r)) v) (eq-holds _ v gave))))
 
     act-sent : (k : Kind) (F Q : ℕ → Bool)
-        → copiesOf j c (way k F Q) (mail ++ posted j c r (o .message) (B .rules .n))
-        ≡ count Q (B .rules .n) * count (λ p. F p && isSome (own k (H′ p))) (B .rules .n)
+        → copiesOf j c (way k F Q) (mail ++ posted j c r (o .message) (n B))
+        ≡ count Q (n B) * count (λ p. F p && isSome (own k (H′ p))) (n B)
     unfolding H′
     act-sent k F Q =
         omega (
           arith,
-          tally-append (λ m. onIt j c m && way k F Q m) mail (posted j c r (o .message) (B .rules .n)),
+          tally-append (λ m. onIt j c m && way k F Q m) mail (posted j c r (o .message) (n B)),
           A .unmarked (λ m. onIt j c m && way k F Q m) (λ m. refl),
           I .sent k F Q,
           go (o .message) refl,
@@ -170,10 +170,10 @@ module _ (B : Wall) (j c : ℕ) where
         P′ p = F p && isSome (own k (H′ p))
 
         X : ℕ
-        X = count Q (B .rules .n)
+        X = count Q (n B)
 
-        still : (T (F r) → (w : Decl) → o .message ≡ some (say k w) → ⊥) → X * count P (B .rules .n) ≡ X * count P′ (B .rules .n)
-        still f = ap (λ (y : ℕ). X * y) (count-same P P′ (B .rules .n) (λ p l. upd-all (λ p x. P p ≡ (F p && isSome (own k x))) (s .house) r (o .entry) at-r (λ p. refl) p))
+        still : (T (F r) → (w : Decl) → o .message ≡ some (say k w) → ⊥) → X * count P (n B) ≡ X * count P′ (n B)
+        still f = ap (λ (y : ℕ). X * y) (count-same P P′ (n B) (λ p l. upd-all (λ p x. P p ≡ (F p && isSome (own k x))) (s .house) r (o .entry) at-r (λ p. refl) p))
           where
             at-r : P r ≡ (F r && isSome (own k (o .entry)))
             at-r =
@@ -183,42 +183,42 @@ module _ (B : Wall) (j c : ℕ) where
                 (λ t. let x = some-of (own k (o .entry)) (and-r (F r) _ t) in
                 and-mk (F r) _ (and-l (F r) _ t) (⊎-elim (isSome-of _ (x .0)) (λ m. absurd (f (and-l (F r) _ t) (x .0) m)) (A .done .moves .new k (x .0) (x .1))))
 
-        go : (x : Option Say) → o .message ≡ x → copiesOf j c (way k F Q) (posted j c r x (B .rules .n)) + X * count P (B .rules .n) ≡ X * count P′ (B .rules .n)
+        go : (x : Option Say) → o .message ≡ x → copiesOf j c (way k F Q) (posted j c r x (n B)) + X * count P (n B) ≡ X * count P′ (n B)
         go none e = omega (arith, still (λ t w m. no-message (say k w) (sym e ∙ m)))
         go (some (say l w)) e =
-            omega (arith, way-toAll j c r k l F Q w (B .rules .n), split (isKind k l && F r) refl)
+            omega (arith, way-toAll j c r k l F Q w (n B), split (isKind k l && F r) refl)
           where
-            split : (b : Bool) → (isKind k l && F r) ≡ b → count (λ q. b && Q q) (B .rules .n) + X * count P (B .rules .n) ≡ X * count P′ (B .rules .n)
+            split : (b : Bool) → (isKind k l && F r) ≡ b → count (λ q. b && Q q) (n B) + X * count P (n B) ≡ X * count P′ (n B)
             split true t =
                 let z : k ≡ l = isKind-eq k l (and-l (isKind k l) (F r) (T-of t)) in
                 let f : T (F r) = and-r (isKind k l) (F r) (T-of t) in
                 let y = A .done .moves .says k w (rw z e) in
-                let one-more : count P′ (B .rules .n) ≡ suc (count P (B .rules .n)) =
-                count-set P P′ (B .rules .n) r (ltb→lt r (B .rules .n) (and-l (ltb r (B .rules .n)) (B .honest r) (A .here)))
+                let one-more : count P′ (n B) ≡ suc (count P (n B)) =
+                count-set P P′ (n B) r (ltb→lt r (n B) (and-l (ltb r (n B)) (B .honest r) (A .here)))
                 (λ i d. rw (upd-other (s .house) r (o .entry) i d)) (and-false (F r) _ (ap isSome (y .0)))
                 (true-of (P′ r) (and-mk (F r) _ f (rw (upd-same (s .house) r (o .entry), y .1) tt))) in
                 rw one-more (omega arith)
             split false t =
                 omega (
                   arith,
-                  count-none (λ q. false) (B .rules .n) (λ i h. refl),
+                  count-none (λ q. false) (n B) (λ i h. refl),
                   still (λ f x m. T-not-of t (and-mk (isKind k l) (F r) (let z : l ≡ k = cc in rw z (isKind-refl k)) f)),
                 )
 
     act-consumed : (k : Kind) (p q : ℕ) → T (right B p) → T (right B q) → T (may j k p)
-        → copiesOf j c (λ m. way k (eqb p) (eqb q) m && m .consumed) (mail ++ posted j c r (o .message) (B .rules .n)) ≡ bit (isSome (heard k p (H′ q)))
+        → copiesOf j c (λ m. way k (eqb p) (eqb q) m && m .consumed) (mail ++ posted j c r (o .message) (n B)) ≡ bit (isSome (heard k p (H′ q)))
     unfolding H′
     act-consumed k p q g g₂ m =
-        omega (arith, tally-append taken mail (posted j c r (o .message) (B .rules .n)), A .marks k p q g g₂ m, new (o .message))
+        omega (arith, tally-append taken mail (posted j c r (o .message) (n B)), A .marks k p q g g₂ m, new (o .message))
       where
         taken : Copy → Bool
         taken m = onIt j c m && (way k (eqb p) (eqb q) m && m .consumed)
 
-        new : (x : Option Say) → tally taken (posted j c r x (B .rules .n)) ≡ 0
+        new : (x : Option Say) → tally taken (posted j c r x (n B)) ≡ 0
         new none = refl
         new (some (say l w)) =
-            tally-toAll taken j c r l w (B .rules .n)
-            ∙ count-none _ (B .rules .n) (λ i h. and-false (is j c j c) _ (and-false (way k (eqb p) (eqb q) (copyTo j c r l w i)) false refl))
+            tally-toAll taken j c r l w (n B)
+            ∙ count-none _ (n B) (λ i h. and-false (sameEntry j c j c) _ (and-false (way k (eqb p) (eqb q) (copyTo j c r l w i)) false refl))
 
     act-list : (g : Entry → Option Decl) (f : ℕ → List Decl) (x : Option Decl) → ((q : ℕ) → f q ≡ listOf (g (s .house q)))
         → push x (listOf (g (s .house r))) ≡ listOf (g (o .entry)) → (q : ℕ) → upd f r (push x (f r)) q ≡ listOf (g (H′ q))

@@ -1,16 +1,16 @@
 -- Counting the copies in the mail that pass a test.
 -- Assumes nothing.
-use mathlib.Core.Path.{_≡_, refl, sym, ap, _∙_}
+use mathlib.Core.Path.{_≡_, refl, ap}
 use mathlib.Core.Bool.{Bool, true, false, not, _&&_}
-use mathlib.Core.Option.{Option, none, some}
+use mathlib.Core.Option.{some}
 use mathlib.Core.List.{List, [], _∷_, _++_}
 use Prim.Native.Nat.{ℕ, zero, suc, _+_, _≤_, _<_}
 use native.Mathlib.Omega.{arith}
 use lib.Dec.{T}
 use Rattle.card.specs.Count.{bit, count}
-use Rattle.card.proofs.Counting.{count-mono, count-pos}
+use Rattle.card.proofs.Counting.{count-mono}
 use Rattle.protocol.specs.Entry.{Decl, Kind, SEND, ECHO, READY, isKind}
-use Rattle.protocol.specs.Run.{Copy, at, used, use-at, copyTo, toAll, tally, onIt, copiesOf}
+use Rattle.protocol.specs.Run.{n, Copy, at, consumedCopy, consumeAt, copyTo, toAll, tally, onIt, copiesOf}
 
 bit-one : (a : Bool) → T a → bit a ≡ 1
 bit-one true t = refl
@@ -47,7 +47,7 @@ tally-at P (x ∷ l) (suc i) m e t = omega (arith, tally-at P l i m e t)
 
 -- one copy is consumed
 pub tally-use : (P : Copy → Bool) (l : List Copy) (i : ℕ) (m : Copy) → at l i ≡ some m
-    → tally P (use-at l i) + bit (P m) ≡ tally P l + bit (P (used m))
+    → tally P (consumeAt l i) + bit (P m) ≡ tally P l + bit (P (consumedCopy m))
 tally-use P [] i m e = absurd (let z : _≡_ {A = ℕ} 0 1 = cc in omega arith)
 tally-use P (x ∷ l) zero m e = let z : x ≡ m = cc in rw z (omega arith)
 tally-use P (x ∷ l) (suc i) m e = omega (arith, tally-use P l i m e)

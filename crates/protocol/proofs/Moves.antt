@@ -5,15 +5,16 @@ use mathlib.Core.Bool.{Bool, true, false}
 use mathlib.Core.Logic.{_⊎_, inl, inr, ⊎-elim}
 use mathlib.Core.Option.{Option, none, some}
 use mathlib.Core.List.{List, [], _∷_}
-use Prim.Native.Nat.{ℕ, zero, suc, _≤_, _<_}
+use Prim.Native.Nat.{ℕ, _≤_}
 use native.Mathlib.Omega.{arith}
 use lib.Dec.{T, leb→le}
-use Rattle.protocol.specs.Entry.{Decl, Kind, SEND, ECHO, READY, Entry, Rules, heard, own, isKind, isNone, isSome, upd, votes}
-use Rattle.protocol.specs.Steps.{Say, say, Out, refused, given, mark, record-heard, marked, reached, may}
-use Rattle.protocol.specs.Steps.{takesSend, takesEcho, takesReady, takes}
-use Rattle.protocol.specs.Run.{push}
+use Rattle.protocol.specs.Entry.{Decl, Kind, SEND, ECHO, READY, Entry, Rules, heard, own, isKind, isNone, upd, votes}
+use Rattle.protocol.specs.Steps.{Say, say, Out, refused, given, mark, recorded, marked, reached, may, takesSend, takesEcho}
+use Rattle.protocol.specs.Steps.{takesReady, takes}
+use Rattle.protocol.specs.Run.{n, push}
 use Rattle.protocol.specs.Claims.{Stays, Filled}
-use Rattle.protocol.proofs.Basics.{T-not-of, and-l, and-r, isKind-refl, none-of, none-some, upd-keeps, votes-up, mark-keeps, mark-new, Heeded, heeds}
+use Rattle.protocol.proofs.Basics.{T-not-of, and-l, and-r, isKind-refl, none-of, none-some, upd-keeps, votes-up, mark-keeps}
+use Rattle.protocol.proofs.Basics.{mark-new, Heeded, heeds}
 
 -- what holds of each honest house's entry by itself
 pub record Local (R : Rules) (e : Entry) : Type 0 where
@@ -82,7 +83,7 @@ mark-stays : (b : Bool) (v : Decl) (o : Option Decl) → (T b → T (isNone o)) 
 mark-stays true v o f w e = absurd (none-some o w (none-of o (f tt)) e)
 mark-stays false v o f w e = e
 
-recorded-filled : (k : Kind) (p : ℕ) (v : Decl) (e : Entry) → heard k p e ≡ none → Filled e (record-heard k p v e)
+recorded-filled : (k : Kind) (p : ℕ) (v : Decl) (e : Entry) → heard k p e ≡ none → Filled e (recorded k p v e)
 recorded-filled SEND p v e h =
     record {
       send = λ w x. absurd (none-some (e .send) w h x);
@@ -163,30 +164,30 @@ module _ (R : Rules) (j : ℕ) where
   takes-moves r SEND p v e g h =
       record { filled = recorded-filled SEND p v e h; new = new′; says = says′; delivers = refl; publishes = refl }
     where
-      new′ : (k : Kind) (w : Decl) → own k (record-heard SEND p v e) ≡ some w → (own k e ≡ some w) ⊎ (some (say ECHO v) ≡ some (say k w))
+      new′ : (k : Kind) (w : Decl) → own k (recorded SEND p v e) ≡ some w → (own k e ≡ some w) ⊎ (some (say ECHO v) ≡ some (say k w))
       new′ SEND w x = inl x
       new′ ECHO w x = inr (let z : v ≡ w = cc in cc)
       new′ READY w x = inl x
 
       says′ : (k : Kind) (w : Decl) → some (say ECHO v) ≡ some (say k w)
-          → (own k e ≡ none) × (own k (record-heard SEND p v e) ≡ some w) × T (R .ok w) × T (may j k r)
+          → (own k e ≡ none) × (own k (recorded SEND p v e) ≡ some w) × T (R .ok w) × T (may j k r)
       says′ SEND w m = other-kind ECHO SEND v w refl m
       says′ ECHO w m = let z : v ≡ w = cc in (h, cc, rw z at g, tt)
       says′ READY w m = other-kind ECHO READY v w refl m
   takes-moves r ECHO p v e g h =
-      voucher-moves r e (record-heard ECHO p v e) (reached (R .quorum) (e .readySent) (upd (e .echo) p (some v)) v (R .n)) false v
+      voucher-moves r e (recorded ECHO p v e) (reached (R .quorum) (e .readySent) (upd (e .echo) p (some v)) v (R .n)) false v
       (recorded-filled ECHO p v e h) same refl g (λ t. and-l (isNone (e .readySent)) _ t) (λ t. absurd t)
     where
-      same : (l : Kind) → own l (record-heard ECHO p v e) ≡ own l e
+      same : (l : Kind) → own l (recorded ECHO p v e) ≡ own l e
       same SEND = refl
       same ECHO = refl
       same READY = refl
   takes-moves r READY p v e g h =
-      voucher-moves r e (record-heard READY p v e) (reached (R .amplify) (e .readySent) (upd (e .ready) p (some v)) v (R .n))
+      voucher-moves r e (recorded READY p v e) (reached (R .amplify) (e .readySent) (upd (e .ready) p (some v)) v (R .n))
       (reached (R .deliver) (e .delivered) (upd (e .ready) p (some v)) v (R .n)) v
       (recorded-filled READY p v e h) same refl g (λ t. and-l (isNone (e .readySent)) _ t) (λ t. and-l (isNone (e .delivered)) _ t)
     where
-      same : (l : Kind) → own l (record-heard READY p v e) ≡ own l e
+      same : (l : Kind) → own l (recorded READY p v e) ≡ own l e
       same SEND = refl
       same ECHO = refl
       same READY = refl

@@ -2,26 +2,26 @@
 -- Assumes nothing.
 use mathlib.Core.Path.{_≡_, refl, sym, ap, subst, _∙_}
 use mathlib.Core.Bool.{Bool, true, false, not, cond, _&&_}
-use mathlib.Core.Logic.{_⊎_, inl, inr, ⊎-elim}
+use mathlib.Core.Logic.{⊎-elim}
 use mathlib.Core.Option.{Option, none, some}
 use mathlib.Core.List.{List, [], _∷_, _++_}
-use Prim.Native.Nat.{ℕ, zero, suc, _+_, _*_, _≤_, _<_}
+use Prim.Native.Nat.{ℕ, _+_}
 use native.Mathlib.Nat.{mul-le-mul-left}
 use native.Mathlib.Omega.{arith}
 use lib.Dec.{T, T-not, eqb, ltb, eqb→eq, eqb-refl}
 use Rattle.card.specs.Count.{bit, count}
 use Rattle.card.proofs.Counting.{count-none, count-one}
-use Rattle.protocol.specs.Entry.{Decl, Kind, SEND, ECHO, READY, Entry, Rules, fresh, heard, own, isKind, isSome, holds, upd}
-use Rattle.protocol.specs.Steps.{Say, say, Out, refused, may, receive}
-use Rattle.protocol.specs.Book.{Each, is, place, Call, publishing, receiving, inBook, senderOf, numberOf, onEntry, outcome, after, publication}
-use Rattle.protocol.specs.Run.{Wall, Copy, Given, State, Step, publish, consume, wrong, right, start, at, used, use-at, posted, push, opens}
-use Rattle.protocol.specs.Run.{called, consumes, step, run, tally, onIt, copiesOf}
-use Rattle.protocol.proofs.Basics.{bcase, T-of, T-not-of, true-of, false-of, not-of, and-l, and-r, and-mk, and-false, both, isKind-eq, isKind-refl}
-use Rattle.protocol.proofs.Basics.{some-of, isSome-of, holds-eq, none-some, upd-all, upd-same, Heeded}
-use Rattle.protocol.proofs.Moves.{Local, Moves, filled-heard, listOf}
+use Rattle.protocol.specs.Entry.{Decl, Kind, SEND, ECHO, READY, Entry, Rules, fresh, heard, own, isKind, isSome, upd}
+use Rattle.protocol.specs.Steps.{Out, may}
+use Rattle.protocol.specs.Book.{sameEntry, Call, publishing, receiving, inBook, senderOf, numberOf, outcome}
+use Rattle.protocol.specs.Run.{n, Wall, Copy, State, Step, publish, consume, wrong, right, start, at, consumedCopy, consumeAt, posted}
+use Rattle.protocol.specs.Run.{opens, called, consumes, step, run, onIt, copiesOf}
+use Rattle.protocol.proofs.Basics.{bcase, T-of, T-not-of, true-of, false-of, not-of, and-l, and-r, and-mk, and-false, both}
+use Rattle.protocol.proofs.Basics.{isKind-eq, isKind-refl, some-of, isSome-of, holds-eq, none-some, upd-all, upd-same, Heeded}
+use Rattle.protocol.proofs.Moves.{filled-heard}
 use Rattle.protocol.proofs.Calls.{Brings, Done, outcome-done, outcome-booked, receive-taken}
-use Rattle.protocol.proofs.Mail.{tally-append, tally-toAll, tally-at, tally-use, copies-split}
-use Rattle.protocol.proofs.Invariant.{View, Inv, Act, way, true-to, is-refl, acted, act-inv, else-inv}
+use Rattle.protocol.proofs.Mail.{tally-append, tally-at, tally-use, copies-split}
+use Rattle.protocol.proofs.Invariant.{View, Inv, Act, way, true-to, is-refl, act-inv, else-inv}
 use Rattle.protocol.proofs.Views.{view, view-here, view-elsewhere, done-here, booked-here, posted-elsewhere, out}
 
 -- what is heard from a house stays as it was where the call does not bring it
@@ -76,12 +76,12 @@ module _ (B : Wall) (s : State) (i : ℕ) (m : Copy) (e : at (s .mail) i ≡ som
     unheard : heard (m .kind) (m .from) (v .house (m .to)) ≡ none
     unheard =
         let x = I .owner (m .from) (m .kind) (m .decl) gave in
-        let ones = count-one (λ p. eqb (m .from) p && isSome (own (m .kind) (v .house p))) (B .rules .n) (m .from)
+        let ones = count-one (λ p. eqb (m .from) p && isSome (own (m .kind) (v .house p))) (n B) (m .from)
         (λ p t. sym (eqb→eq (m .from) p (and-l (eqb (m .from) p) _ t))) in
         empty (heard (m .kind) (m .from) (v .house (m .to))) (omega (
           arith,
-          count-one (eqb (m .to)) (B .rules .n) (m .to) (λ q t. sym (eqb→eq (m .to) q t)),
-          mul-le-mul-left (count (eqb (m .to)) (B .rules .n)) ones,
+          count-one (eqb (m .to)) (n B) (m .to) (λ q t. sym (eqb→eq (m .to) q t)),
+          mul-le-mul-left (count (eqb (m .to)) (n B)) ones,
           I .sent (m .kind) (eqb (m .from)) (eqb (m .to)),
           I .consumed (m .kind) (m .from) (m .to) (x .0) g (x .2),
           copies-split (m .sender) (m .number) (way (m .kind) (eqb (m .from)) (eqb (m .to))) (λ m₂. m₂ .consumed) (s .mail),
@@ -98,9 +98,9 @@ module _ (B : Wall) (s : State) (i : ℕ) (m : Copy) (e : at (s .mail) i ≡ som
     taken =
         let x = I .owner (m .from) (m .kind) (m .decl) gave in
         rw (true-of (inBook (B .rules) (B .numbers) (m .sender) (m .number)) (x .3))
-        (receive-taken (B .rules) (m .sender) (m .from) (m .kind) (m .decl) (v .house (m .to)) (and-l (ltb (m .from) (B .rules .n)) _ (x .0)) (x .1) (x .2) unheard)
+        (receive-taken (B .rules) (m .sender) (m .from) (m .kind) (m .decl) (v .house (m .to)) (and-l (ltb (m .from) (n B)) _ (x .0)) (x .1) (x .2) unheard)
 
-    consume-act : Act B (m .sender) (m .number) v (m .to) (opens m) o (use-at (s .mail) i)
+    consume-act : Act B (m .sender) (m .number) v (m .to) (opens m) o (consumeAt (s .mail) i)
     consume-act =
         record {
           here = g;
@@ -115,7 +115,7 @@ module _ (B : Wall) (s : State) (i : ℕ) (m : Copy) (e : at (s .mail) i ≡ som
         H = v .house
 
         marks′ : (k : Kind) (p q : ℕ) → T (right B p) → T (right B q) → T (may (m .sender) k p)
-            → copiesOf (m .sender) (m .number) (λ m₂. way k (eqb p) (eqb q) m₂ && m₂ .consumed) (use-at (s .mail) i)
+            → copiesOf (m .sender) (m .number) (λ m₂. way k (eqb p) (eqb q) m₂ && m₂ .consumed) (consumeAt (s .mail) i)
             ≡ bit (isSome (heard k p (upd H (m .to) (o .entry) q)))
         marks′ k p q g₁ g₂ x =
             omega (
@@ -156,10 +156,10 @@ module _ (B : Wall) (j c : ℕ) (Ψ : (ℕ → Entry) → Type 0)
 
   call-holds : (r : ℕ) (a : Call) (s : State) (mail : List Copy)
       → (senderOf r a ≡ j → numberOf a ≡ c → Inv B j c (view j c s) → Act B j c (view j c s) r a (out B j c r a s mail) mail)
-      → (is (senderOf r a) (numberOf a) j c ≡ false → (P : Copy → Bool) → copiesOf j c P mail ≡ copiesOf j c P (s .mail))
+      → (sameEntry (senderOf r a) (numberOf a) j c ≡ false → (P : Copy → Bool) → copiesOf j c P mail ≡ copiesOf j c P (s .mail))
       → Holds s → Holds (called B r a (s .gave) mail)
   call-holds r a s mail f f₂ H =
-      bcase (is (senderOf r a) (numberOf a) j c)
+      bcase (sameEntry (senderOf r a) (numberOf a) j c)
       (λ t. let e = sym (eqb→eq j (senderOf r a) (and-l (eqb j (senderOf r a)) _ (T-of t))) in
       let e₂ = sym (eqb→eq c (numberOf a) (and-r (eqb j (senderOf r a)) _ (T-of t))) in
       let A = f e e₂ (H .0) in
@@ -168,13 +168,13 @@ module _ (B : Wall) (j c : ℕ) (Ψ : (ℕ → Entry) → Type 0)
       (λ t. subst Kept (sym (view-elsewhere B j c r a s mail t))
       (else-inv B j c (view j c s) _ (λ P. others t P) (H .0), H .1))
     where
-      others : is (senderOf r a) (numberOf a) j c ≡ false → (P : Copy → Bool)
-          → copiesOf j c P (mail ++ posted (senderOf r a) (numberOf a) r (out B j c r a s mail .message) (B .rules .n)) ≡ copiesOf j c P (s .mail)
+      others : sameEntry (senderOf r a) (numberOf a) j c ≡ false → (P : Copy → Bool)
+          → copiesOf j c P (mail ++ posted (senderOf r a) (numberOf a) r (out B j c r a s mail .message) (n B)) ≡ copiesOf j c P (s .mail)
       others t P =
           omega (
             arith,
-            tally-append (λ m. onIt j c m && P m) mail (posted (senderOf r a) (numberOf a) r (out B j c r a s mail .message) (B .rules .n)),
-            posted-elsewhere B j c (senderOf r a) (numberOf a) r (out B j c r a s mail .message) (B .rules .n) P t,
+            tally-append (λ m. onIt j c m && P m) mail (posted (senderOf r a) (numberOf a) r (out B j c r a s mail .message) (n B)),
+            posted-elsewhere B j c (senderOf r a) (numberOf a) r (out B j c r a s mail .message) (n B) P t,
             f₂ t P,
           )
 
@@ -190,13 +190,13 @@ module _ (B : Wall) (j c : ℕ) (Ψ : (ℕ → Entry) → Type 0)
   step-holds (consume i) s H = go (at (s .mail) i) refl
     where
       go₂ : (m : Copy) → at (s .mail) i ≡ some m → (b : Bool) → (right B (m .to) && not (m .consumed)) ≡ b
-          → Holds (cond b (called B (m .to) (opens m) (s .gave) (use-at (s .mail) i)) s)
+          → Holds (cond b (called B (m .to) (opens m) (s .gave) (consumeAt (s .mail) i)) s)
       go₂ m e true t =
-          call-holds (m .to) (opens m) s (use-at (s .mail) i)
-          (λ x x₂. subst (λ (y : ℕ). Inv B y c (view y c s) → Act B y c (view y c s) (m .to) (opens m) (out B y c (m .to) (opens m) s (use-at (s .mail) i)) (use-at (s .mail) i)) x
-          (subst (λ (y : ℕ). Inv B (m .sender) y (view (m .sender) y s) → Act B (m .sender) y (view (m .sender) y s) (m .to) (opens m) (out B (m .sender) y (m .to) (opens m) s (use-at (s .mail) i)) (use-at (s .mail) i)) x₂
+          call-holds (m .to) (opens m) s (consumeAt (s .mail) i)
+          (λ x x₂. subst (λ (y : ℕ). Inv B y c (view y c s) → Act B y c (view y c s) (m .to) (opens m) (out B y c (m .to) (opens m) s (consumeAt (s .mail) i)) (consumeAt (s .mail) i)) x
+          (subst (λ (y : ℕ). Inv B (m .sender) y (view (m .sender) y s) → Act B (m .sender) y (view (m .sender) y s) (m .to) (opens m) (out B (m .sender) y (m .to) (opens m) s (consumeAt (s .mail) i)) (consumeAt (s .mail) i)) x₂
           (consume-act B s i m e (and-l (right B (m .to)) _ (T-of t)) (false-of (m .consumed) (and-r (right B (m .to)) _ (T-of t))))))
-          (λ x P. omega (arith, tally-use (λ m. onIt j c m && P m) (s .mail) i m e, ap bit (no-copy m (P m) x), ap bit (no-copy m (P (used m)) x)))
+          (λ x P. omega (arith, tally-use (λ m. onIt j c m && P m) (s .mail) i m e, ap bit (no-copy m (P m) x), ap bit (no-copy m (P (consumedCopy m)) x)))
           H
         where
           no-copy : (m : Copy) (b : Bool) → onIt j c m ≡ false → (onIt j c m && b) ≡ false
@@ -234,8 +234,8 @@ module _ (B : Wall) (j c : ℕ) (Ψ : (ℕ → Entry) → Type 0)
       fresh-heard ECHO p = refl
       fresh-heard READY p = refl
 
-      unheeded : (m : ℕ) (o : Option Decl) → Heeded m (B .rules .n) (λ p. none) o
-      unheeded m o v a b = absurd (omega (arith, count-none (λ p. false) (B .rules .n) (λ i l. refl)))
+      unheeded : (m : ℕ) (o : Option Decl) → Heeded m (n B) (λ p. none) o
+      unheeded m o v a b = absurd (omega (arith, count-none (λ p. false) (n B) (λ i l. refl)))
 
       start-inv : Inv B j c (view j c start)
       start-inv =
@@ -251,7 +251,7 @@ module _ (B : Wall) (j c : ℕ) (Ψ : (ℕ → Entry) → Type 0)
             owner = λ p k v e. absurd (none-some (own k fresh) v (fresh-own k) e);
             given = λ r k p v e m g. absurd (none-some (heard k p fresh) v (fresh-heard k p) e);
             truthful = refl;
-            sent = λ k F Q. rw (count-none (λ p. F p && isSome (own k fresh)) (B .rules .n) (λ i l. and-false (F i) _ (ap isSome (fresh-own k)))) (omega arith);
+            sent = λ k F Q. rw (count-none (λ p. F p && isSome (own k fresh)) (n B) (λ i l. and-false (F i) _ (ap isSome (fresh-own k)))) (omega arith);
             consumed = λ k p r g g₂ m. ap (λ o. bit (isSome o)) (sym (fresh-heard k p));
             delivered = λ r. refl;
             published = λ r. refl;

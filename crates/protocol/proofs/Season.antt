@@ -1,20 +1,20 @@
 -- What is claimed of every run, proved of every entry; and for the rules of the wall card.
 -- Assumes nothing.
 use mathlib.Core.Path.{_≡_, refl, sym, ap, _∙_}
-use mathlib.Core.Bool.{Bool, true, false, not, _&&_}
+use mathlib.Core.Bool.{Bool, true, _&&_}
 use mathlib.Core.Option.{Option, none, some}
-use mathlib.Core.List.{List, [], _∷_}
-use Prim.Native.Nat.{ℕ, _+_, _*_, _≤_, _<_}
+use mathlib.Core.List.{List, []}
+use Prim.Native.Nat.{ℕ, _+_, _*_, _<_}
 use native.Mathlib.Omega.{arith}
 use lib.Dec.{T}
-use Rattle.card.specs.Card.{tolerated, quorum, amplify, deliver}
+use Rattle.card.specs.Card.{tolerated, amplify, deliver}
 use Rattle.card.specs.Count.{count}
 use Rattle.card.proofs.Counting.{count-not}
 use Rattle.card.proofs.Overlap.{quorum-more, rest-quorum, rest-deliver, tolerated-third}
-use Rattle.protocol.specs.Entry.{Decl, SEND, ECHO, READY}
-use Rattle.protocol.specs.Run.{Wall, State, Step, right, h, start, run, isBetween, copiesOf, Drained}
-use Rattle.protocol.specs.Thresholds.{rulesOf, wallOf, AtMost, Thresholds, Tolerated}
-use Rattle.protocol.specs.Claims.{Bounded, Agreed, Complete, Delivered, Published, Everywhere, Season, Claims}
+use Rattle.protocol.specs.Entry.{Decl, SEND}
+use Rattle.protocol.specs.Run.{n, Wall, State, Step, right, h, start, run, isBetween, copiesOf, Drained}
+use Rattle.protocol.specs.Thresholds.{rulesOf, wallOf, AtMost, Tolerated}
+use Rattle.protocol.specs.Claims.{Agreed, Complete, Delivered, Published, Everywhere, Season, Claims}
 use Rattle.protocol.proofs.Basics.{none-some}
 use Rattle.protocol.proofs.Moves.{listOf}
 use Rattle.protocol.proofs.Calls.{alone}
@@ -50,7 +50,7 @@ module _ (B : Wall) (j c t : ℕ) (s : State) (I : Inv B j c (view j c s)) (Y : 
     followed q x e = delivered-ready-up B t (right B) Y (λ p y. y) j c v I K D q x (delivered-is q x e)
 
     costs : (F Q : ℕ → Bool) → ((p : ℕ) → T (right B p) → T (F p)) → T (right B j) → (x : Decl) → Published B j c s x
-        → copiesOf j c (λ m. F (m .from) && Q (m .to)) (s .mail) ≡ count Q (B .rules .n) + 2 * (h B * count Q (B .rules .n))
+        → copiesOf j c (λ m. F (m .from) && Q (m .to)) (s .mail) ≡ count Q (n B) + 2 * (h B * count Q (n B))
     costs F Q f g x e =
         cost-is B j c v I F Q x f g (published-is x e) (reach B t (right B) Y (λ p y. y) j c v I K D j SEND x (published-is x e)) (ready g x e)
 
@@ -58,7 +58,7 @@ module _ (B : Wall) (j c t : ℕ) (s : State) (I : Inv B j c (view j c s)) (Y : 
     complete =
         record {
           equal = λ g r y. equal′ g r y (v .house j .published) refl;
-          cost = λ g x e. rw (count-all (B .rules .n)) at (costs (λ p. true) (λ q. true) (λ p y. tt) g x e);
+          cost = λ g x e. rw (count-all (n B)) at (costs (λ p. true) (λ q. true) (λ p y. tt) g x e);
           cost-between = costs (right B) (right B) (λ p y. y);
           all = λ q x e r y. noted r x (ready-delivered B t (right B) Y (λ p y. y) j c v I K D x (followed q x e) r y);
           all-readies = λ q x e. readies-are B j c v I x (followed q x e);

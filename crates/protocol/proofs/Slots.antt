@@ -1,14 +1,14 @@
 -- Slots only ever fill: what stands in a slot stays, whatever calls come and in any state.
 -- Assumes nothing.
-use mathlib.Core.Path.{_≡_, refl, subst, sym}
+use mathlib.Core.Path.{_≡_, refl}
 use mathlib.Core.Bool.{Bool, true, false, not, cond, _&&_}
 use mathlib.Core.Option.{Option, none, some}
 use mathlib.Core.List.{List, [], _∷_}
 use Prim.Native.Nat.{ℕ}
-use lib.Dec.{T, eqb, eqb→eq}
-use Rattle.protocol.specs.Entry.{Entry, upd}
-use Rattle.protocol.specs.Book.{Each, is, place, Call, publishing, receiving, senderOf, numberOf, outcome, after}
-use Rattle.protocol.specs.Run.{Wall, Copy, Given, State, Step, publish, consume, wrong, right, at, use-at, opens, called, consumes, step, run}
+use lib.Dec.{eqb, eqb→eq}
+use Rattle.protocol.specs.Book.{PerEntry, sameEntry, place, Call, publishing, receiving, senderOf, numberOf, outcome, after}
+use Rattle.protocol.specs.Run.{Wall, Copy, State, Step, publish, consume, wrong, right, at, consumeAt, opens, called, consumes, step}
+use Rattle.protocol.specs.Run.{run}
 use Rattle.protocol.specs.Claims.{Filled}
 use Rattle.protocol.proofs.Basics.{T-of, and-l, and-r, upd-all}
 use Rattle.protocol.proofs.Moves.{filled-refl, filled-trans}
@@ -18,10 +18,10 @@ use Rattle.protocol.proofs.Calls.{outcome-done}
 abbrev Fills : State → State → Type 0
 Fills s s₂ = (r j c : ℕ) → Filled (s .gave .books r j c) (s₂ .gave .books r j c)
 
-place-all : {A : Type 0} (Φ : A → A → Type 0) (b : Each A) (j c : ℕ) (x : A) → ((y : A) → Φ y y) → Φ (b j c) x → (j₂ c₂ : ℕ) → Φ (b j₂ c₂) (place b j c x j₂ c₂)
-place-all {A = A} Φ b j c x f g j₂ c₂ = go (is j c j₂ c₂) refl
+place-all : {A : Type 0} (Φ : A → A → Type 0) (b : PerEntry A) (j c : ℕ) (x : A) → ((y : A) → Φ y y) → Φ (b j c) x → (j₂ c₂ : ℕ) → Φ (b j₂ c₂) (place b j c x j₂ c₂)
+place-all {A = A} Φ b j c x f g j₂ c₂ = go (sameEntry j c j₂ c₂) refl
   where
-    go : (y : Bool) → is j c j₂ c₂ ≡ y → Φ (b j₂ c₂) (cond y x (b j₂ c₂))
+    go : (y : Bool) → sameEntry j c j₂ c₂ ≡ y → Φ (b j₂ c₂) (cond y x (b j₂ c₂))
     go true t =
         rw (eqb→eq j₂ j (and-l (eqb j₂ j) (eqb c₂ c) (T-of t)), eqb→eq c₂ c (and-r (eqb j₂ j) (eqb c₂ c) (T-of t))) g
     go false t = f (b j₂ c₂)
@@ -46,7 +46,7 @@ module _ (B : Wall) where
     where
       go : (x : Option Copy) → Fills s (consumes B i x s)
       go none = λ r j c. filled-refl (s .gave .books r j c)
-      go (some m) = if-fills (right B (m .to) && not (m .consumed)) s _ (called-fills (m .to) (opens m) s (use-at (s .mail) i))
+      go (some m) = if-fills (right B (m .to) && not (m .consumed)) s _ (called-fills (m .to) (opens m) s (consumeAt (s .mail) i))
   step-fills (wrong p r k j c v) s = if-fills (right B r && not (right B p)) s _ (called-fills r (receiving p k j c v) s (s .mail))
 
   pub run-fills : (l : List Step) (s : State) → Fills s (run B l s)

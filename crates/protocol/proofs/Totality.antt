@@ -3,8 +3,7 @@
 -- Assumes nothing.
 use mathlib.Core.Path.{_≡_, refl, sym, ap, _∙_}
 use mathlib.Core.Bool.{Bool, true, false, not, _&&_}
-use mathlib.Core.Option.{Option, none, some, Option·some-injective}
-use mathlib.Core.List.{List, [], _∷_}
+use mathlib.Core.Option.{Option, none, some}
 use Prim.Native.Nat.{ℕ, _+_, _*_, _≤_, _<_}
 use native.Mathlib.Nat.{mul-le-mul-left}
 use native.Mathlib.Omega.{arith}
@@ -12,16 +11,16 @@ use lib.Dec.{T, eqb, ltb, eqb→eq, eqb-refl, ltb→lt}
 use Rattle.card.specs.Count.{bit, count}
 use Rattle.card.proofs.Counting.{count-mono, count-and, count-not, count-pos}
 use Rattle.protocol.specs.Entry.{Decl, Kind, SEND, ECHO, READY, heard, own, isKind, isSome, holds, votes}
-use Rattle.protocol.specs.Run.{Wall, Copy, right, h, tally, onIt, copiesOf}
-use Rattle.protocol.specs.Thresholds.{Thresholds, Tolerated}
-use Rattle.protocol.proofs.Basics.{bcase, T-of, and-l, and-r, and-mk, holds-eq, eq-holds, some-of, isSome-of}
+use Rattle.protocol.specs.Run.{n, Wall, Copy, right, h, onIt, copiesOf}
+use Rattle.protocol.specs.Thresholds.{Tolerated}
+use Rattle.protocol.proofs.Basics.{and-l, and-r, and-mk, holds-eq, eq-holds, some-of, isSome-of}
 use Rattle.protocol.proofs.Mail.{tally-mono, tally-same, copies-split}
 use Rattle.protocol.proofs.Invariant.{View, Inv, way}
 use Rattle.protocol.proofs.Agreement.{Backed, deliver-ready-agree, ready-authentic}
 use Rattle.protocol.proofs.Bound.{count-all, gave, sent-kinds, gave-le, gave-send}
 
-below : (B : Wall) (p : ℕ) → T (right B p) → p < B .rules .n
-below B p g = ltb→lt p (B .rules .n) (and-l (ltb p (B .rules .n)) (B .honest p) g)
+below : (B : Wall) (p : ℕ) → T (right B p) → p < n B
+below B p g = ltb→lt p (n B) (and-l (ltb p (n B)) (B .honest p) g)
 
 module _ (B : Wall) (t : ℕ) (up : ℕ → Bool) (Y : Tolerated B t up) (within : (p : ℕ) → T (up p) → T (right B p)) where
   module _ (j c : ℕ) (s : View) (I : Inv B j c s) (K : Backed B (s .house))
@@ -38,8 +37,8 @@ module _ (B : Wall) (t : ℕ) (up : ℕ → Bool) (Y : Tolerated B t up) (within
           tally-mono (λ m. onIt j c m && (way k (eqb p) (eqb r) m && not (m .consumed)))
               (λ m. onIt j c m && ((right B (m .from) && up (m .to)) && not (m .consumed))) (s .mail) (unread (o .0)),
           drained,
-          count-pos (eqb r) (B .rules .n) r (below B r (within r g)) (eqb-refl r),
-          mul-le-mul-left (count (eqb r) (B .rules .n)) (count-pos (λ q. eqb p q && isSome (own k (s .house q))) (B .rules .n) p (below B p (o .0))
+          count-pos (eqb r) (n B) r (below B r (within r g)) (eqb-refl r),
+          mul-le-mul-left (count (eqb r) (n B)) (count-pos (λ q. eqb p q && isSome (own k (s .house q))) (n B) p (below B p (o .0))
               (and-mk (eqb p p) _ (eqb-refl p) (isSome-of (own k (s .house p)) v e))),
         ))) in
         w .1 ∙ (sym (I .given r k p (w .0) (w .1) (o .2) (o .0)) ∙ e)
@@ -60,9 +59,9 @@ module _ (B : Wall) (t : ℕ) (up : ℕ → Bool) (Y : Tolerated B t up) (within
 
     -- what all that take part gave, each of them heard from that many
     heard-up : (k : Kind) (v : Decl) → ((p : ℕ) → T (up p) → own k (s .house p) ≡ some v) → (r : ℕ) → T (up r)
-        → count up (B .rules .n) ≤ count (λ p. holds (heard k p (s .house r)) v) (B .rules .n)
+        → count up (n B) ≤ count (λ p. holds (heard k p (s .house r)) v) (n B)
     heard-up k v f r g =
-        count-mono up (λ p. holds (heard k p (s .house r)) v) (B .rules .n) (λ p l x. eq-holds (heard k p (s .house r)) v (reach p k v (f p x) r g))
+        count-mono up (λ p. holds (heard k p (s .house r)) v) (n B) (λ p l x. eq-holds (heard k p (s .house r)) v (reach p k v (f p x) r g))
 
     -- an honest sender's publication: all that take part give a READY of it
     pub published-ready : T (right B j) → (v : Decl) → s .house j .published ≡ some v → (r : ℕ) → T (up r) → s .house r .readySent ≡ some v
@@ -80,16 +79,16 @@ module _ (B : Wall) (t : ℕ) (up : ℕ → Bool) (Y : Tolerated B t up) (within
         both : ℕ → Bool
         both p = holds (s .house q .ready p) v && right B p
 
-        enough : B .rules .amplify ≤ votes (s .house r .ready) v (B .rules .n)
+        enough : B .rules .amplify ≤ votes (s .house r .ready) v (n B)
         enough =
             omega (
               arith,
-              count-and (λ p. holds (s .house q .ready p) v) (right B) (B .rules .n),
-              count-not (right B) (B .rules .n),
+              count-and (λ p. holds (s .house q .ready p) v) (right B) (n B),
+              count-not (right B) (n B),
               I .local q .delivery-backed v e,
               Y .few,
               Y .thresholds .delivered,
-              count-mono both (λ p. holds (s .house r .ready p) v) (B .rules .n)
+              count-mono both (λ p. holds (s .house r .ready p) v) (n B)
                   (λ p l y. eq-holds (s .house r .ready p) v (reach p READY v
                   (I .given q READY p v (holds-eq (s .house q .ready p) v (and-l (holds (s .house q .ready p) v) (right B p) y)) tt (and-r (holds (s .house q .ready p) v) (right B p) y)) r x)),
             )
@@ -108,30 +107,30 @@ module _ (B : Wall) (j c : ℕ) (s : View) (I : Inv B j c s) where
       omega (
         arith,
         gave-le B j c s I k F,
-        count-mono (right B) (λ p. F p && isSome (own k (s .house p))) (B .rules .n)
+        count-mono (right B) (λ p. F p && isSome (own k (s .house p))) (n B)
             (λ p l x. and-mk (F p) _ (f p x) (isSome-of (own k (s .house p)) v (g p x))),
       )
 
   -- the sender's message and two of each honest house, to each house that passes Q
   pub cost-is : (F Q : ℕ → Bool) (v : Decl) → ((p : ℕ) → T (right B p) → T (F p)) → T (right B j) → s .house j .published ≡ some v
       → ((p : ℕ) → T (right B p) → s .house p .send ≡ some v) → ((p : ℕ) → T (right B p) → s .house p .readySent ≡ some v)
-      → copiesOf j c (λ m. F (m .from) && Q (m .to)) (s .mail) ≡ count Q (B .rules .n) + 2 * (h B * count Q (B .rules .n))
+      → copiesOf j c (λ m. F (m .from) && Q (m .to)) (s .mail) ≡ count Q (n B) + 2 * (h B * count Q (n B))
   cost-is F Q v f g e echo ready =
       let one : gave B j c s I SEND F ≡ 1 = omega (
         arith,
         gave-send B j c s I F,
-        count-pos (λ p. F p && isSome (own SEND (s .house p))) (B .rules .n) j (below B j g)
+        count-pos (λ p. F p && isSome (own SEND (s .house p))) (n B) j (below B j g)
             (and-mk (F j) _ (f j g) (isSome-of (s .house j .published) v e)),
       ) in
       sent-kinds B j c s I F Q ∙ rw (one, gave-all ECHO F v f echo, gave-all READY F v f ready) (omega arith)
 
   -- a READY of each honest house, to all
   pub readies-are : (v : Decl) → ((p : ℕ) → T (right B p) → s .house p .readySent ≡ some v)
-      → copiesOf j c (λ m. isKind READY (m .kind)) (s .mail) ≡ h B * B .rules .n
+      → copiesOf j c (λ m. isKind READY (m .kind)) (s .mail) ≡ h B * n B
   readies-are v ready =
       let e : copiesOf j c (λ m. isKind READY (m .kind)) (s .mail) ≡ copiesOf j c (way READY (λ p. true) (λ q. true)) (s .mail) =
       tally-same _ _ (s .mail) (λ m. ap (λ (b : Bool). onIt j c m && b) (sym (and-true (isKind READY (m .kind))))) in
-      e ∙ I .sent READY (λ p. true) (λ q. true) ∙ rw (count-all (B .rules .n), gave-all READY (λ p. true) v (λ p x. tt) ready) (omega arith)
+      e ∙ I .sent READY (λ p. true) (λ q. true) ∙ rw (count-all (n B), gave-all READY (λ p. true) v (λ p x. tt) ready) (omega arith)
     where
       and-true : (b : Bool) → (b && true) ≡ b
       and-true true = refl

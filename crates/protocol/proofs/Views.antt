@@ -1,27 +1,20 @@
 -- What one entry sees of a call: its own change where the call names it, and nothing but other entries' copies where not.
 -- Assumes nothing.
-use mathlib.Core.Path.{_≡_, refl, sym, ap, subst, _∙_, fun-ext}
-use mathlib.Core.Bool.{Bool, true, false, not, cond, _&&_}
-use mathlib.Core.Logic.{_⊎_, inl, inr, ⊎-elim}
+use mathlib.Core.Path.{_≡_, refl, subst, _∙_, fun-ext}
+use mathlib.Core.Bool.{Bool, true, false, cond, _&&_}
 use mathlib.Core.Option.{Option, none, some}
-use mathlib.Core.List.{List, [], _∷_, _++_}
-use Prim.Native.Nat.{ℕ, zero, suc, _+_, _*_, _≤_, _<_}
-use native.Mathlib.Nat.{mul-le-mul-left}
-use native.Mathlib.Omega.{arith}
-use lib.Dec.{T, T-not, eqb, ltb, eqb→eq, eqb-refl}
-use Rattle.card.specs.Count.{bit, count}
-use Rattle.card.proofs.Counting.{count-none, count-one}
-use Rattle.protocol.specs.Entry.{Decl, Kind, Entry, Rules, fresh, heard, own, isKind, isSome, holds, upd}
-use Rattle.protocol.specs.Steps.{Say, say, Out, refused, may, receive}
-use Rattle.protocol.specs.Book.{Each, is, place, Call, publishing, receiving, inBook, senderOf, numberOf, onEntry, outcome, after, publication}
-use Rattle.protocol.specs.Run.{Wall, Copy, Given, State, Step, publish, consume, wrong, right, start, at, used, use-at, posted, push, opens}
-use Rattle.protocol.specs.Run.{called, consumes, step, run, tally, onIt, copiesOf}
-use Rattle.protocol.proofs.Basics.{bcase, T-of, T-not-of, true-of, false-of, not-of, and-l, and-r, and-mk, and-false, both, isKind-eq, isKind-refl}
-use Rattle.protocol.proofs.Basics.{some-of, isSome-of, holds-eq, none-some, upd-all, upd-same}
-use Rattle.protocol.proofs.Moves.{Local, Moves, filled-heard, listOf}
-use Rattle.protocol.proofs.Calls.{Brings, Done, outcome-done, outcome-booked, receive-taken}
-use Rattle.protocol.proofs.Mail.{tally-append, tally-toAll, tally-at, tally-use, copies-split}
-use Rattle.protocol.proofs.Invariant.{View, Inv, Act, way, true-to, is-refl, acted, act-inv, else-inv}
+use mathlib.Core.List.{List, _++_}
+use Prim.Native.Nat.{ℕ}
+use lib.Dec.{T, eqb, eqb→eq}
+use Rattle.card.proofs.Counting.{count-none}
+use Rattle.protocol.specs.Entry.{upd}
+use Rattle.protocol.specs.Steps.{Say, say, Out}
+use Rattle.protocol.specs.Book.{PerEntry, sameEntry, place, Call, inBook, senderOf, numberOf, outcome, after, publication}
+use Rattle.protocol.specs.Run.{n, Wall, Copy, State, posted, push, called, onIt, copiesOf}
+use Rattle.protocol.proofs.Basics.{T-of, true-of}
+use Rattle.protocol.proofs.Calls.{Done, outcome-done, outcome-booked}
+use Rattle.protocol.proofs.Mail.{tally-toAll}
+use Rattle.protocol.proofs.Invariant.{View, is-refl, acted}
 
 abbrev pub view : ℕ → ℕ → State → View
 view j c s =
@@ -33,14 +26,14 @@ view j c s =
     }
 
 -- one place of one house's book is changed, as the entry there sees it, and as another does
-upd-here : {A : Type 0} (f : ℕ → Each A) (r j c : ℕ) (x : A) → _≡_ {A = ℕ → A} (λ q. upd f r (place (f r) j c x) q j c) (upd (λ q. f q j c) r x)
+upd-here : {A : Type 0} (f : ℕ → PerEntry A) (r j c : ℕ) (x : A) → _≡_ {A = ℕ → A} (λ q. upd f r (place (f r) j c x) q j c) (upd (λ q. f q j c) r x)
 upd-here {A = A} f r j c x = fun-ext λ q. go q (eqb q r)
   where
     go : (q : ℕ) (b : Bool) → cond b (place (f r) j c x) (f q) j c ≡ cond b x (f q j c)
-    go q true = rw (true-of (is j c j c) (is-refl j c))
+    go q true = rw (true-of (sameEntry j c j c) (is-refl j c))
     go q false = refl
 
-upd-elsewhere : {A : Type 0} (f : ℕ → Each A) (r j₂ c₂ : ℕ) (x : A) (j c : ℕ) → is j₂ c₂ j c ≡ false
+upd-elsewhere : {A : Type 0} (f : ℕ → PerEntry A) (r j₂ c₂ : ℕ) (x : A) (j c : ℕ) → sameEntry j₂ c₂ j c ≡ false
     → _≡_ {A = ℕ → A} (λ q. upd f r (place (f r) j₂ c₂ x) q j c) (λ q. f q j c)
 upd-elsewhere {A = A} f r j₂ c₂ x j c e = fun-ext λ q. go q (eqb q r) refl
   where
@@ -49,7 +42,7 @@ upd-elsewhere {A = A} f r j₂ c₂ x j c e = fun-ext λ q. go q (eqb q r) refl
     go q false t = refl
 
 module _ (B : Wall) (j c : ℕ) where
-  pub posted-elsewhere : (j₂ c₂ r : ℕ) (x : Option Say) (n : ℕ) (P : Copy → Bool) → is j₂ c₂ j c ≡ false → copiesOf j c P (posted j₂ c₂ r x n) ≡ 0
+  pub posted-elsewhere : (j₂ c₂ r : ℕ) (x : Option Say) (n : ℕ) (P : Copy → Bool) → sameEntry j₂ c₂ j c ≡ false → copiesOf j c P (posted j₂ c₂ r x n) ≡ 0
   posted-elsewhere j₂ c₂ r none n P e = refl
   posted-elsewhere j₂ c₂ r (some (say k v)) n P e =
       tally-toAll (λ m. onIt j c m && P m) j₂ c₂ r k v n ∙ count-none _ n (λ q h. rw e)
@@ -67,19 +60,19 @@ module _ (B : Wall) (j c : ℕ) where
           house = upd-here (s .gave .books) r (senderOf r a) (numberOf a) (out .entry) i;
           deliveries = upd-here (s .gave .deliveries) r (senderOf r a) (numberOf a) (push (out .delivery) (s .gave .deliveries r (senderOf r a) (numberOf a))) i;
           publications = upd-here (s .gave .publications) r (senderOf r a) (numberOf a) (push (publication a (out .answer)) (s .gave .publications r (senderOf r a) (numberOf a))) i;
-          mail = mail ++ posted (senderOf r a) (numberOf a) r (out .message) (B .rules .n);
+          mail = mail ++ posted (senderOf r a) (numberOf a) r (out .message) (n B);
         }))
 
-    pub view-elsewhere : is (senderOf r a) (numberOf a) j c ≡ false
+    pub view-elsewhere : sameEntry (senderOf r a) (numberOf a) j c ≡ false
         → view j c (called B r a (s .gave) mail)
-        ≡ record { house = λ q. s .gave .books q j c; deliveries = λ q. s .gave .deliveries q j c; publications = λ q. s .gave .publications q j c; mail = mail ++ posted (senderOf r a) (numberOf a) r (out .message) (B .rules .n) }
+        ≡ record { house = λ q. s .gave .books q j c; deliveries = λ q. s .gave .deliveries q j c; publications = λ q. s .gave .publications q j c; mail = mail ++ posted (senderOf r a) (numberOf a) r (out .message) (n B) }
     unfolding called after
     view-elsewhere e =
         λ i. record {
           house = upd-elsewhere (s .gave .books) r (senderOf r a) (numberOf a) (out .entry) j c e i;
           deliveries = upd-elsewhere (s .gave .deliveries) r (senderOf r a) (numberOf a) (push (out .delivery) (s .gave .deliveries r (senderOf r a) (numberOf a))) j c e i;
           publications = upd-elsewhere (s .gave .publications) r (senderOf r a) (numberOf a) (push (publication a (out .answer)) (s .gave .publications r (senderOf r a) (numberOf a))) j c e i;
-          mail = mail ++ posted (senderOf r a) (numberOf a) r (out .message) (B .rules .n);
+          mail = mail ++ posted (senderOf r a) (numberOf a) r (out .message) (n B);
         }
 
     pub done-here : senderOf r a ≡ j → numberOf a ≡ c → Done (B .rules) j r a (s .gave .books r j c) out

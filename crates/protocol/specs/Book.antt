@@ -1,23 +1,26 @@
 -- A book of entries and the calls on it. A call names one entry.
 -- Assumes nothing.
-use mathlib.Core.Path.{_≡_}
-use mathlib.Core.Bool.{Bool, false, cond, _&&_}
+use mathlib.Core.Bool.{Bool, cond, _&&_}
 use mathlib.Core.Option.{Option, none, some}
 use Prim.Native.Nat.{ℕ, zero, suc}
 use lib.Dec.{eqb, ltb}
 use Rattle.protocol.specs.Entry.{Decl, Kind, Entry, Rules}
 use Rattle.protocol.specs.Steps.{Out, refused, receive, publish}
 
--- A book has one entry for each sender and number.
-abbrev pub Each : Type 0 → Type 0
-Each A = ℕ → ℕ → A
+-- one for each sender and number
+abbrev pub PerEntry : Type 0 → Type 0
+PerEntry A = ℕ → ℕ → A
 
-abbrev pub is : ℕ → ℕ → ℕ → ℕ → Bool
-is j c j₂ c₂ = eqb j₂ j && eqb c₂ c
+-- A book has one entry for each sender and number.
+abbrev pub Book : Type 0
+Book = PerEntry Entry
+
+abbrev pub sameEntry : (sender number sender₂ number₂ : ℕ) → Bool
+sameEntry j c j₂ c₂ = eqb j₂ j && eqb c₂ c
 
 -- b with x at sender j and number c
-abbrev pub place : {A : Type 0} → Each A → ℕ → ℕ → A → Each A
-place b j c x j₂ c₂ = cond (is j c j₂ c₂) x (b j₂ c₂)
+abbrev pub place : {A : Type 0} → PerEntry A → ℕ → ℕ → A → PerEntry A
+place b j c x j₂ c₂ = cond (sameEntry j c j₂ c₂) x (b j₂ c₂)
 
 abbrev pub inBook : Rules → ℕ → ℕ → ℕ → Bool
 inBook R numbers j c = ltb j (R .n) && ltb c numbers
@@ -41,14 +44,14 @@ onEntry R (publishing c v) j e = publish R v e
 onEntry R (receiving p k j₂ c v) j e = receive R j p k v e
 
 -- 4: sender or entry number not in the book
-unfoldable pub outcome : Rules → (numbers own : ℕ) → Call → Each Entry → Out
+unfoldable pub outcome : Rules → (numbers own : ℕ) → Call → Book → Out
 outcome R S own a b =
     let j : ℕ = senderOf own a in
     let c : ℕ = numberOf a in
     cond (inBook R S j c) (onEntry R a j (b j c)) (refused 4 (b j c))
 
 -- the book after the call
-unfoldable pub after : Rules → (numbers own : ℕ) → Call → Each Entry → Each Entry
+unfoldable pub after : Rules → (numbers own : ℕ) → Call → Book → Book
 after R S own a b = place b (senderOf own a) (numberOf a) (outcome R S own a b .entry)
 
 -- the declaration of an accepted publication

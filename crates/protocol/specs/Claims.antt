@@ -1,7 +1,7 @@
 -- What is claimed of every run, of the entry of sender j and number c, in document 01's order.
 -- Assumes nothing.
 use mathlib.Core.Path.{_≡_}
-use mathlib.Core.Bool.{Bool, true, false, not}
+use mathlib.Core.Bool.{Bool, false}
 use mathlib.Core.Option.{Option, some}
 use mathlib.Core.List.{List, [], _∷_}
 use Prim.Native.Nat.{ℕ, _+_, _*_, _≤_, _<_}
@@ -9,19 +9,18 @@ use lib.Dec.{T}
 use lib.ListN.{length}
 use Rattle.card.specs.Card.{tolerated}
 use Rattle.protocol.specs.Entry.{Decl, Entry, Rules}
-use Rattle.protocol.specs.Steps.{Out}
-use Rattle.protocol.specs.Book.{Each, is, Call, senderOf, numberOf, outcome, after}
-use Rattle.protocol.specs.Run.{Wall, Copy, State, Step, right, h, start, run, at, opens}
-use Rattle.protocol.specs.Run.{onIt, copies, readies, between, consumed-between, Drained}
+use Rattle.protocol.specs.Book.{Book, sameEntry, Call, senderOf, numberOf, outcome, after}
+use Rattle.protocol.specs.Run.{n, Wall, Copy, State, Step, right, h, start, run, at, opens, onIt, copies, readies, between}
+use Rattle.protocol.specs.Run.{consumedBetween, Drained}
 use Rattle.protocol.specs.Thresholds.{wallOf, AtMost, Tolerated}
 
 -- An accepted publication or message changes the named entry alone. Two books that agree on one entry give the same answer, message
 -- and delivery to any call that names that entry, and end agreeing on it, whatever the other entries hold.
 pub record Alone (R : Rules) (numbers own : ℕ) (a : Call) : Type 0 where
-  pub others : (b : Each Entry) (j c : ℕ) → is (senderOf own a) (numberOf a) j c ≡ false → after R numbers own a b j c ≡ b j c
-  pub same : (b b₂ : Each Entry) → b (senderOf own a) (numberOf a) ≡ b₂ (senderOf own a) (numberOf a)
+  pub others : (b : Book) (j c : ℕ) → sameEntry (senderOf own a) (numberOf a) j c ≡ false → after R numbers own a b j c ≡ b j c
+  pub same : (b b₂ : Book) → b (senderOf own a) (numberOf a) ≡ b₂ (senderOf own a) (numberOf a)
       → outcome R numbers own a b ≡ outcome R numbers own a b₂
-  pub agreeing : (b b₂ : Each Entry) → b (senderOf own a) (numberOf a) ≡ b₂ (senderOf own a) (numberOf a)
+  pub agreeing : (b b₂ : Book) → b (senderOf own a) (numberOf a) ≡ b₂ (senderOf own a) (numberOf a)
       → after R numbers own a b (senderOf own a) (numberOf a) ≡ after R numbers own a b₂ (senderOf own a) (numberOf a)
 
 -- what stands in a slot stays
@@ -53,7 +52,7 @@ module _ (B : Wall) (j c : ℕ) where
   -- with any number of wrong houses
   pub record Bounded (s : State) : Type 0 where
     -- In any order of calls the honest houses send at most n + 2hn messages on one entry,
-    pub bound : copies B j c s ≤ B .rules .n + 2 * (h B * B .rules .n)
+    pub bound : copies B j c s ≤ n B + 2 * (h B * n B)
     -- and of these at most h + 2h^2 between honest houses.
     pub bound-between : between B j c s ≤ h B + 2 * (h B * h B)
     -- At most one delivery per entry at each single house.
@@ -74,20 +73,20 @@ module _ (B : Wall) (j c : ℕ) where
     pub authentic : T (right B j) → (r : ℕ) (v : Decl) → Delivered s r v → Published s v
     -- An accepted publication by an honest sender is delivered at every honest house by the time its h + 2h^2 copies between honest
     -- houses are consumed.
-    pub by-count : T (right B j) → (v : Decl) → Published s v → consumed-between B j c s ≡ h B + 2 * (h B * h B) → Everywhere s v
+    pub by-count : T (right B j) → (v : Decl) → Published s v → consumedBetween B j c s ≡ h B + 2 * (h B * h B) → Everywhere s v
 
   -- and once every copy of this entry between honest houses is consumed
   pub record Complete (s : State) : Type 0 where
     -- what an honest sender published is what each honest house delivered: none for none,
     pub equal : T (right B j) → (r : ℕ) → T (right B r) → s .gave .deliveries r j c ≡ s .gave .publications j j c
     -- and an entry an honest sender published cost exactly n + 2hn,
-    pub cost : T (right B j) → (v : Decl) → Published s v → copies B j c s ≡ B .rules .n + 2 * (h B * B .rules .n)
+    pub cost : T (right B j) → (v : Decl) → Published s v → copies B j c s ≡ n B + 2 * (h B * n B)
     -- h + 2h^2 of them between honest houses;
     pub cost-between : T (right B j) → (v : Decl) → Published s v → between B j c s ≡ h B + 2 * (h B * h B)
     -- an entry that one honest house delivered is delivered by all,
     pub all : (q : ℕ) (v : Decl) → Delivered s q v → Everywhere s v
     -- at exactly hn READY messages.
-    pub all-readies : (q : ℕ) (v : Decl) → Delivered s q v → readies B j c s ≡ h B * B .rules .n
+    pub all-readies : (q : ℕ) (v : Decl) → Delivered s q v → readies B j c s ≡ h B * n B
 
   -- in any order of calls; `Few` says that at most t houses are wrong
   pub record Season (Few : Type 0) (l : List Step) : Type 0 where

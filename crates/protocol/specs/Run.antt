@@ -5,11 +5,12 @@ use mathlib.Core.Bool.{Bool, true, false, not, cond, _&&_}
 use mathlib.Core.Option.{Option, none, some}
 use mathlib.Core.List.{List, [], _∷_, _++_}
 use Prim.Native.Nat.{ℕ, zero, suc, _+_}
-use lib.Dec.{T, ltb}
+use lib.Dec.{ltb}
 use Rattle.card.specs.Count.{bit, count}
-use Rattle.protocol.specs.Entry.{Decl, Kind, READY, Entry, Rules, fresh, isKind, upd}
+use Rattle.protocol.specs.Entry.{Decl, Kind, READY, Rules, fresh, isKind, upd}
 use Rattle.protocol.specs.Steps.{Say, say, Out}
-use Rattle.protocol.specs.Book.{Each, is, place, Call, publishing, receiving, senderOf, numberOf, outcome, after, publication}
+use Rattle.protocol.specs.Book.{PerEntry, Book, sameEntry, place, Call, publishing, receiving, senderOf, numberOf, outcome, after}
+use Rattle.protocol.specs.Book.{publication}
 
 -- what the honest books have in common, and which houses are honest
 pub record Wall : Type 0 where
@@ -17,13 +18,17 @@ pub record Wall : Type 0 where
   pub numbers : ℕ
   pub honest : ℕ → Bool
 
+-- how many houses there are
+abbrev pub n : Wall → ℕ
+n B = B .rules .n
+
 -- an honest house: a number below n
 abbrev pub right : Wall → ℕ → Bool
-right B p = ltb p (B .rules .n) && B .honest p
+right B p = ltb p (n B) && B .honest p
 
 -- how many houses are honest
 abbrev pub h : Wall → ℕ
-h B = count (right B) (B .rules .n)
+h B = count (right B) (n B)
 
 -- one copy of a message that an honest house gave, and whether it was consumed
 pub record Copy : Type 0 where
@@ -37,9 +42,9 @@ pub record Copy : Type 0 where
 
 -- what calls gave, by house, sender and number: the books, the deliveries made, the publications accepted
 pub record Given : Type 0 where
-  pub books : ℕ → Each Entry
-  pub deliveries : ℕ → Each (List Decl)
-  pub publications : ℕ → Each (List Decl)
+  pub books : ℕ → Book
+  pub deliveries : ℕ → PerEntry (List Decl)
+  pub publications : ℕ → PerEntry (List Decl)
 
 pub record State : Type 0 where
   pub gave : Given
@@ -79,8 +84,8 @@ at [] i = none
 at (m ∷ l) zero = some m
 at (m ∷ l) (suc i) = at l i
 
-abbrev pub used : Copy → Copy
-used m =
+abbrev pub consumedCopy : Copy → Copy
+consumedCopy m =
     record {
       from = m .from;
       to = m .to;
@@ -91,17 +96,17 @@ used m =
       consumed = true;
     }
 
-abbrev pub use-at : List Copy → ℕ → List Copy
-use-at [] i = []
-use-at (m ∷ l) zero = used m ∷ l
-use-at (m ∷ l) (suc i) = m ∷ use-at l i
+abbrev pub consumeAt : List Copy → ℕ → List Copy
+consumeAt [] i = []
+consumeAt (m ∷ l) zero = consumedCopy m ∷ l
+consumeAt (m ∷ l) (suc i) = m ∷ consumeAt l i
 
 abbrev pub push : Option Decl → List Decl → List Decl
 push none l = l
 push (some v) l = v ∷ l
 
 -- one more declaration, or none, on house r's list for an entry
-abbrev pub noted : (ℕ → Each (List Decl)) → (house sender number : ℕ) → Option Decl → ℕ → Each (List Decl)
+abbrev pub noted : (ℕ → PerEntry (List Decl)) → (house sender number : ℕ) → Option Decl → ℕ → PerEntry (List Decl)
 noted f r j c x = upd f r (place (f r) j c (push x (f r j c)))
 
 -- house r makes a call; `mail` is the mail as the call finds it
@@ -116,7 +121,7 @@ called B r a g mail =
         deliveries = noted (g .deliveries) r j c (o .delivery);
         publications = noted (g .publications) r j c (publication a (o .answer));
       };
-      mail = mail ++ posted j c r (o .message) (B .rules .n);
+      mail = mail ++ posted j c r (o .message) (n B);
     }
 
 -- the call that consumes a copy
@@ -126,7 +131,7 @@ opens m = receiving (m .from) (m .kind) (m .sender) (m .number) (m .decl)
 unfoldable pub consumes : Wall → ℕ → Option Copy → State → State
 consumes B i none s = s
 consumes B i (some m) s =
-    cond (right B (m .to) && not (m .consumed)) (called B (m .to) (opens m) (s .gave) (use-at (s .mail) i)) s
+    cond (right B (m .to) && not (m .consumed)) (called B (m .to) (opens m) (s .gave) (consumeAt (s .mail) i)) s
 
 -- A step that is none of these changes nothing.
 unfoldable pub step : Wall → Step → State → State
@@ -146,7 +151,7 @@ tally P (m ∷ l) = bit (P m) + tally P l
 
 -- a copy on the entry of sender j and number c
 abbrev pub onIt : ℕ → ℕ → Copy → Bool
-onIt j c m = is (m .sender) (m .number) j c
+onIt j c m = sameEntry (m .sender) (m .number) j c
 
 -- how many copies of the entry pass a test
 abbrev pub copiesOf : ℕ → ℕ → (Copy → Bool) → List Copy → ℕ
@@ -166,8 +171,8 @@ module _ (B : Wall) (j c : ℕ) where
   abbrev pub between : State → ℕ
   between s = copiesOf j c isBetween (s .mail)
 
-  abbrev pub consumed-between : State → ℕ
-  consumed-between s = copiesOf j c (λ m. isBetween m && m .consumed) (s .mail)
+  abbrev pub consumedBetween : State → ℕ
+  consumedBetween s = copiesOf j c (λ m. isBetween m && m .consumed) (s .mail)
 
   -- every copy of this entry between honest houses is consumed; other entries may be in flight
   abbrev pub Drained : State → Type 0

@@ -40,8 +40,8 @@ mark true v o = some v
 mark false v o = o
 
 -- a message of the kind is recorded
-abbrev pub record-heard : Kind → ℕ → Decl → Entry → Entry
-record-heard SEND p v e =
+abbrev pub recorded : Kind → ℕ → Decl → Entry → Entry
+recorded SEND p v e =
     record {
       send = some v;
       echo = e .echo;
@@ -50,7 +50,7 @@ record-heard SEND p v e =
       delivered = e .delivered;
       published = e .published;
     }
-record-heard ECHO p v e =
+recorded ECHO p v e =
     record {
       send = e .send;
       echo = upd (e .echo) p (some v);
@@ -59,7 +59,7 @@ record-heard ECHO p v e =
       delivered = e .delivered;
       published = e .published;
     }
-record-heard READY p v e =
+recorded READY p v e =
     record {
       send = e .send;
       echo = e .echo;
@@ -105,13 +105,13 @@ publishes v e =
 -- An accepted SEND is recorded and gives an ECHO of it.
 unfoldable pub takesSend : ℕ → Decl → Entry → Out
 takesSend p v e =
-    record { answer = 0; entry = record-heard SEND p v e; message = some (say ECHO v); delivery = none }
+    record { answer = 0; entry = recorded SEND p v e; message = some (say ECHO v); delivery = none }
 
 -- An accepted ECHO of v is recorded. If ECHOes of v now number at least the quorum and no READY was sent on this entry, mark and give
 -- READY of v.
 unfoldable pub takesEcho : Rules → ℕ → Decl → Entry → Out
 takesEcho R p v e =
-    let now : Entry = record-heard ECHO p v e in
+    let now : Entry = recorded ECHO p v e in
     let b : Bool = reached (R .quorum) (now .readySent) (now .echo) v (R .n) in
     record { answer = 0; entry = marked b false v now; message = given b (say READY v); delivery = none }
 
@@ -119,7 +119,7 @@ takesEcho R p v e =
 -- number at least 2t+1 and nothing is delivered, mark and deliver v. Both may come of one call.
 unfoldable pub takesReady : Rules → ℕ → Decl → Entry → Out
 takesReady R p v e =
-    let now : Entry = record-heard READY p v e in
+    let now : Entry = recorded READY p v e in
     let b : Bool = reached (R .amplify) (now .readySent) (now .ready) v (R .n) in
     let d : Bool = reached (R .deliver) (now .delivered) (now .ready) v (R .n) in
     record { answer = 0; entry = marked b d v now; message = given b (say READY v); delivery = given d v }
