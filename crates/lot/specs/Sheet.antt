@@ -3,8 +3,8 @@
 use Prim.Native.Nat.{ℕ, _*_, _≤_}
 use mathlib.Core.Path.{_≡_}
 use mathlib.Core.Bool.{Bool, true, false, cond, not, _&&_}
-use lib.Dec.{leb}
-use lib.Ieee.{Float, nan, inf, fin, binary32, ofBits, le, lt}
+use lib.Dec.{T, leb}
+use lib.Ieee.{Float, nan, inf, fin, binary32, fits, ofBits, le, lt}
 use Rattle.lot.specs.declared.Gate.{Gate}
 use Rattle.lot.specs.declared.Gate.the-variants.{Open, AtMost, Between}
 use Rattle.lot.specs.declared.Sheet.{Sheet}
@@ -33,6 +33,12 @@ gateLegal (Between low high) = finite low && (finite high && not (lt high low))
 unfoldable pub sheetLegal : Sheet → Bool
 unfolding gateLegal
 sheetLegal s = gateLegal (s .moisture) && gateLegal (s .conductivity)
+
+-- each limit is a value of binary32, as every `f32` is
+abbrev pub GateFits : Gate → Type 0
+GateFits Open = Unit
+GateFits (AtMost high) = T (fits binary32 high)
+GateFits (Between low high) = T (fits binary32 low) × T (fits binary32 high)
 
 -- the two laboratory readings travel together as one record of floats
 abbrev pub readingsOf : Declaration → Readings

@@ -4,8 +4,8 @@ use Prim.Native.Nat.{ℕ, _+_, _^_, _<_}
 use mathlib.Core.Path.{_≡_, refl, sym, ap, ap₂, _∙_}
 use mathlib.Core.Bool.{Bool, true, false, cond, _&&_, and-eq-true-iff}
 use mathlib.Core.List.{List, _∷_, _++_}
-use lib.Dec.{T, eqb}
-use lib.Ieee.{Float, binary32, fits, ofBits, toBits}
+use lib.Dec.{eqb}
+use lib.Ieee.{Float, binary32, ofBits, toBits}
 use lib.Ieee.Bits.{ofBits-toBits, toBits-ofBits}
 use lib.ListN.{length, getD}
 use borrow.Author.Tests.{eqb-true}
@@ -18,18 +18,12 @@ use Rattle.lot.specs.declared.Sheet.{Sheet}
 use Rattle.sheet.specs.declared.Kept.{Kept}
 use Rattle.lot.specs.declared.Declaration.{Declaration}
 use Rattle.lot.specs.Declaration.{declarationAt, bytesOf}
-use Rattle.lot.specs.Sheet.{gateLegal, sheetLegal, plausible, judgedBy}
+use Rattle.lot.specs.Sheet.{GateFits, gateLegal, sheetLegal, plausible, judgedBy}
 use Rattle.sheet.specs.Kept.{keptOf, gateOf, keptForm, keptLegal, laid, sheetBytes, keptAt, sheetAt, sheetLegalAt, isSheet, judged}
 use Rattle.lot.proofs.Declared.{numbers-of-bytes}
 use Rattle.sheet.proofs.Gates.{no-nan, at-most-finite, low-finite, high-finite, sheet-sized}
 
 -- ---- a gate and the form in which it is kept
-
--- each limit is a value of binary32, as every `f32` is
-abbrev pub GateFits : Gate → Type 0
-GateFits Open = Unit
-GateFits (AtMost high) = T (fits binary32 high)
-GateFits (Between low high) = T (fits binary32 low) × T (fits binary32 high)
 
 gate-of-kept : (g : Gate) → GateFits g → gateOf (keptOf g) ≡ g
 unfolding gateOf

@@ -1,0 +1,110 @@
+-- What a book means, and the bytes that mean it.
+-- Assumes nothing.
+use Prim.Native.Nat.{ℕ, zero, suc}
+use mathlib.Core.Bool.{cond, _&&_}
+use mathlib.Core.List.{List, [], _∷_, _++_}
+use mathlib.Core.Option.{Option, none, some}
+use lib.Dec.{eqb, ltb}
+use lib.ListN.{getD}
+use Rattle.words.specs.Words.{be32, wordAt}
+use Rattle.lot.specs.declared.Sheet.{Sheet}
+use Rattle.sheet.specs.Kept.{sheetBytes, sheetAt}
+use Rattle.protocol.specs.Entry.{Decl, Entry, fresh}
+use Rattle.protocol.specs.Book.{PerEntry}
+use Rattle.meaning.specs.Slot.{slotBytes, slotAt}
+use Rattle.meaning.specs.Layout.{slotPlace, entrySlot, sendSlot, echoSlot, readySlot, readySentSlot, deliveredSlot}
+
+-- n, S, own number, season, sheet; and an entry for each sender and number
+pub record Meaning : Type 0 where
+  pub n : ℕ
+  pub numbers : ℕ
+  pub own : ℕ
+  pub season : ℕ
+  pub sheet : Sheet
+  pub entries : PerEntry Entry
+
+-- ---- from bytes to their meaning
+
+abbrev pub nOf : List ℕ → ℕ
+nOf b = getD b 0 0
+
+abbrev pub numbersOf : List ℕ → ℕ
+numbersOf b = getD b 1 0
+
+abbrev pub ownOf : List ℕ → ℕ
+ownOf b = getD b 2 0
+
+abbrev pub seasonOf : List ℕ → ℕ
+seasonOf b = wordAt b 3
+
+abbrev pub sheetPlace : ℕ
+sheetPlace = 7
+
+-- slot k of the book
+unfoldable pub slotOf : List ℕ → ℕ → Option Decl
+slotOf b k = slotAt b (slotPlace (nOf b) k)
+
+-- slot i of the entry of sender j and number c
+unfoldable pub slotIn : List ℕ → (sender number i : ℕ) → Option Decl
+unfolding slotOf
+slotIn b j c i = slotOf b (entrySlot (nOf b) (numbersOf b) c j i)
+
+-- a slot for each house below n
+abbrev pub forHouses : ℕ → (ℕ → Option Decl) → ℕ → Option Decl
+forHouses n f p = cond (ltb p n) (f p) none
+
+-- the entry of sender j and number c; what it published stands at the own sender alone
+unfoldable pub entryOf : List ℕ → (sender number : ℕ) → Entry
+unfolding slotIn
+entryOf b j c =
+    record {
+      send = slotIn b j c sendSlot;
+      echo = forHouses (nOf b) (λ p. slotIn b j c (echoSlot p));
+      ready = forHouses (nOf b) (λ p. slotIn b j c (readySlot (nOf b) p));
+      readySent = slotIn b j c (readySentSlot (nOf b));
+      delivered = slotIn b j c (deliveredSlot (nOf b));
+      published = cond (eqb j (ownOf b)) (slotOf b c) none;
+    }
+
+-- every entry in the book, and nothing outside
+unfoldable pub look : List ℕ → PerEntry Entry
+unfolding entryOf
+look b j c = cond (ltb j (nOf b) && ltb c (numbersOf b)) (entryOf b j c) fresh
+
+unfoldable pub meant : List ℕ → Meaning
+unfolding look
+meant b =
+    record {
+      n = nOf b;
+      numbers = numbersOf b;
+      own = ownOf b;
+      season = seasonOf b;
+      sheet = sheetAt b sheetPlace;
+      entries = look b;
+    }
+
+-- ---- from a meaning to its bytes
+
+-- the header's 29 bytes
+unfoldable pub head : (n numbers own season : ℕ) → Sheet → List ℕ
+head n s own season sheet = n ∷ s ∷ own ∷ be32 season ++ sheetBytes sheet
+
+-- f 0 to f (n - 1), one after the other
+unfoldable pub rows : ℕ → (ℕ → List ℕ) → List ℕ
+rows zero f = []
+rows (suc n) f = rows n f ++ f n
+
+-- a row of slots: SEND, an ECHO from each house, a READY from each house, READY sent, delivered
+unfoldable pub entryBytes : ℕ → Entry → List ℕ
+unfolding slotBytes rows
+entryBytes n e =
+    slotBytes (e .send)
+    ++ (rows n (λ p. slotBytes (e .echo p))
+    ++ (rows n (λ p. slotBytes (e .ready p)) ++ (slotBytes (e .readySent) ++ slotBytes (e .delivered))))
+
+unfoldable pub write : Meaning → List ℕ
+unfolding head rows slotBytes entryBytes
+write B =
+    head (B .n) (B .numbers) (B .own) (B .season) (B .sheet)
+    ++ (rows (B .numbers) (λ c. slotBytes (B .entries (B .own) c .published))
+    ++ rows (B .numbers) (λ c. rows (B .n) (λ j. entryBytes (B .n) (B .entries j c))))

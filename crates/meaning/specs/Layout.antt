@@ -1,0 +1,61 @@
+-- Where a book's parts lie: a header; what this house published, a slot for each number; then the entries, number first and then
+-- sender, each a row of slots: SEND, an ECHO from each house, a READY from each house, READY sent, delivered.
+-- Assumes nothing.
+use Prim.Native.Nat.{ℕ, _+_, _*_}
+use mathlib.Core.Bool.{Bool, _&&_}
+use lib.Dec.{leb}
+
+-- entry numbers S: 1 to 4 per sender
+unfoldable pub mostNumbers : ℕ
+mostNumbers = 4
+
+unfoldable pub numbersOk : ℕ → Bool
+unfolding mostNumbers
+numbersOk s = leb 1 s && leb s mostNumbers
+
+-- the header's bytes: n, S, own number, season (4), sheet (22)
+unfoldable pub headLength : ℕ → ℕ
+headLength n = 29
+
+abbrev pub slotLength : ℕ
+slotLength = 21
+
+-- the slots of an entry
+unfoldable pub perEntry : ℕ → ℕ
+perEntry n = 2 * n + 3
+
+-- the slots of a book
+unfoldable pub slotCount : ℕ → ℕ → ℕ
+unfolding perEntry
+slotCount n s = s + s * n * perEntry n
+
+-- a length that depends on n and S only
+unfoldable pub lengthOf : ℕ → ℕ → ℕ
+unfolding headLength slotCount
+lengthOf n s = headLength n + slotLength * slotCount n s
+
+-- where slot k of a book of n houses begins
+unfoldable pub slotPlace : ℕ → ℕ → ℕ
+unfolding headLength
+slotPlace n k = headLength n + slotLength * k
+
+-- slot i of the entry of number c and sender j, counted over the book
+unfoldable pub entrySlot : (n s c j i : ℕ) → ℕ
+unfolding perEntry
+entrySlot n s c j i = s + (c * n + j) * perEntry n + i
+
+-- within an entry
+abbrev pub sendSlot : ℕ
+sendSlot = 0
+
+abbrev pub echoSlot : ℕ → ℕ
+echoSlot p = 1 + p
+
+abbrev pub readySlot : ℕ → ℕ → ℕ
+readySlot n p = 1 + n + p
+
+abbrev pub readySentSlot : ℕ → ℕ
+readySentSlot n = 1 + 2 * n
+
+abbrev pub deliveredSlot : ℕ → ℕ
+deliveredSlot n = 2 + 2 * n

@@ -1,0 +1,76 @@
+-- Which bytes are a legal book, and which meanings a legal book has.
+-- Assumes nothing.
+use Prim.Native.Nat.{ℕ, zero, suc, _^_, _≤_, _<_}
+use mathlib.Core.Path.{_≡_}
+use mathlib.Core.Bool.{Bool, true, false, _&&_}
+use mathlib.Core.List.{List}
+use mathlib.Core.Option.{Option, none, some}
+use lib.Dec.{eqb, ltb}
+use lib.ListN.{length}
+use Rattle.card.specs.Card.{houses}
+use Rattle.words.specs.Words.{Bytes}
+use Rattle.lot.specs.Sheet.{GateFits, sheetLegal}
+use Rattle.sheet.specs.Kept.{sheetLegalAt}
+use Rattle.protocol.specs.Entry.{Decl, Entry, fresh}
+use Rattle.meaning.specs.Slot.{slotOk}
+use Rattle.meaning.specs.Layout.{numbersOk, slotCount, lengthOf, slotPlace}
+use Rattle.meaning.specs.Book.{Meaning, nOf, numbersOf, ownOf, sheetPlace}
+
+-- the first k slots of a book of n houses have one byte form per meaning
+unfoldable pub slotsOk : List ℕ → (n k : ℕ) → Bool
+unfolding slotOk slotPlace
+slotsOk b n zero = true
+slotsOk b n (suc k) = slotsOk b n k && slotOk b (slotPlace n k)
+
+-- A legal book has n, S and sheet as above, own number below n; nothing more is asked of its entries.
+unfoldable pub legal : List ℕ → Bool
+unfolding slotsOk
+legal b =
+    houses (nOf b) && (numbersOk (numbersOf b) && (ltb (ownOf b) (nOf b)
+    && (eqb (length b) (lengthOf (nOf b) (numbersOf b))
+    && (sheetLegalAt b sheetPlace && slotsOk b (nOf b) (slotCount (nOf b) (numbersOf b))))))
+
+-- the same, as facts
+pub record Legal (b : List ℕ) : Type 0 where
+  pub n : houses (nOf b) ≡ true
+  pub numbers : numbersOk (numbersOf b) ≡ true
+  pub own : ownOf b < nOf b
+  pub long : length b ≡ lengthOf (nOf b) (numbersOf b)
+  pub sheet : sheetLegalAt b sheetPlace ≡ true
+  pub slots : slotsOk b (nOf b) (slotCount (nOf b) (numbersOf b)) ≡ true
+
+-- any 20 bytes may stand as a recorded declaration
+pub record IsDecl (v : Decl) : Type 0 where
+  pub long : length v ≡ 20
+  pub bytes : Bytes v
+
+abbrev pub IsSlot : Option Decl → Type 0
+IsSlot none = Unit
+IsSlot (some v) = IsDecl v
+
+-- an entry of a book of n houses: each slot none or any 20 bytes, and no slot for a house that there is not
+pub record IsEntry (n : ℕ) (e : Entry) : Type 0 where
+  pub send : IsSlot (e .send)
+  pub echo : (p : ℕ) → IsSlot (e .echo p)
+  pub ready : (p : ℕ) → IsSlot (e .ready p)
+  pub readySent : IsSlot (e .readySent)
+  pub delivered : IsSlot (e .delivered)
+  pub published : IsSlot (e .published)
+  pub echo-past : (p : ℕ) → n ≤ p → e .echo p ≡ none
+  pub ready-past : (p : ℕ) → n ≤ p → e .ready p ≡ none
+
+-- what a legal book may mean
+pub record IsBook (B : Meaning) : Type 0 where
+  pub n : houses (B .n) ≡ true
+  pub numbers : numbersOk (B .numbers) ≡ true
+  pub own : B .own < B .n
+  pub season : B .season < 2 ^ 32
+  pub cap : B .sheet .cap < 2 ^ 32
+  pub moisture : GateFits (B .sheet .moisture)
+  pub conductivity : GateFits (B .sheet .conductivity)
+  pub sheet : sheetLegal (B .sheet) ≡ true
+  pub entries : (j c : ℕ) → IsEntry (B .n) (B .entries j c)
+  -- what was published stands at the own sender alone, and nothing stands outside the book
+  pub others : (j c : ℕ) → (j ≡ B .own → ⊥) → B .entries j c .published ≡ none
+  pub past-sender : (j c : ℕ) → B .n ≤ j → B .entries j c ≡ fresh
+  pub past-number : (j c : ℕ) → B .numbers ≤ c → B .entries j c ≡ fresh

@@ -1,0 +1,5 @@
+pub mod Slot
+pub mod Layout
+pub mod Book
+pub mod Legal
+pub mod Opening

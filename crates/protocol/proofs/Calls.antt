@@ -1,0 +1,187 @@
+-- What a call on a book does to the entry that it names, for publishing and receiving alike; and the rule between entries.
+-- Assumes nothing.
+use mathlib.Core.Path.{_≡_, refl, sym, ap, _∙_}
+use mathlib.Core.Bool.{Bool, true, false, cond}
+use mathlib.Core.Logic.{_⊎_, inl, inr, ⊎-elim}
+use mathlib.Core.Option.{Option, none, some}
+use Prim.Native.Nat.{ℕ, zero, suc}
+use native.Mathlib.Omega.{arith}
+use lib.Dec.{T, ltb, eqb→eq, eqb-refl}
+use Rattle.protocol.specs.Entry.{Decl, Kind, SEND, ECHO, READY, Entry, Rules, heard, own, isNone}
+use Rattle.protocol.specs.Steps.{Say, say, Out, refused, settle, must, may, recording, publishes, takesSend, takesEcho, takesReady}
+use Rattle.protocol.specs.Steps.{takes, receive, publish}
+use Rattle.protocol.specs.Book.{Book, Call, publishing, receiving, inBook, senderOf, numberOf, onEntry, outcome, after, publication}
+use Rattle.protocol.specs.Claims.{Alone}
+use Rattle.protocol.proofs.Basics.{none-of, none-some, must-zero, must-pass, upd-same, upd-new}
+use Rattle.protocol.proofs.Moves.{Local, Moves, other-kind, no-message, takes-moves, takes-local, refused-moves}
+
+-- 7 stands for a full slot, and 0 for an empty one
+pub recording-free : (o : Option Decl) (v : Decl) → recording o v ≡ 0 → o ≡ none
+unfolding recording
+recording-free none v e = refl
+recording-free (some w) v e = absurd (omega (arith, e))
+
+pub recording-none : (v : Decl) → recording none v ≡ 0
+unfolding recording
+recording-none v = refl
+
+-- what a call brings to be heard
+abbrev pub Brings : Call → Kind → ℕ → Decl → Type 0
+Brings (publishing c v) l q w = ⊥
+Brings (receiving p k j c v) l q w = (l ≡ k) × (q ≡ p) × (v ≡ w)
+
+-- a call at house r on the entry of sender j: it moves the entry, keeps what holds of it, and hears nothing but what it brings
+pub record Done (R : Rules) (j r : ℕ) (a : Call) (e : Entry) (o : Out) : Type 0 where
+  pub moves : Moves R j r e o (publication a (o .answer))
+  pub local : Local R e → Local R (o .entry)
+  pub hears : (l : Kind) (q : ℕ) (w : Decl) → heard l q (o .entry) ≡ some w → T (may j l q) → (heard l q e ≡ some w) ⊎ Brings a l q w
+
+module _ (R : Rules) (j : ℕ) where
+  heard-new : (k : Kind) (p : ℕ) (v : Decl) (e : Entry) → T (may j k p) → (l : Kind) (q : ℕ) (w : Decl) → heard l q (takes R k p v e .entry) ≡ some w
+      → T (may j l q) → (heard l q e ≡ some w) ⊎ ((l ≡ k) × (q ≡ p) × (v ≡ w))
+  unfolding takesSend takesEcho takesReady
+  heard-new SEND p v e a SEND q w x b = inr (refl, eqb→eq q j b ∙ sym (eqb→eq p j a), cc)
+  heard-new SEND p v e a ECHO q w x b = inl x
+  heard-new SEND p v e a READY q w x b = inl x
+  heard-new ECHO p v e a SEND q w x b = inl x
+  heard-new ECHO p v e a ECHO q w x b = ⊎-elim inl (λ y. inr (refl, y .0, y .1)) (upd-new (e .echo) p v q w x)
+  heard-new ECHO p v e a READY q w x b = inl x
+  heard-new READY p v e a SEND q w x b = inl x
+  heard-new READY p v e a ECHO q w x b = inl x
+  heard-new READY p v e a READY q w x b = ⊎-elim inl (λ y. inr (refl, y .0, y .1)) (upd-new (e .ready) p v q w x)
+
+  takes-heard : (k : Kind) (p : ℕ) (v : Decl) (e : Entry) → (takes R k p v e .answer ≡ 0) × (heard k p (takes R k p v e .entry) ≡ some v)
+  unfolding takesSend takesEcho takesReady
+  takes-heard SEND p v e = (refl, refl)
+  takes-heard ECHO p v e = (refl, upd-same (e .echo) p (some v))
+  takes-heard READY p v e = (refl, upd-same (e .ready) p (some v))
+
+  refused-done : (r n : ℕ) (a : Call) (e : Entry) → publication a n ≡ none → Done R j r a e (refused n e)
+  refused-done r n a e x = record { moves = rw x (refused-moves R j r n e); local = λ L. L; hears = λ l q w h m. inl h }
+
+  receive-done : (r p : ℕ) (k : Kind) (j₂ c : ℕ) (v : Decl) (e : Entry) → Done R j r (receiving p k j₂ c v) e (receive R j p k v e)
+  unfolding receive
+  receive-done r p k j₂ c v e = go (must (ltb p (R .n)) 4 (must (R .ok v) 5 (must (may j k p) 6 (recording (heard k p e) v)))) refl
+    where
+      go : (n : ℕ) → must (ltb p (R .n)) 4 (must (R .ok v) 5 (must (may j k p) 6 (recording (heard k p e) v))) ≡ n
+          → Done R j r (receiving p k j₂ c v) e (settle n (takes R k p v e) e)
+      go zero x =
+          let x₁ = must-zero (ltb p (R .n)) 3 _ x in
+          let x₂ = must-zero (R .ok v) 4 _ (x₁ .1) in
+          let x₃ = must-zero (may j k p) 5 _ (x₂ .1) in
+          let free : heard k p e ≡ none = recording-free (heard k p e) v (x₃ .1) in
+          record {
+            moves = takes-moves R j r k p v e (x₂ .0) free;
+            local = takes-local R j k p v e (x₂ .0) free;
+            hears = heard-new k p v e (x₃ .0);
+          }
+      go (suc n) x = refused-done r (suc n) (receiving p k j₂ c v) e refl
+
+  -- what is plausible, from a house that may say it, where nothing of the kind was heard from it, is accepted
+  pub receive-taken : (p : ℕ) (k : Kind) (v : Decl) (e : Entry) → T (ltb p (R .n)) → T (R .ok v) → T (may j k p) → heard k p e ≡ none
+      → (receive R j p k v e .answer ≡ 0) × (heard k p (receive R j p k v e .entry) ≡ some v)
+  unfolding receive
+  receive-taken p k v e a b m h =
+      let zero-is : must (ltb p (R .n)) 4 (must (R .ok v) 5 (must (may j k p) 6 (recording (heard k p e) v))) ≡ 0 =
+      must-pass (ltb p (R .n)) 4 _ a ∙ must-pass (R .ok v) 5 _ b ∙ must-pass (may j k p) 6 _ m ∙ ap (λ o. recording o v) h ∙ recording-none v
+      in
+      rw zero-is (takes-heard k p v e)
+
+  publishes-hears : (v : Decl) (e : Entry) (l : Kind) (q : ℕ) → heard l q (publishes v e .entry) ≡ heard l q e
+  unfolding publishes
+  publishes-hears v e SEND q = refl
+  publishes-hears v e ECHO q = refl
+  publishes-hears v e READY q = refl
+
+  publishes-moves : (c : ℕ) (v : Decl) (e : Entry) → T (R .ok v) → e .published ≡ none → Moves R j j e (publishes v e) (some v)
+  unfolding publishes
+  publishes-moves c v e g h =
+      record {
+        filled = record {
+          send = λ w x. x;
+          echo = λ q w x. x;
+          ready = λ q w x. x;
+          readySent = λ w x. x;
+          delivered = λ w x. x;
+          published = λ w x. absurd (none-some (e .published) w h x);
+        };
+        new = new′;
+        says = says′;
+        delivers = refl;
+        publishes = rw h;
+      }
+    where
+      new′ : (k : Kind) (w : Decl) → own k (publishes v e .entry) ≡ some w → (own k e ≡ some w) ⊎ (some (say SEND v) ≡ some (say k w))
+      new′ SEND w x = inr (let z : v ≡ w = cc in cc)
+      new′ ECHO w x = inl x
+      new′ READY w x = inl x
+
+      says′ : (k : Kind) (w : Decl) → some (say SEND v) ≡ some (say k w)
+          → (own k e ≡ none) × (own k (publishes v e .entry) ≡ some w) × T (R .ok w) × T (may j k j)
+      says′ SEND w m = let z : v ≡ w = cc in (h, cc, rw z at g, eqb-refl j)
+      says′ ECHO w m = other-kind SEND ECHO v w refl m
+      says′ READY w m = other-kind SEND READY v w refl m
+
+  publishes-local : (v : Decl) (e : Entry) → Local R e → Local R (publishes v e .entry)
+  unfolding publishes
+  publishes-local v e L =
+      record {
+        echoes-heeded = L .echoes-heeded;
+        readies-heeded = L .readies-heeded;
+        delivery-heeded = L .delivery-heeded;
+        ready-backed = L .ready-backed;
+        delivery-backed = L .delivery-backed;
+        delivery-ok = L .delivery-ok;
+      }
+
+  publish-done : (c : ℕ) (v : Decl) (e : Entry) → Done R j j (publishing c v) e (publish R v e)
+  unfolding publish publishes
+  publish-done c v e = go (must (R .ok v) 5 (must (isNone (e .published)) 8 0)) refl
+    where
+      go : (n : ℕ) → must (R .ok v) 5 (must (isNone (e .published)) 8 0) ≡ n → Done R j j (publishing c v) e (settle n (publishes v e) e)
+      go zero x =
+          let x₁ = must-zero (R .ok v) 4 _ x in
+          let x₂ = must-zero (isNone (e .published)) 7 _ (x₁ .1) in
+          record {
+            moves = publishes-moves c v e (x₁ .0) (none-of (e .published) (x₂ .0));
+            local = publishes-local v e;
+            hears = λ l q w h m. inl (sym (publishes-hears v e l q) ∙ h);
+          }
+      go (suc n) x = refused-done j (suc n) (publishing c v) e refl
+
+module _ (R : Rules) (numbers own : ℕ) (a : Call) where
+  -- the entry that the call names
+  abbrev named : Book → Entry
+  named b = b (senderOf own a) (numberOf a)
+
+  abbrev answered : Bool → Book → Out
+  answered y b = cond y (onEntry R a (senderOf own a) (named b)) (refused 4 (named b))
+
+  pub outcome-done : (b : Book) → Done R (senderOf own a) own a (named b) (outcome R numbers own a b)
+  unfolding outcome
+  outcome-done b = go (inBook R numbers (senderOf own a) (numberOf a))
+    where
+      done : (a : Call) (e : Entry) → Done R (senderOf own a) own a e (onEntry R a (senderOf own a) e)
+      done (publishing c v) e = publish-done R own c v e
+      done (receiving p k j c v) e = receive-done R j own p k j c v e
+
+      none-is : (a : Call) → publication a 4 ≡ none
+      none-is (publishing c v) = refl
+      none-is (receiving p k j c v) = refl
+
+      go : (y : Bool) → Done R (senderOf own a) own a (named b) (answered y b)
+      go true = done a (named b)
+      go false = refused-done R (senderOf own a) own 4 a (named b) (none-is a)
+
+  -- a message is given on an entry of the book only
+  pub outcome-booked : (b : Book) (m : Say) → outcome R numbers own a b .message ≡ some m → T (inBook R numbers (senderOf own a) (numberOf a))
+  unfolding outcome
+  outcome-booked b m = go (inBook R numbers (senderOf own a) (numberOf a))
+    where
+      go : (y : Bool) → answered y b .message ≡ some m → T y
+      go true e = tt
+      go false e = no-message m e
+
+  pub alone : Alone R numbers own a
+  unfolding after outcome
+  alone = record { others = λ b j c e. rw e; same = λ b b₂ e. rw e; agreeing = λ b b₂ e. rw e }

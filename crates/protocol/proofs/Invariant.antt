@@ -1,0 +1,259 @@
+-- What holds of one entry in every state of a run, with any number of wrong houses, and that each call keeps it.
+-- Assumes nothing.
+use mathlib.Core.Path.{_≡_, refl, sym, ap, _∙_}
+use mathlib.Core.Bool.{Bool, true, false, not, cond, _&&_}
+use mathlib.Core.Logic.{⊎-elim}
+use mathlib.Core.Option.{Option, none, some}
+use mathlib.Core.List.{List, _++_}
+use Prim.Native.Nat.{ℕ, suc, _+_, _*_}
+use native.Mathlib.Omega.{arith}
+use lib.Dec.{T, T-not, not-T, eqb, ltb, eqb-refl, ltb→lt}
+use Rattle.card.specs.Count.{bit, count}
+use Rattle.card.proofs.Counting.{count-same, count-set, count-none}
+use Rattle.protocol.specs.Entry.{Decl, Kind, Entry, heard, own, isKind, isSome, holds, upd}
+use Rattle.protocol.specs.Steps.{Say, say, Out, may}
+use Rattle.protocol.specs.Book.{sameEntry, Call, inBook, publication}
+use Rattle.protocol.specs.Run.{n, Wall, Copy, right, consumedCopy, copyTo, toAll, posted, push, tally, onIt, copiesOf}
+use Rattle.protocol.proofs.Basics.{T-of, T-not-of, true-of, and-l, and-r, and-mk, and-false, both, isKind-eq, isKind-refl, some-of}
+use Rattle.protocol.proofs.Basics.{isSome-of, holds-eq, eq-holds, upd-all, upd-same, upd-other}
+use Rattle.protocol.proofs.Moves.{Local, filled-own, no-message, listOf}
+use Rattle.protocol.proofs.Calls.{Brings, Done}
+use Rattle.protocol.proofs.Mail.{tally-mono, tally-append, tally-toAll}
+
+-- one entry of every book, and all copies
+pub record View : Type 0 where
+  pub house : ℕ → Entry
+  pub deliveries : ℕ → List Decl
+  pub publications : ℕ → List Decl
+  pub mail : List Copy
+
+-- a copy of a kind, from a house and to a house that pass the tests
+abbrev pub way : Kind → (ℕ → Bool) → (ℕ → Bool) → Copy → Bool
+way k F Q m = isKind k (m .kind) && (F (m .from) && Q (m .to))
+
+-- a copy says what the house it came from gave
+abbrev pub true-to : (ℕ → Entry) → Copy → Bool
+true-to H m = holds (own (m .kind) (H (m .from))) (m .decl)
+
+pub is-refl : (j c : ℕ) → T (sameEntry j c j c)
+is-refl j c = and-mk (eqb j j) (eqb c c) (eqb-refl j) (eqb-refl c)
+
+-- of a message of kind l from house r, the copies that pass
+way-toAll : (j c r : ℕ) (k l : Kind) (F Q : ℕ → Bool) (w : Decl) (n : ℕ)
+    → tally (λ m. onIt j c m && way k F Q m) (toAll j c r l w n) ≡ count (λ q. (isKind k l && F r) && Q q) n
+way-toAll j c r k l F Q w n =
+    tally-toAll (λ m. onIt j c m && way k F Q m) j c r l w n
+    ∙ count-same _ _ n (λ q h. regroup (sameEntry j c j c) (isKind k l) (F r) (Q q) (is-refl j c))
+  where
+    regroup : (t a b q : Bool) → T t → (t && (a && (b && q))) ≡ ((a && b) && q)
+    regroup true true b q x = refl
+    regroup true false b q x = refl
+    regroup false a b q x = absurd x
+
+module _ (B : Wall) (j c : ℕ) where
+  pub record Inv (s : View) : Type 0 where
+    pub local : (r : ℕ) → Local (B .rules) (s .house r)
+    -- who gave a message is honest and may give it, and it is plausible and on an entry of the book
+    pub owner : (p : ℕ) (k : Kind) (v : Decl) → own k (s .house p) ≡ some v
+        → T (right B p) × T (B .rules .ok v) × T (may j k p) × T (inBook (B .rules) (B .numbers) j c)
+    -- what was heard from an honest house, it gave
+    pub given : (r : ℕ) (k : Kind) (p : ℕ) (v : Decl) → heard k p (s .house r) ≡ some v → T (may j k p) → T (right B p)
+        → own k (s .house p) ≡ some v
+    -- no copy is untrue
+    pub truthful : copiesOf j c (λ m. not (true-to (s .house) m)) (s .mail) ≡ 0
+    -- a message given is one copy to each house
+    pub sent : (k : Kind) (F Q : ℕ → Bool)
+        → copiesOf j c (way k F Q) (s .mail) ≡ count Q (n B) * count (λ p. F p && isSome (own k (s .house p))) (n B)
+    -- between honest houses, what was heard is what was consumed
+    pub consumed : (k : Kind) (p r : ℕ) → T (right B p) → T (right B r) → T (may j k p)
+        → copiesOf j c (λ m. way k (eqb p) (eqb r) m && m .consumed) (s .mail) ≡ bit (isSome (heard k p (s .house r)))
+    pub delivered : (r : ℕ) → s .deliveries r ≡ listOf (s .house r .delivered)
+    pub published : (r : ℕ) → s .publications r ≡ listOf (s .house r .published)
+
+  -- a call at house r on this entry, with outcome o, that a run may make; `mail` is the mail as the call finds it
+  pub record Act (s : View) (r : ℕ) (a : Call) (o : Out) (mail : List Copy) : Type 0 where
+    pub here : T (right B r)
+    pub done : Done (B .rules) j r a (s .house r) o
+    pub booked : (m : Say) → o .message ≡ some m → T (inBook (B .rules) (B .numbers) j c)
+    pub honest : (k : Kind) (p : ℕ) (v : Decl) → Brings a k p v → T (right B p) → own k (s .house p) ≡ some v
+    pub unmarked : (P : Copy → Bool) → ((m : Copy) → P (consumedCopy m) ≡ P m) → tally P mail ≡ tally P (s .mail)
+    pub marks : (k : Kind) (p q : ℕ) → T (right B p) → T (right B q) → T (may j k p)
+        → copiesOf j c (λ m. way k (eqb p) (eqb q) m && m .consumed) mail ≡ bit (isSome (heard k p (upd (s .house) r (o .entry) q)))
+
+  -- what the view sees of a call on this entry
+  abbrev pub acted : View → ℕ → Call → Out → List Copy → View
+  acted s r a o mail =
+      record {
+        house = upd (s .house) r (o .entry);
+        deliveries = upd (s .deliveries) r (push (o .delivery) (s .deliveries r));
+        publications = upd (s .publications) r (push (publication a (o .answer)) (s .publications r));
+        mail = mail ++ posted j c r (o .message) (n B);
+      }
+
+  module _ (s : View) (I : Inv s) (r : ℕ) (a : Call) (o : Out) (mail : List Copy) (A : Act s r a o mail) where
+    H′ : ℕ → Entry
+    H′ = upd (s .house) r (o .entry)
+
+    own-stays : (p : ℕ) (k : Kind) (v : Decl) → own k (s .house p) ≡ some v → own k (H′ p) ≡ some v
+    unfolding H′
+    own-stays p k v =
+        upd-all (λ p x. own k (s .house p) ≡ some v → own k x ≡ some v) (s .house) r (o .entry)
+        (filled-own (A .done .moves .filled) k v) (λ p e. e) p
+
+    act-owner : (p : ℕ) (k : Kind) (v : Decl) → own k (H′ p) ≡ some v
+        → T (right B p) × T (B .rules .ok v) × T (may j k p) × T (inBook (B .rules) (B .numbers) j c)
+    unfolding H′
+    act-owner p k v =
+        upd-all (λ p x. own k x ≡ some v → T (right B p) × T (B .rules .ok v) × T (may j k p) × T (inBook (B .rules) (B .numbers) j c))
+        (s .house) r (o .entry)
+        (λ e. ⊎-elim (I .owner r k v)
+        (λ m. let y = A .done .moves .says k v m in (A .here, y .2, y .3, A .booked (say k v) m))
+        (A .done .moves .new k v e))
+        (λ p. I .owner p k v) p
+
+    -- what the call leaves as heard from an honest house, that house gave before
+    pub act-heard : (k : Kind) (p : ℕ) (v : Decl) → heard k p (o .entry) ≡ some v → T (may j k p) → T (right B p) → own k (s .house p) ≡ some v
+    act-heard k p v h m g = ⊎-elim (λ x. I .given r k p v x m g) (λ x. A .honest k p v x g) (A .done .hears k p v h m)
+
+    act-given : (q : ℕ) (k : Kind) (p : ℕ) (v : Decl) → heard k p (H′ q) ≡ some v → T (may j k p) → T (right B p) → own k (H′ p) ≡ some v
+    unfolding H′
+    act-given q k p v =
+        upd-all (λ q x. heard k p x ≡ some v → T (may j k p) → T (right B p) → own k (H′ p) ≡ some v) (s .house) r (o .entry)
+        (λ h m g. own-stays p k v (act-heard k p v h m g))
+        (λ q h m g. own-stays p k v (I .given q k p v h m g)) q
+
+    act-truthful : copiesOf j c (λ m. not (true-to H′ m)) (mail ++ posted j c r (o .message) (n B)) ≡ 0
+    unfolding H′
+    act-truthful =
+        omega (
+          arith,
+          tally-append untrue mail (posted j c r (o .message) (n B)),
+          tally-mono untrue before mail (λ m t. and-mk (onIt j c m) _ (and-l (onIt j c m) _ t) (not-T (true-to (s .house) m) (λ x. T-not (true-to H′ m) (and-r (onIt j c m) _ t) (stays m x)))),
+          A .unmarked before (λ m. refl),
+          I .truthful,
+          new (o .message) refl,
+        )
+      where
+        untrue : Copy → Bool
+        untrue m = onIt j c m && not (true-to H′ m)
+
+        before : Copy → Bool
+        before m = onIt j c m && not (true-to (s .house) m)
+
+        stays : (m : Copy) → T (true-to (s .house) m) → T (true-to H′ m)
+        stays m t = eq-holds _ (m .decl) (own-stays (m .from) (m .kind) (m .decl) (holds-eq _ (m .decl) t))
+
+        new : (x : Option Say) → o .message ≡ x → tally untrue (posted j c r x (n B)) ≡ 0
+        new none e = refl
+        new (some (say k v)) e =
+            let gave : own k (H′ r) ≡ some v = rw (upd-same (s .house) r (o .entry)) (A .done .moves .says k v e .1) in
+            tally-toAll untrue j c r k v (n B)
+            ∙ count-none _ (n B) (λ q l. and-false (sameEntry j c j c) _ (ap not (true-of (holds (own k (H′ r)) v) (eq-holds _ v gave))))
+
+    act-sent : (k : Kind) (F Q : ℕ → Bool)
+        → copiesOf j c (way k F Q) (mail ++ posted j c r (o .message) (n B))
+        ≡ count Q (n B) * count (λ p. F p && isSome (own k (H′ p))) (n B)
+    unfolding H′
+    act-sent k F Q =
+        omega (
+          arith,
+          tally-append (λ m. onIt j c m && way k F Q m) mail (posted j c r (o .message) (n B)),
+          A .unmarked (λ m. onIt j c m && way k F Q m) (λ m. refl),
+          I .sent k F Q,
+          go (o .message) refl,
+        )
+      where
+        P : ℕ → Bool
+        P p = F p && isSome (own k (s .house p))
+
+        P′ : ℕ → Bool
+        P′ p = F p && isSome (own k (H′ p))
+
+        X : ℕ
+        X = count Q (n B)
+
+        still : (T (F r) → (w : Decl) → o .message ≡ some (say k w) → ⊥) → X * count P (n B) ≡ X * count P′ (n B)
+        still f = ap (λ (y : ℕ). X * y) (count-same P P′ (n B) (λ p l. upd-all (λ p x. P p ≡ (F p && isSome (own k x))) (s .house) r (o .entry) at-r (λ p. refl) p))
+          where
+            at-r : P r ≡ (F r && isSome (own k (o .entry)))
+            at-r =
+                both (P r) (F r && isSome (own k (o .entry)))
+                (λ t. let x = some-of (own k (s .house r)) (and-r (F r) _ t) in
+                and-mk (F r) _ (and-l (F r) _ t) (isSome-of _ (x .0) (filled-own (A .done .moves .filled) k (x .0) (x .1))))
+                (λ t. let x = some-of (own k (o .entry)) (and-r (F r) _ t) in
+                and-mk (F r) _ (and-l (F r) _ t) (⊎-elim (isSome-of _ (x .0)) (λ m. absurd (f (and-l (F r) _ t) (x .0) m)) (A .done .moves .new k (x .0) (x .1))))
+
+        go : (x : Option Say) → o .message ≡ x → copiesOf j c (way k F Q) (posted j c r x (n B)) + X * count P (n B) ≡ X * count P′ (n B)
+        go none e = omega (arith, still (λ t w m. no-message (say k w) (sym e ∙ m)))
+        go (some (say l w)) e =
+            omega (arith, way-toAll j c r k l F Q w (n B), split (isKind k l && F r) refl)
+          where
+            split : (b : Bool) → (isKind k l && F r) ≡ b → count (λ q. b && Q q) (n B) + X * count P (n B) ≡ X * count P′ (n B)
+            split true t =
+                let z : k ≡ l = isKind-eq k l (and-l (isKind k l) (F r) (T-of t)) in
+                let f : T (F r) = and-r (isKind k l) (F r) (T-of t) in
+                let y = A .done .moves .says k w (rw z e) in
+                let one-more : count P′ (n B) ≡ suc (count P (n B)) =
+                count-set P P′ (n B) r (ltb→lt r (n B) (and-l (ltb r (n B)) (B .honest r) (A .here)))
+                (λ i d. rw (upd-other (s .house) r (o .entry) i d)) (and-false (F r) _ (ap isSome (y .0)))
+                (true-of (P′ r) (and-mk (F r) _ f (rw (upd-same (s .house) r (o .entry), y .1) tt))) in
+                rw one-more (omega arith)
+            split false t =
+                omega (
+                  arith,
+                  count-none (λ q. false) (n B) (λ i h. refl),
+                  still (λ f x m. T-not-of t (and-mk (isKind k l) (F r) (let z : l ≡ k = cc in rw z (isKind-refl k)) f)),
+                )
+
+    act-consumed : (k : Kind) (p q : ℕ) → T (right B p) → T (right B q) → T (may j k p)
+        → copiesOf j c (λ m. way k (eqb p) (eqb q) m && m .consumed) (mail ++ posted j c r (o .message) (n B)) ≡ bit (isSome (heard k p (H′ q)))
+    unfolding H′
+    act-consumed k p q g g₂ m =
+        omega (arith, tally-append taken mail (posted j c r (o .message) (n B)), A .marks k p q g g₂ m, new (o .message))
+      where
+        taken : Copy → Bool
+        taken m = onIt j c m && (way k (eqb p) (eqb q) m && m .consumed)
+
+        new : (x : Option Say) → tally taken (posted j c r x (n B)) ≡ 0
+        new none = refl
+        new (some (say l w)) =
+            tally-toAll taken j c r l w (n B)
+            ∙ count-none _ (n B) (λ i h. and-false (sameEntry j c j c) _ (and-false (way k (eqb p) (eqb q) (copyTo j c r l w i)) false refl))
+
+    act-list : (g : Entry → Option Decl) (f : ℕ → List Decl) (x : Option Decl) → ((q : ℕ) → f q ≡ listOf (g (s .house q)))
+        → push x (listOf (g (s .house r))) ≡ listOf (g (o .entry)) → (q : ℕ) → upd f r (push x (f r)) q ≡ listOf (g (H′ q))
+    unfolding H′
+    act-list g f x was now q = go (eqb q r)
+      where
+        go : (b : Bool) → cond b (push x (f r)) (f q) ≡ listOf (g (cond b (o .entry) (s .house q)))
+        go true = ap (push x) (was r) ∙ now
+        go false = was q
+
+    pub act-inv : Inv (acted s r a o mail)
+    unfolding H′
+    act-inv =
+        record {
+          local = upd-all (λ q x. Local (B .rules) x) (s .house) r (o .entry) (A .done .local (I .local r)) (I .local);
+          owner = act-owner;
+          given = act-given;
+          truthful = act-truthful;
+          sent = act-sent;
+          consumed = act-consumed;
+          delivered = act-list (λ e. e .delivered) (s .deliveries) (o .delivery) (I .delivered) (A .done .moves .delivers);
+          published = act-list (λ e. e .published) (s .publications) (publication a (o .answer)) (I .published) (A .done .moves .publishes);
+        }
+
+  -- a call on another entry: it leaves this one, and the count of its copies by any test
+  pub else-inv : (s : View) (mail : List Copy) → ((P : Copy → Bool) → copiesOf j c P mail ≡ copiesOf j c P (s .mail)) → Inv s
+      → Inv (record { house = s .house; deliveries = s .deliveries; publications = s .publications; mail = mail })
+  else-inv s mail f I =
+      record {
+        local = I .local;
+        owner = I .owner;
+        given = I .given;
+        truthful = f _ ∙ I .truthful;
+        sent = λ k F Q. f _ ∙ I .sent k F Q;
+        consumed = λ k p r g g₂ m. f _ ∙ I .consumed k p r g g₂ m;
+        delivered = I .delivered;
+        published = I .published;
+      }

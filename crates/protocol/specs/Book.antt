@@ -1,0 +1,61 @@
+-- A book of entries and the calls on it. A call names one entry.
+-- Assumes nothing.
+use mathlib.Core.Bool.{Bool, cond, _&&_}
+use mathlib.Core.Option.{Option, none, some}
+use Prim.Native.Nat.{ℕ, zero, suc}
+use lib.Dec.{eqb, ltb}
+use Rattle.protocol.specs.Entry.{Decl, Kind, Entry, Rules}
+use Rattle.protocol.specs.Steps.{Out, refused, receive, publish}
+
+-- one for each sender and number
+abbrev pub PerEntry : Type 0 → Type 0
+PerEntry A = ℕ → ℕ → A
+
+-- A book has one entry for each sender and number.
+abbrev pub Book : Type 0
+Book = PerEntry Entry
+
+abbrev pub sameEntry : (sender number sender₂ number₂ : ℕ) → Bool
+sameEntry j c j₂ c₂ = eqb j₂ j && eqb c₂ c
+
+-- b with x at sender j and number c
+abbrev pub place : {A : Type 0} → PerEntry A → ℕ → ℕ → A → PerEntry A
+place b j c x j₂ c₂ = cond (sameEntry j c j₂ c₂) x (b j₂ c₂)
+
+abbrev pub inBook : Rules → ℕ → ℕ → ℕ → Bool
+inBook R numbers j c = ltb j (R .n) && ltb c numbers
+
+-- an own number and a declaration; or the house that a message came from, and what the message says
+pub data Call : Type 0 where
+  publishing : (number : ℕ) → Decl → Call
+  receiving : (from : ℕ) → Kind → (sender number : ℕ) → Decl → Call
+
+-- the entry that a call at house `own` names
+abbrev pub senderOf : ℕ → Call → ℕ
+senderOf own (publishing c v) = own
+senderOf own (receiving p k j c v) = j
+
+abbrev pub numberOf : Call → ℕ
+numberOf (publishing c v) = c
+numberOf (receiving p k j c v) = c
+
+abbrev pub onEntry : Rules → Call → ℕ → Entry → Out
+onEntry R (publishing c v) j e = publish R v e
+onEntry R (receiving p k j₂ c v) j e = receive R j p k v e
+
+-- 4: sender or entry number not in the book
+unfoldable pub outcome : Rules → (numbers own : ℕ) → Call → Book → Out
+outcome R S own a b =
+    let j : ℕ = senderOf own a in
+    let c : ℕ = numberOf a in
+    cond (inBook R S j c) (onEntry R a j (b j c)) (refused 4 (b j c))
+
+-- the book after the call
+unfoldable pub after : Rules → (numbers own : ℕ) → Call → Book → Book
+after R S own a b = place b (senderOf own a) (numberOf a) (outcome R S own a b .entry)
+
+-- the declaration of an accepted publication
+abbrev pub publication : Call → ℕ → Option Decl
+publication (publishing c v) zero = some v
+publication (publishing c v) (suc a) = none
+publication (receiving p k j c v) a = none

@@ -1,0 +1,7 @@
+pub mod Entry
+pub mod Steps
+pub mod Book
+pub mod Run
+pub mod Thresholds
+pub mod Claims
+pub mod Example
