@@ -1,0 +1,135 @@
+-- Publishing and receiving at the bytes: the order of answers, and what a call gives and leaves in the lent buffer.
+-- Assumes nothing.
+use Prim.Native.Nat.{ℕ, zero, suc}
+use mathlib.Core.Bool.{Bool, true, false, cond, _&&_}
+use mathlib.Core.List.{List, [], _∷_}
+use mathlib.Core.Option.{Option, none, some}
+use lib.Dec.{eqb, ltb}
+use lib.ListN.{length, replicate}
+use Rattle.card.specs.Card.{tolerated}
+use Rattle.lot.specs.declared.Sheet.{Sheet}
+use Rattle.lot.specs.Declaration.{declarationAt, bytesOf}
+use Rattle.lot.specs.Sheet.{plausible}
+use Rattle.message.specs.Message.{Five, wire, readOf}
+use Rattle.protocol.specs.Entry.{Decl, Kind, SEND, ECHO, READY, Rules}
+use Rattle.protocol.specs.Steps.{Say, say, Out}
+use Rattle.protocol.specs.Book.{Call, publishing, receiving, senderOf, numberOf, outcome, after}
+use Rattle.protocol.specs.Thresholds.{rulesOf}
+use Rattle.meaning.specs.Book.{Meaning, meant, write, seasonOf}
+use Rattle.meaning.specs.Legal.{legal}
+use Rattle.counter.specs.declared.Outcome.{Outcome}
+
+-- what a call gives, and each byte of the lent buffer afterwards
+pub record Result : Type 0 where
+  pub given : Outcome
+  pub book : List ℕ
+
+abbrev pub isThere : {A : Type 0} → Option A → Bool
+isThere none = false
+isThere (some x) = true
+
+-- an absent message or declaration is zeros
+abbrev pub orZeros : ℕ → Option (List ℕ) → List ℕ
+orZeros k none = replicate k 0
+orZeros k (some l) = l
+
+abbrev pub giving : ℕ → Option (List ℕ) → Option Decl → Outcome
+giving answer message delivery =
+    record {
+      answer = answer;
+      gives = isThere message;
+      message = orZeros 36 message;
+      delivers = isThere delivery;
+      declaration = orZeros 20 delivery;
+    }
+
+-- Every refusal leaves the lent buffer byte for byte and carries no message and no delivery.
+abbrev pub refusal : ℕ → List ℕ → Result
+refusal answer b = record { given = giving answer none none; book = b }
+
+-- 20 bytes
+abbrev pub allBytes : List ℕ → Bool
+allBytes [] = true
+allBytes (x ∷ xs) = ltb x 256 && allBytes xs
+
+unfoldable pub isDecl : Decl → Bool
+isDecl v = eqb (length v) 20 && allBytes v
+
+-- what is plausible by the book's sheet: a declaration's 20 bytes, judged
+unfoldable pub okBy : Sheet → Decl → Bool
+unfolding isDecl
+okBy s v = isDecl v && plausible s (declarationAt v 0)
+
+-- the rules of a book: t and the quorum from the wall card
+unfoldable pub rulesBy : Meaning → Rules
+unfolding okBy
+rulesBy B = rulesOf (B .n) (tolerated (B .n)) (okBy (B .sheet))
+
+-- 1 SEND, 2 ECHO, 3 READY
+abbrev pub kindNumber : Kind → ℕ
+kindNumber SEND = 1
+kindNumber ECHO = 2
+kindNumber READY = 3
+
+-- Each message given is the writer's 36 bytes, with the book's season and that entry's sender and number.
+unfoldable pub letter : (season sender number : ℕ) → Say → List ℕ
+letter season j c (say k v) =
+    wire (record { kind = kindNumber k; season = season; sender = j; number = c; declaration = declarationAt v 0 })
+
+abbrev pub letters : (season sender number : ℕ) → Option Say → Option (List ℕ)
+letters season j c none = none
+letters season j c (some m) = some (letter season j c m)
+
+-- what the book means after a call
+abbrev pub afterCall : Meaning → Call → Meaning
+afterCall B a =
+    record {
+      n = B .n;
+      numbers = B .numbers;
+      own = B .own;
+      season = B .season;
+      sheet = B .sheet;
+      entries = after (rulesBy B) (B .numbers) (B .own) a (B .entries);
+    }
+
+-- a call's outcome at the bytes: the protocol's step on what the bytes mean
+abbrev pub carried : List ℕ → Call → Out → Result
+carried b a o =
+    let B : Meaning = meant b in
+    cond (eqb (o .answer) 0)
+    (record {
+      given = giving 0 (letters (B .season) (senderOf (B .own) a) (numberOf a) (o .message)) (o .delivery);
+      book = write (afterCall B a);
+    })
+    (refusal (o .answer) b)
+
+-- a call on a legal book: 4 to 8
+unfoldable pub called : List ℕ → Call → Result
+unfolding rulesBy letter
+called b a =
+    let B : Meaning = meant b in carried b a (outcome (rulesBy B) (B .numbers) (B .own) a (B .entries))
+
+-- Publishing: 1, 4, 5, 8.
+unfoldable pub published : List ℕ → (number : ℕ) → Decl → Result
+unfolding called
+published b c v = cond (legal b) (called b (publishing c v)) (refusal 1 b)
+
+abbrev pub kindOf : ℕ → Kind
+kindOf zero = READY
+kindOf (suc zero) = SEND
+kindOf (suc (suc zero)) = ECHO
+kindOf (suc (suc (suc k))) = READY
+
+-- the call that a message asks for
+abbrev pub asked : (house : ℕ) → Five → Call
+asked p m = receiving p (kindOf (m .kind)) (m .sender) (m .number) (bytesOf (m .declaration))
+
+-- past answer 1: 2 unless the message is well formed, 3 unless it is of the book's season
+abbrev pub heardFrom : List ℕ → (house : ℕ) → Option Five → Result
+heardFrom b p none = refusal 2 b
+heardFrom b p (some m) = cond (eqb (m .season) (seasonOf b)) (called b (asked p m)) (refusal 3 b)
+
+-- Receiving: 1 to 7 in order.
+unfoldable pub received : List ℕ → (house : ℕ) → List ℕ → Result
+unfolding called
+received b p message = cond (legal b) (heardFrom b p (readOf message .five)) (refusal 1 b)

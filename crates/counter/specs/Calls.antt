@@ -1,0 +1,32 @@
+-- One type of call on a book, and one function from bytes and call to outcome, for whoever speaks of sequences of calls.
+-- Assumes nothing.
+use Prim.Native.Nat.{ℕ}
+use mathlib.Core.List.{List}
+use Rattle.protocol.specs.Entry.{Decl}
+use Rattle.counter.specs.declared.Outcome.{Outcome}
+use Rattle.counter.specs.declared.Waiting.{Waiting}
+use Rattle.counter.specs.Call.{Result, published, received}
+use Rattle.counter.specs.Search.{waiting}
+
+pub data Calling : Type 0 where
+  publish : (number : ℕ) → Decl → Calling
+  receive : (house : ℕ) → (message : List ℕ) → Calling
+  search : Calling
+
+-- what publishing and receiving give, or what the waiting search gives
+pub data Answer : Type 0 where
+  gave : Outcome → Answer
+  found : Waiting → Answer
+
+-- an answer, and each byte of the book afterwards
+pub record Answered : Type 0 where
+  pub answer : Answer
+  pub book : List ℕ
+
+abbrev moved : Result → Answered
+moved r = record { answer = gave (r .given); book = r .book }
+
+unfoldable pub answered : List ℕ → Calling → Answered
+answered b (publish c v) = moved (published b c v)
+answered b (receive p message) = moved (received b p message)
+answered b search = record { answer = found (waiting b); book = b }
