@@ -92,7 +92,7 @@ afterCall B a =
       entries = after (rulesBy B) (B .numbers) (B .own) a (B .entries);
     }
 
--- a call's outcome at the bytes: the protocol's step on what the bytes mean
+-- a step's outcome at the bytes
 abbrev pub carried : List ℕ → Call → Out → Result
 carried b a o =
     let B : Meaning = meant b in
@@ -103,11 +103,15 @@ carried b a o =
     })
     (refusal (o .answer) b)
 
--- a call on a legal book: 4 to 8
+-- the protocol's step on what a legal book means: 4 to 8
+unfoldable pub stepOf : List ℕ → Call → Out
+unfolding rulesBy
+stepOf b a =
+    let B : Meaning = meant b in outcome (rulesBy B) (B .numbers) (B .own) a (B .entries)
+
 unfoldable pub called : List ℕ → Call → Result
-unfolding rulesBy letter
-called b a =
-    let B : Meaning = meant b in carried b a (outcome (rulesBy B) (B .numbers) (B .own) a (B .entries))
+unfolding stepOf letter
+called b a = carried b a (stepOf b a)
 
 -- Publishing: 1, 4, 5, 8.
 unfoldable pub published : List ℕ → (number : ℕ) → Decl → Result
