@@ -1,6 +1,6 @@
 -- Publishing and receiving at the bytes: the order of answers, and what a call gives and leaves in the lent buffer.
 -- Assumes nothing.
-use Prim.Native.Nat.{ℕ, zero, suc}
+use Prim.Native.Nat.{ℕ}
 use mathlib.Core.Bool.{Bool, true, false, cond, _&&_}
 use mathlib.Core.List.{List, [], _∷_}
 use mathlib.Core.Option.{Option, none, some}
@@ -11,11 +11,11 @@ use Rattle.lot.specs.declared.Sheet.{Sheet}
 use Rattle.lot.specs.Declaration.{declarationAt, bytesOf}
 use Rattle.lot.specs.Sheet.{plausible}
 use Rattle.message.specs.Message.{Five, wire, readOf}
-use Rattle.protocol.specs.Entry.{Decl, Kind, SEND, ECHO, READY, Rules}
+use Rattle.protocol.specs.Entry.{Decl, Kind, SEND, ECHO, READY, Entry, Rules}
 use Rattle.protocol.specs.Steps.{Say, say, Out}
-use Rattle.protocol.specs.Book.{Call, publishing, receiving, senderOf, numberOf, outcome, after}
+use Rattle.protocol.specs.Book.{Call, publishing, receiving, senderOf, numberOf, outcome, place}
 use Rattle.protocol.specs.Thresholds.{rulesOf}
-use Rattle.meaning.specs.Book.{Meaning, meant, write, seasonOf}
+use Rattle.meaning.specs.Book.{Meaning, meant, write, ownOf, seasonOf}
 use Rattle.meaning.specs.Legal.{legal}
 use Rattle.counter.specs.declared.Outcome.{Outcome}
 
@@ -80,28 +80,30 @@ abbrev pub letters : (season sender number : ℕ) → Option Say → Option (Lis
 letters season j c none = none
 letters season j c (some m) = some (letter season j c m)
 
--- what the book means after a call
-abbrev pub afterCall : Meaning → Call → Meaning
-afterCall B a =
+-- what a book means with another entry of sender j and number c
+abbrev pub withEntry : Meaning → (sender number : ℕ) → Entry → Meaning
+withEntry B j c e =
     record {
       n = B .n;
       numbers = B .numbers;
       own = B .own;
       season = B .season;
       sheet = B .sheet;
-      entries = after (rulesBy B) (B .numbers) (B .own) a (B .entries);
+      entries = place (B .entries) j c e;
+    }
+
+-- an accepted call: its message and delivery, and the bytes that mean the book with the named entry as the step leaves it
+unfoldable pub entered : List ℕ → (sender number : ℕ) → Out → Result
+unfolding letter
+entered b j c o =
+    record {
+      given = giving (o .answer) (letters (seasonOf b) j c (o .message)) (o .delivery);
+      book = write (withEntry (meant b) j c (o .entry));
     }
 
 -- a step's outcome at the bytes
-abbrev pub carried : List ℕ → Call → Out → Result
-carried b a o =
-    let B : Meaning = meant b in
-    cond (eqb (o .answer) 0)
-    (record {
-      given = giving 0 (letters (B .season) (senderOf (B .own) a) (numberOf a) (o .message)) (o .delivery);
-      book = write (afterCall B a);
-    })
-    (refusal (o .answer) b)
+abbrev pub carried : List ℕ → (sender number : ℕ) → Out → Result
+carried b j c o = cond (eqb (o .answer) 0) (entered b j c o) (refusal (o .answer) b)
 
 -- the protocol's step on what a legal book means: 4 to 8
 unfoldable pub stepOf : List ℕ → Call → Out
@@ -110,8 +112,8 @@ stepOf b a =
     let B : Meaning = meant b in outcome (rulesBy B) (B .numbers) (B .own) a (B .entries)
 
 unfoldable pub called : List ℕ → Call → Result
-unfolding stepOf letter
-called b a = carried b a (stepOf b a)
+unfolding stepOf entered
+called b a = carried b (senderOf (ownOf b) a) (numberOf a) (stepOf b a)
 
 -- Publishing: 1, 4, 5, 8.
 unfoldable pub published : List ℕ → (number : ℕ) → Decl → Result
@@ -119,10 +121,7 @@ unfolding called
 published b c v = cond (legal b) (called b (publishing c v)) (refusal 1 b)
 
 abbrev pub kindOf : ℕ → Kind
-kindOf zero = READY
-kindOf (suc zero) = SEND
-kindOf (suc (suc zero)) = ECHO
-kindOf (suc (suc (suc k))) = READY
+kindOf k = cond (eqb k 1) SEND (cond (eqb k 2) ECHO READY)
 
 -- the call that a message asks for
 abbrev pub asked : (house : ℕ) → Five → Call

@@ -1,3 +1,4 @@
 pub mod Call
+pub mod Places
 pub mod Search
 pub mod Calls
