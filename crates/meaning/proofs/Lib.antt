@@ -1,0 +1,4 @@
+pub mod Parts
+pub mod Legality
+pub mod Places
+pub mod Slots
