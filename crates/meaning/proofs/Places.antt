@@ -95,6 +95,10 @@ pub entry-slot-past : (n s c j i : ℕ) → s ≤ entrySlot n s c j i
 unfolding entrySlot
 entry-slot-past n s c j i = omega arith
 
+pub same-entry-row : (n s c j i i₂ : ℕ) → entrySlot n s c j i ≡ entrySlot n s c j i₂ → i ≡ i₂
+unfolding entrySlot
+same-entry-row n s c j i i₂ e = omega arith
+
 pub same-entry-slot : (n s c j i c₂ j₂ i₂ : ℕ) → j < n → j₂ < n → i < perEntry n → i₂ < perEntry n → entrySlot n s c j i ≡ entrySlot n s c₂ j₂ i₂ → (c ≡ c₂) × (j ≡ j₂) × (i ≡ i₂)
 unfolding entrySlot
 same-entry-slot n s c j i c₂ j₂ i₂ hj hj₂ hi hi₂ e =
