@@ -156,7 +156,7 @@ pub not-same-entry : (j c j₂ c₂ : ℕ) → sameEntry j c j₂ c₂ ≡ false
 not-same-entry j c j₂ c₂ h p q = true≢false (sym (and-eq-true-iff (eqb j₂ j) (eqb c₂ c) .1 (eq-eqb j₂ j p, eq-eqb c₂ c q)) ∙ h)
 
 module _ (n s own : ℕ) (slot : ℕ → Option Decl) (j c : ℕ) (hj : j < n) (hc : c < s) where
-  entries-in : entriesIn n s own slot j c ≡ entryIn n s own slot j c
+  pub entries-in : entriesIn n s own slot j c ≡ entryIn n s own slot j c
   entries-in = rw (lt-ltb j n hj, lt-ltb c s hc)
 
   -- another row of slots that differs from this one in one entry only
