@@ -1,0 +1,66 @@
+-- The test for a legal book, as facts: its parts, and its slots one by one.
+-- Assumes nothing.
+use Prim.Native.Nat.{ℕ, zero, suc, _<_}
+use mathlib.Core.Path.{_≡_, refl}
+use mathlib.Core.Bool.{Bool, true, false, _&&_, and-eq-true-iff}
+use mathlib.Core.List.{List}
+use native.Mathlib.Decide.{decLt}
+use native.Mathlib.Omega.{arith}
+use lib.Dec.{eqb, ltb}
+use lib.ListN.{length}
+use borrow.Author.Tests.{eqb-true, eq-eqb, ltb-true, lt-ltb}
+use Rattle.card.specs.Card.{houses}
+use Rattle.sheet.specs.Kept.{sheetLegalAt}
+use Rattle.meaning.specs.Slot.{slotOk}
+use Rattle.meaning.specs.Layout.{numbersOk, slotCount, lengthOf, slotPlace}
+use Rattle.meaning.specs.Book.{nOf, numbersOf, ownOf, sheetPlace}
+use Rattle.meaning.specs.Legal.{slotsOk, legal, Legal}
+
+module _ (b : List ℕ) where
+  abbrev long : Bool
+  long = eqb (length b) (lengthOf (nOf b) (numbersOf b))
+
+  abbrev slots : Bool
+  slots = slotsOk b (nOf b) (slotCount (nOf b) (numbersOf b))
+
+  pub legal-facts : legal b ≡ true → Legal b
+  unfolding legal
+  legal-facts h =
+      let p = and-eq-true-iff (houses (nOf b)) (numbersOk (numbersOf b) && (ltb (ownOf b) (nOf b) && (long && (sheetLegalAt b sheetPlace && slots)))) .0 h in
+      let q = and-eq-true-iff (numbersOk (numbersOf b)) (ltb (ownOf b) (nOf b) && (long && (sheetLegalAt b sheetPlace && slots))) .0 (p .1) in
+      let r = and-eq-true-iff (ltb (ownOf b) (nOf b)) (long && (sheetLegalAt b sheetPlace && slots)) .0 (q .1) in
+      let s = and-eq-true-iff long (sheetLegalAt b sheetPlace && slots) .0 (r .1) in
+      let t = and-eq-true-iff (sheetLegalAt b sheetPlace) slots .0 (s .1) in
+      record {
+        n = p .0;
+        numbers = q .0;
+        own = ltb-true (ownOf b) (nOf b) (r .0);
+        long = eqb-true (length b) (lengthOf (nOf b) (numbersOf b)) (s .0);
+        sheet = t .0;
+        slots = t .1;
+      }
+
+  pub facts-legal : Legal b → legal b ≡ true
+  unfolding legal
+  facts-legal l =
+      rw (l .n, l .numbers, lt-ltb (ownOf b) (nOf b) (l .own), eq-eqb (length b) (lengthOf (nOf b) (numbersOf b)) (l .long), l .sheet, l .slots)
+
+  pub not-legal : (Legal b → ⊥) → false ≡ legal b
+  not-legal f = go (legal b) refl
+    where
+      go : (t : Bool) → legal b ≡ t → false ≡ t
+      go true e = absurd (f (legal-facts e))
+      go false e = refl
+
+  module _ (n : ℕ) where
+    pub slots-at : (m : ℕ) → slotsOk b n m ≡ true → (k : ℕ) → k < m → slotOk b (slotPlace n k) ≡ true
+    unfolding slotsOk
+    slots-at zero h k l = absurd (omega arith)
+    slots-at (suc m) h k l =
+        let both = and-eq-true-iff (slotsOk b n m) (slotOk b (slotPlace n m)) .0 h in
+        elim (decLt k m) [ yes a ↦ slots-at m (both .0) k a | no f ↦ let e : k ≡ m = omega arith in rw e (both .1) ]
+
+    pub slots-all : (m : ℕ) → ((k : ℕ) → k < m → slotOk b (slotPlace n k) ≡ true) → slotsOk b n m ≡ true
+    unfolding slotsOk
+    slots-all zero f = refl
+    slots-all (suc m) f = rw (slots-all m (λ k l. f k (omega arith)), f m (omega arith))

@@ -1,0 +1,250 @@
+-- A slot filled in a legal book: the book stays legal, its header stays, and one entry has one slot more. Stores follow one another.
+-- Assumes nothing.
+use Prim.Native.Nat.{ℕ, _+_, _*_, _≤_, _<_}
+use mathlib.Core.Path.{_≡_, refl, sym, ap, _∙_, fun-ext, subst₂}
+use mathlib.Core.Logic.{_⊎_, inl, inr}
+use mathlib.Core.Bool.{Bool, true, false, cond, _&&_}
+use mathlib.Core.List.{List}
+use mathlib.Core.Option.{Option, none, some}
+use native.Mathlib.Omega.{arith}
+use lib.Dec.{eqb, ltb}
+use lib.ListN.{length, getD}
+use borrow.Author.Tests.{eqb-true, eqb-false, eq-eqb, lt-ltb}
+use Rattle.words.specs.Words.{Bytes}
+use Rattle.sheet.specs.Kept.{sheetAt}
+use Rattle.protocol.specs.Entry.{Decl, Kind, SEND, ECHO, READY, Entry, upd}
+use Rattle.protocol.specs.Steps.{recorded, marked, publishes}
+use Rattle.protocol.specs.Book.{PerEntry, sameEntry, place}
+use Rattle.meaning.specs.Slot.{slotAt, slotOk, putSlot}
+use Rattle.meaning.specs.Layout.{perEntry, slotCount, lengthOf, slotPlace, entrySlot}
+use Rattle.meaning.specs.Layout.{sendSlot, echoSlot, readySlot, readySentSlot, deliveredSlot}
+use Rattle.meaning.specs.Book.{nOf, numbersOf, ownOf, seasonOf, sheetPlace, slotOf, look}
+use Rattle.meaning.specs.Legal.{legal, Legal, IsDecl}
+use Rattle.meaning.proofs.Legality.{legal-facts, facts-legal, slots-at, slots-all}
+use Rattle.meaning.proofs.Places.{slot-within, slot-past-header, slots-apart, entry-slot-below, published-slot-below}
+use Rattle.meaning.proofs.Slots.{put-length, slot-put, ok-put, put-bytes, getD-elsewhere, slot-elsewhere, ok-elsewhere}
+use Rattle.meaning.proofs.Header.{same-n, same-numbers, same-own, same-season, same-sheet, same-sheet-legal}
+use Rattle.meaning.proofs.Entries.{entryFrom, rowIn, publishedIn, entryIn, entriesIn, look-is, same-entry, entries-in, entries-put, entries-published}
+use Rattle.meaning.proofs.Entries.{send-filled, echo-filled, ready-filled, ready-sent-filled, delivered-filled}
+
+-- bytes a after bytes b: legal, the same header, and the same entries but for e at sender j and number c
+pub record Stored (b a : List ℕ) (j c : ℕ) (e : Entry) : Type 0 where
+  pub legal : legal a ≡ true
+  pub bytes : Bytes a
+  pub n : nOf a ≡ nOf b
+  pub numbers : numbersOf a ≡ numbersOf b
+  pub own : ownOf a ≡ ownOf b
+  pub season : seasonOf a ≡ seasonOf b
+  pub sheet : sheetAt a sheetPlace ≡ sheetAt b sheetPlace
+  pub entries : look a ≡ place (look b) j c e
+
+-- the slot of an entry in which a message of the kind from house p is recorded
+abbrev pub heardSlot : ℕ → Kind → ℕ → ℕ
+heardSlot n SEND p = sendSlot
+heardSlot n ECHO p = echoSlot p
+heardSlot n READY p = readySlot n p
+
+-- ---- one store after another
+
+place-here : {A : Type 0} (f : PerEntry A) (j c : ℕ) (x : A) → place f j c x j c ≡ x
+place-here f j c x = rw (eq-eqb j j refl, eq-eqb c c refl)
+
+place-place : {A : Type 0} (f : PerEntry A) (j c : ℕ) (x y : A) → place (place f j c x) j c y ≡ place f j c y
+place-place f j c x y = fun-ext (λ j₂. fun-ext (λ c₂. go j₂ c₂ (sameEntry j c j₂ c₂)))
+  where
+    go : (j₂ c₂ : ℕ) (t : Bool) → cond t y (cond t x (f j₂ c₂)) ≡ cond t y (f j₂ c₂)
+    go j₂ c₂ true = refl
+    go j₂ c₂ false = refl
+
+place-same : {A : Type 0} (f : PerEntry A) (j c : ℕ) → f ≡ place f j c (f j c)
+place-same f j c = fun-ext (λ j₂. fun-ext (λ c₂. go j₂ c₂ (sameEntry j c j₂ c₂) refl))
+  where
+    go : (j₂ c₂ : ℕ) (t : Bool) → sameEntry j c j₂ c₂ ≡ t → f j₂ c₂ ≡ cond t (f j c) (f j₂ c₂)
+    go j₂ c₂ true q = let p = same-entry j c j₂ c₂ q in rw (p .0, p .1)
+    go j₂ c₂ false q = refl
+
+module _ (b : List ℕ) (j c : ℕ) where
+  pub stored-entry : (a : List ℕ) (e : Entry) → Stored b a j c e → look a j c ≡ e
+  stored-entry a e s = ap (λ (f : PerEntry Entry). f j c) (s .entries) ∙ place-here (look b) j c e
+
+  -- nothing stored
+  pub stored-none : legal b ≡ true → Bytes b → Stored b b j c (look b j c)
+  stored-none h bytes =
+      record {
+        legal = h;
+        bytes = bytes;
+        n = refl;
+        numbers = refl;
+        own = refl;
+        season = refl;
+        sheet = refl;
+        entries = place-same (look b) j c;
+      }
+
+  pub stored-then : (f : Entry → Entry) (a d : List ℕ) (e : Entry) → Stored b a j c e → Stored a d j c (f (look a j c)) → Stored b d j c (f e)
+  stored-then f a d e s t =
+      record {
+        legal = t .legal;
+        bytes = t .bytes;
+        n = t .n ∙ s .n;
+        numbers = t .numbers ∙ s .numbers;
+        own = t .own ∙ s .own;
+        season = t .season ∙ s .season;
+        sheet = t .sheet ∙ s .sheet;
+        entries = t .entries ∙ rw (stored-entry a e s, s .entries) (place-place (look b) j c e (f e));
+      }
+
+-- ---- one store
+
+module _ (b : List ℕ) (h : legal b ≡ true) (bytes : Bytes b) (v : Decl) (d : IsDecl v) where
+  facts : Legal b
+  facts = legal-facts b h
+
+  -- slot k of the book filled
+  module _ (k : ℕ) (hk : k < slotCount (nOf b) (numbersOf b)) where
+    abbrev at : ℕ
+    at = slotPlace (nOf b) k
+
+    abbrev after : List ℕ
+    after = putSlot b at v
+
+    fits : at + 21 ≤ length b
+    fits = omega (arith, slot-within (nOf b) (numbersOf b) k hk, facts .long)
+
+    header : (i : ℕ) → i < 29 → getD after i 0 ≡ getD b i 0
+    header i l = getD-elsewhere b at v fits (d .long) i (inl (omega (arith, slot-past-header (nOf b) k)))
+
+    n-kept : nOf after ≡ nOf b
+    n-kept = same-n after b header
+
+    numbers-kept : numbersOf after ≡ numbersOf b
+    numbers-kept = same-numbers after b header
+
+    own-kept : ownOf after ≡ ownOf b
+    own-kept = same-own after b header
+
+    pub slots-after : slotOf after ≡ upd (slotOf b) k (some v)
+    unfolding slotOf
+    slots-after = fun-ext (λ m. ap (λ (x : ℕ). slotAt after (slotPlace x m)) n-kept ∙ go m (eqb m k) refl)
+      where
+        go : (m : ℕ) (t : Bool) → eqb m k ≡ t → slotAt after (slotPlace (nOf b) m) ≡ cond t (some v) (slotAt b (slotPlace (nOf b) m))
+        go m true e = rw (eqb-true m k e) (slot-put b at v fits (d .long))
+        go m false e = slot-elsewhere b at v fits (d .long) (slotPlace (nOf b) m) (slots-apart (nOf b) m k (eqb-false m k e))
+
+    ok-after : (m : ℕ) → m < slotCount (nOf b) (numbersOf b) → slotOk after (slotPlace (nOf b) m) ≡ true
+    ok-after m l = go (eqb m k) refl
+      where
+        go : (t : Bool) → eqb m k ≡ t → slotOk after (slotPlace (nOf b) m) ≡ true
+        go true e = rw (eqb-true m k e) (ok-put b at v fits (d .long))
+        go false e =
+            ok-elsewhere b at v fits (d .long) (slotPlace (nOf b) m) (slots-apart (nOf b) m k (eqb-false m k e))
+            ∙ slots-at b (nOf b) (slotCount (nOf b) (numbersOf b)) (facts .slots) m l
+
+    legal-after : legal after ≡ true
+    legal-after =
+        facts-legal after
+        (record {
+          n = rw n-kept (facts .n);
+          numbers = rw numbers-kept (facts .numbers);
+          own = rw (own-kept, n-kept) (facts .own);
+          long = rw (n-kept, numbers-kept) (put-length b at v fits (d .long) ∙ facts .long);
+          sheet = same-sheet-legal after b header ∙ facts .sheet;
+          slots = rw (n-kept, numbers-kept) (slots-all after (nOf b) (slotCount (nOf b) (numbersOf b)) ok-after);
+        })
+
+    -- what the slots mean decides what the book means
+    stored-slot : (j c : ℕ) (e : Entry)
+        → entriesIn (nOf b) (numbersOf b) (ownOf b) (upd (slotOf b) k (some v)) ≡ place (look b) j c e → Stored b after j c e
+    stored-slot j c e q =
+        record {
+          legal = legal-after;
+          bytes = put-bytes b at v fits (d .long) bytes (d .bytes);
+          n = n-kept;
+          numbers = numbers-kept;
+          own = own-kept;
+          season = same-season after b header;
+          sheet = same-sheet after b header;
+          entries = look-is after ∙ (λ i. entriesIn (n-kept i) (numbers-kept i) (own-kept i) (slots-after i)) ∙ q;
+        }
+
+  -- slot i of the entry of sender j and number c filled, which makes f of each entry
+  abbrev InEntry : (n s : ℕ) → Type 0
+  InEntry n s =
+      (j c i : ℕ) (f : Entry → Entry) → j < n → c < s → i < perEntry n
+      → ((row : ℕ → Option Decl) (o : Option Decl) → entryFrom n (upd row i (some v)) o ≡ f (entryFrom n row o))
+      → Stored b (putSlot b (slotPlace n (entrySlot n s c j i)) v) j c (f (look b j c))
+
+  in-entry : InEntry (nOf b) (numbersOf b)
+  unfolding look
+  in-entry j c i f hj hc hi g =
+      let n = nOf b in
+      let s = numbersOf b in
+      stored-slot (entrySlot n s c j i) (entry-slot-below n s c j i hc hj hi) j c (f (look b j c))
+      (entries-put n s (ownOf b) (slotOf b) j c hj hc (some v) i hi
+      ∙ ap (place (look b) j c)
+      (g (rowIn n s (slotOf b) j c) (publishedIn (ownOf b) (slotOf b) j c) ∙ ap f (sym (entries-in n s (ownOf b) (slotOf b) j c hj hc))))
+
+  -- the slot of the own number c filled
+  abbrev InPublished : (n s : ℕ) → Type 0
+  InPublished n s = (j c : ℕ) → j ≡ ownOf b → c < s → Stored b (putSlot b (slotPlace n c) v) j c (publishes v (look b j c) .entry)
+
+  in-published : InPublished (nOf b) (numbersOf b)
+  unfolding look publishes
+  in-published j c e hc =
+      let n = nOf b in
+      let s = numbersOf b in
+      let hj : j < n = omega (arith, facts .own) in
+      stored-slot c (published-slot-below n s c hc) j c (publishes v (look b j c) .entry)
+      (entries-published n s (ownOf b) (slotOf b) j c hj hc (some v) e
+      ∙ ap (place (look b) j c) (ap (λ (x : Entry). publishes v x .entry) (sym (entries-in n s (ownOf b) (slotOf b) j c hj hc))))
+
+  -- ---- the stores that calls make, with the book's n and S as the caller has them
+
+  module _ (n s : ℕ) (en : nOf b ≡ n) (es : numbersOf b ≡ s) (j c : ℕ) (hc : c < s) where
+    pub stored-published : j ≡ ownOf b → Stored b (putSlot b (slotPlace n c) v) j c (publishes v (look b j c) .entry)
+    stored-published e = subst₂ InPublished en es in-published j c e hc
+
+    module _ (hj : j < n) where
+      stored-in : (i : ℕ) (f : Entry → Entry) → i < perEntry n
+          → ((row : ℕ → Option Decl) (o : Option Decl) → entryFrom n (upd row i (some v)) o ≡ f (entryFrom n row o))
+          → Stored b (putSlot b (slotPlace n (entrySlot n s c j i)) v) j c (f (look b j c))
+      stored-in i f hi g = subst₂ InEntry en es in-entry j c i f hj hc hi g
+
+      -- a message of the kind recorded
+      pub stored-heard : (k : Kind) (p : ℕ) → p < n → Stored b (putSlot b (slotPlace n (entrySlot n s c j (heardSlot n k p))) v) j c (recorded k p v (look b j c))
+      unfolding perEntry
+      stored-heard SEND p h = stored-in sendSlot (recorded SEND p v) (omega arith) (λ row o. send-filled n row o v p)
+      stored-heard ECHO p h = stored-in (echoSlot p) (recorded ECHO p v) (omega arith) (λ row o. echo-filled n row o v p h)
+      stored-heard READY p h = stored-in (readySlot n p) (recorded READY p v) (omega arith) (λ row o. ready-filled n row o v p h)
+
+      -- the READY sent marked, where r says so; the delivered, where r says so
+      pub stored-ready-sent : (r : Bool) → Stored b (cond r (putSlot b (slotPlace n (entrySlot n s c j (readySentSlot n))) v) b) j c (marked r false v (look b j c))
+      unfolding perEntry
+      stored-ready-sent true = stored-in (readySentSlot n) (marked true false v) (omega arith) (λ row o. ready-sent-filled n row o v)
+      stored-ready-sent false = stored-none b j c h bytes
+
+      pub stored-delivered : (r : Bool) → Stored b (cond r (putSlot b (slotPlace n (entrySlot n s c j (deliveredSlot n))) v) b) j c (marked false r v (look b j c))
+      unfolding perEntry
+      stored-delivered true = stored-in (deliveredSlot n) (marked false true v) (omega arith) (λ row o. delivered-filled n row o v)
+      stored-delivered false = stored-none b j c h bytes
+
+-- ---- a message's stores: recorded, the READY sent marked or not, the delivered marked or not
+
+module _ (b : List ℕ) (h : legal b ≡ true) (bytes : Bytes b) (v : Decl) (d : IsDecl v) (n s : ℕ) (en : nOf b ≡ n) (es : numbersOf b ≡ s)
+    (j c : ℕ) (hc : c < s) (hj : j < n) (k : Kind) (p : ℕ) (hp : p < n) (r t : Bool) where
+  abbrev b₁ : List ℕ
+  b₁ = putSlot b (slotPlace n (entrySlot n s c j (heardSlot n k p))) v
+
+  abbrev b₂ : List ℕ
+  b₂ = cond r (putSlot b₁ (slotPlace n (entrySlot n s c j (readySentSlot n))) v) b₁
+
+  abbrev b₃ : List ℕ
+  b₃ = cond t (putSlot b₂ (slotPlace n (entrySlot n s c j (deliveredSlot n))) v) b₂
+
+  pub stored-taken : Stored b b₃ j c (marked r t v (recorded k p v (look b j c)))
+  stored-taken =
+      let one = stored-heard b h bytes v d n s en es j c hc hj k p hp in
+      let two = stored-ready-sent b₁ (one .legal) (one .bytes) v d n s (one .n ∙ en) (one .numbers ∙ es) j c hc hj r in
+      let both = stored-then b j c (marked r false v) b₁ b₂ (recorded k p v (look b j c)) one two in
+      let three = stored-delivered b₂ (both .legal) (both .bytes) v d n s (both .n ∙ en) (both .numbers ∙ es) j c hc hj t in
+      stored-then b j c (marked false t v) b₂ b₃ (marked r false v (recorded k p v (look b j c))) both three
