@@ -1,0 +1,39 @@
+-- `book::is_slot_ok` meets its contract.
+-- Assumes nothing.
+use Rattle.book.proofs.Slots.{ok-full, ok-empty, ok-neither}
+use borrow.Author.Needs.{needs}
+use Rattle.book.proofs.is_slot_ok.Statement.{statement}
+use Rattle.book.proofs.is_slot_ok.Tie as tie
+
+shared-slice-read-p : tie.Need-shared-slice-read-p
+shared-slice-read-p c = search needs
+
+returns : tie.Need-returns
+returns c = search ok-full
+
+add-is-same-at : tie.Need-add-is-same-at
+add-is-same-at c = search needs
+
+slice-aggregate-is-same-at : tie.Need-slice-aggregate-is-same-at
+slice-aggregate-is-same-at c = search needs
+
+is-same-at-requires : tie.Need-is-same-at-requires
+is-same-at-requires c κs = search needs
+
+returns-2 : tie.Need-returns-2
+returns-2 c = search ok-empty
+
+returns-3 : tie.Need-returns-3
+returns-3 c = search ok-neither
+
+pub is-slot-ok-spec : {M : Type 1} → statement M
+is-slot-ok-spec =
+    tie.close
+    (tie.spec
+    shared-slice-read-p
+    returns
+    add-is-same-at
+    slice-aggregate-is-same-at
+    is-same-at-requires
+    returns-2
+    returns-3)
