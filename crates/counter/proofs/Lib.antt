@@ -1,2 +1,4 @@
 pub mod Earliest
 pub mod Answers
+pub mod Seen
+pub mod Fullness

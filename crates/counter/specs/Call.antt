@@ -7,6 +7,7 @@ use mathlib.Core.Option.{Option, none, some}
 use lib.Dec.{eqb, ltb}
 use lib.ListN.{length, replicate}
 use Rattle.card.specs.Card.{tolerated}
+use Rattle.lot.specs.declared.Declaration.{Declaration}
 use Rattle.lot.specs.declared.Sheet.{Sheet}
 use Rattle.lot.specs.Declaration.{declarationAt, bytesOf}
 use Rattle.lot.specs.Sheet.{plausible}
@@ -71,10 +72,13 @@ kindNumber SEND = 1
 kindNumber ECHO = 2
 kindNumber READY = 3
 
+-- the writer's 36 bytes
+abbrev pub wired : (kind season sender number : ℕ) → Declaration → List ℕ
+wired kind season j c d = wire (record { kind = kind; season = season; sender = j; number = c; declaration = d })
+
 -- Each message given is the writer's 36 bytes, with the book's season and that entry's sender and number.
 unfoldable pub letter : (season sender number : ℕ) → Say → List ℕ
-letter season j c (say k v) =
-    wire (record { kind = kindNumber k; season = season; sender = j; number = c; declaration = declarationAt v 0 })
+letter season j c (say k v) = wired (kindNumber k) season j c (declarationAt v 0)
 
 abbrev pub letters : (season sender number : ℕ) → Option Say → Option (List ℕ)
 letters season j c none = none

@@ -1,4 +1,18 @@
 // The counter: publishing, receiving, and the earliest waiting entry.
+ghost use mathlib.Core.Path.{_≡_};
+ghost use mathlib.Core.Bool.{true, cond, _&&_};
+ghost use mathlib.Core.Option.{none, some};
+ghost use Prim.Native.Nat.{_+_, _*_, _<_, _≤_};
+ghost use lib.Dec.{leb};
+ghost use lib.ListN.{length};
+ghost use Rattle.lot.specs.Declaration.{bytesOf};
+ghost use Rattle.message.specs.Message.{isKind};
+ghost use Rattle.protocol.specs.Entry.{isNone};
+ghost use Rattle.protocol.specs.Steps.{given, recording};
+ghost use Rattle.meaning.specs.Slot.{slotAt, putSlot};
+ghost use Rattle.counter.specs.Call.{giving, orZeros, kindOf, wired};
+ghost use Rattle.counter.specs.Places.{heardSlot};
+use lot::Declaration;
 
 // What publishing and receiving give. An absent message or declaration is zeros.
 pub struct Outcome {
@@ -15,4 +29,113 @@ pub struct Waiting {
     pub waits: bool,
     pub number: u8,
     pub sender: u8,
+}
+
+// ---- what a call gives
+
+// A refusal: the number, no message, no delivery.
+fn refuse(answer: u8) -> Outcome
+    ensures { λ r. ⌜ r ≡ giving answer none none ⌝ }
+{
+    Outcome {
+        answer,
+        gives: false,
+        message: [0; 36],
+        delivers: false,
+        declaration: [0; 20],
+    }
+}
+
+// The writer's bytes, or none.
+fn letter_of(gives: bool, kind: u8, season: u32, sender: u8, number: u8, d: Declaration) -> [u8; 36]
+    requires { ⌜ isKind kind ≡ true ⌝ }
+    ensures { λ r. ⌜ r ≡ orZeros 36 (given gives (wired kind season sender number d)) ⌝ }
+{
+    if gives {
+        let written = message::write_message(kind, season, sender, number, d);
+        return written.message;
+    }
+    [0; 36]
+}
+
+// The declaration's bytes, or none.
+fn lot_of(delivers: bool, d: Declaration) -> [u8; 20]
+    ensures { λ r. ⌜ r ≡ orZeros 20 (given delivers (bytesOf d)) ⌝ }
+{
+    if delivers {
+        return lot::bytes_of(d);
+    }
+    [0; 20]
+}
+
+// An acceptance: a message of the kind or none, the declaration delivered or not.
+fn accept(
+    gives: bool,
+    kind: u8,
+    season: u32,
+    sender: u8,
+    number: u8,
+    delivers: bool,
+    d: Declaration,
+) -> Outcome
+    requires { ⌜ isKind kind ≡ true ⌝ }
+    ensures { λ r. ⌜ r ≡ giving 0 (given gives (wired kind season sender number d)) (given delivers (bytesOf d)) ⌝ }
+{
+    let message = letter_of(gives, kind, season, sender, number, d);
+    let declaration = lot_of(delivers, d);
+    Outcome {
+        answer: 0,
+        gives,
+        message,
+        delivers,
+        declaration,
+    }
+}
+
+// ---- slots
+
+// The slot of an entry that a message of the kind from a house is recorded in.
+fn heard_slot(kind: u8, n: usize, house: usize) -> usize
+    requires { ⌜ (n < 256) × (house < 256) ⌝ }
+    ensures { λ r. ⌜ (r ≡ heardSlot (kindOf kind) n house) × (r < 1024) ⌝ }
+{
+    if kind == 1 {
+        return 0;
+    }
+    if kind == 2 {
+        return 1 + house;
+    }
+    1 + n + house
+}
+
+// 0, or 7: this kind was already accepted from this house on this entry.
+fn record_answer(book: &[u8], at: usize, d: [u8; 20]) -> u8
+    requires { ⌜ at < length (now book) ⌝ }
+    ensures { λ r. ⌜ r ≡ recording (slotAt (now (book .entry)) at) d ⌝ }
+{
+    if book::is_full(book, at) {
+        return 7;
+    }
+    0
+}
+
+// Nothing is marked at `at` yet, and the vouchers are enough.
+fn is_reached(book: &[u8], at: usize, least: usize, votes: usize) -> bool
+    requires { ⌜ at < length (now book) ⌝ }
+    ensures { λ r. ⌜ r ≡ isNone (slotAt (now (book .entry)) at) && leb least votes ⌝ }
+{
+    if book::is_full(book, at) {
+        return false;
+    }
+    least <= votes
+}
+
+// Fills the slot at `at` where `yes` says so.
+fn mark(book: &mut [u8], at: usize, yes: bool, d: [u8; 20])
+    requires { ⌜ at + 21 ≤ length (now book) ⌝ }
+    ensures { λ _. ⌜ now (book .exit) ≡ cond yes (putSlot (now (book .entry)) at d) (now (book .entry)) ⌝ }
+{
+    if yes {
+        book::put_slot(book, at, d);
+    }
 }
