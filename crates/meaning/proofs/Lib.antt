@@ -5,3 +5,5 @@ pub mod Slots
 pub mod Header
 pub mod Entries
 pub mod Stores
+pub mod Rows
+pub mod Written
