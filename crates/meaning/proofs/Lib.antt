@@ -7,3 +7,4 @@ pub mod Entries
 pub mod Stores
 pub mod Rows
 pub mod Written
+pub mod OneForm

@@ -6,7 +6,7 @@ use mathlib.Core.Bool.{Bool, true, false, cond, _&&_, and-eq-true-iff}
 use mathlib.Core.List.{List, _∷_, _++_}
 use lib.Dec.{eqb}
 use lib.Ieee.{Float, binary32, ofBits, toBits}
-use lib.Ieee.Bits.{ofBits-toBits, toBits-ofBits}
+use lib.Ieee.Bits.{ofBits-toBits, ofBits-fits, toBits-ofBits}
 use lib.ListN.{length, getD}
 use borrow.Author.Tests.{eqb-true}
 use Rattle.words.specs.Words.{Bytes, wordAt}
@@ -30,6 +30,22 @@ unfolding gateOf
 gate-of-kept Open f = refl
 gate-of-kept (AtMost high) f = ap AtMost (ofBits-toBits binary32 high f)
 gate-of-kept (Between low high) f = ap₂ Between (ofBits-toBits binary32 low (f .0)) (ofBits-toBits binary32 high (f .1))
+
+-- what is read is a value of binary32, whatever the bytes
+pub gate-fits : (k : Kept) → GateFits (gateOf k)
+unfolding gateOf
+gate-fits k = go (eqb (k .kind) 0) (eqb (k .kind) 1)
+  where
+    lo : Float
+    lo = ofBits binary32 (k .low)
+
+    hi : Float
+    hi = ofBits binary32 (k .high)
+
+    go : (b c : Bool) → GateFits (cond b Open (cond c (AtMost hi) (Between lo hi)))
+    go true c = tt
+    go false true = ofBits-fits binary32 (k .high)
+    go false false = (ofBits-fits binary32 (k .low), ofBits-fits binary32 (k .high))
 
 form-of-kept : (g : Gate) → keptForm (keptOf g) ≡ true
 unfolding keptForm
