@@ -8,9 +8,10 @@ use native.Mathlib.Nat.{zero-add, add-zero, add-suc, zero-mul, suc-mul, mul-le-m
 use native.Mathlib.Omega.{arith}
 use lib.ListN.{length, replicate, length-append, replicate-append-replicate}
 use Rattle.words.specs.Words.{Bytes}
+use Rattle.words.proofs.Bytes.{bytes-append, bytes-zeros}
 use Rattle.meaning.specs.Slot.{part}
 use Rattle.meaning.specs.Book.{rows}
-use Rattle.meaning.proofs.Parts.{part-all, part-add, part-before, part-after, bytes-append, bytes-zeros}
+use Rattle.meaning.proofs.Parts.{part-all, part-add, part-before, part-after}
 
 pub rows-same : (n : ℕ) (f g : ℕ → List ℕ) → ((k : ℕ) → k < n → f k ≡ g k) → rows n f ≡ rows n g
 unfolding rows
