@@ -5,3 +5,6 @@ pub mod Slots
 pub mod Header
 pub mod Entries
 pub mod Stores
+pub mod Rows
+pub mod Written
+pub mod OneForm

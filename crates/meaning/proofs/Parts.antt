@@ -5,9 +5,10 @@ use mathlib.Core.Path.{_≡_, refl, sym, ap, _∙_}
 use mathlib.Core.List.{List, [], _∷_, _++_}
 use native.Mathlib.Nat.{zero-add, add-zero, suc-add}
 use native.Mathlib.Omega.{arith}
-use lib.ListN.{length, getD, take, drop, replicate, length-take, length-drop}
+use lib.ListN.{length, getD, take, drop, length-take, length-drop}
 use lib.Seq.{getD-take, getD-drop, take-add, take-all, take-take, drop-drop, take-append-le, drop-append-le, drop-append-add}
 use Rattle.words.specs.Words.{Bytes}
+use Rattle.words.proofs.Bytes.{bytes-take, bytes-drop}
 use Rattle.meaning.specs.Slot.{part}
 
 drop-take : (i m : ℕ) (l : List ℕ) → drop i (take (i + m) l) ≡ take m (drop i l)
@@ -53,28 +54,5 @@ module _ (xs ys : List ℕ) where
 
 -- ---- bytes
 
-pub bytes-append : (xs ys : List ℕ) → Bytes xs → Bytes ys → Bytes (xs ++ ys)
-bytes-append [] ys p q i = q i
-bytes-append (x ∷ xs) ys p q zero = p 0
-bytes-append (x ∷ xs) ys p q (suc i) = bytes-append xs ys (λ k. p (suc k)) q i
-
-pub bytes-cons : (x : ℕ) (xs : List ℕ) → x < 256 → Bytes xs → Bytes (x ∷ xs)
-bytes-cons x xs l p zero = l
-bytes-cons x xs l p (suc i) = p i
-
-pub bytes-drop : (at : ℕ) (b : List ℕ) → Bytes b → Bytes (drop at b)
-bytes-drop at b p i = rw getD-drop (p (at + i))
-
-pub bytes-take : (m : ℕ) (b : List ℕ) → Bytes b → Bytes (take m b)
-bytes-take zero b p i = omega arith
-bytes-take (suc m) [] p i = omega arith
-bytes-take (suc m) (x ∷ b) p zero = p 0
-bytes-take (suc m) (x ∷ b) p (suc i) = bytes-take m b (λ k. p (suc k)) i
-
 pub bytes-part : (b : List ℕ) (at m : ℕ) → Bytes b → Bytes (part b at m)
 bytes-part b at m p = bytes-take m (drop at b) (bytes-drop at b p)
-
-pub bytes-zeros : (m : ℕ) → Bytes (replicate m 0)
-bytes-zeros zero i = omega arith
-bytes-zeros (suc m) zero = omega arith
-bytes-zeros (suc m) (suc i) = bytes-zeros m i

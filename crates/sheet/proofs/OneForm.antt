@@ -6,11 +6,13 @@ use mathlib.Core.Bool.{Bool, true, false, cond, _&&_, and-eq-true-iff}
 use mathlib.Core.List.{List, _∷_, _++_}
 use lib.Dec.{eqb}
 use lib.Ieee.{Float, binary32, ofBits, toBits}
-use lib.Ieee.Bits.{ofBits-toBits, toBits-ofBits}
+use lib.Ieee.Bits.{ofBits-toBits, ofBits-fits, toBits-ofBits, toBits-lt}
 use lib.ListN.{length, getD}
+use native.Mathlib.Omega.{arith}
 use borrow.Author.Tests.{eqb-true}
-use Rattle.words.specs.Words.{Bytes, wordAt}
+use Rattle.words.specs.Words.{Bytes, be32, wordAt}
 use Rattle.words.proofs.Laws.{word-be, be-wordAt, wordAt-small}
+use Rattle.words.proofs.Bytes.{bytes-append, bytes-cons, be-bytes}
 use Rattle.words.proofs.Listed.{listed-is}
 use Rattle.lot.specs.declared.Gate.{Gate}
 use Rattle.lot.specs.declared.Gate.the-variants.{Open, AtMost, Between}
@@ -19,7 +21,7 @@ use Rattle.sheet.specs.declared.Kept.{Kept}
 use Rattle.lot.specs.declared.Declaration.{Declaration}
 use Rattle.lot.specs.Declaration.{declarationAt, bytesOf}
 use Rattle.lot.specs.Sheet.{GateFits, gateLegal, sheetLegal, plausible, judgedBy}
-use Rattle.sheet.specs.Kept.{keptOf, gateOf, keptForm, keptLegal, laid, sheetBytes, keptAt, sheetAt, sheetLegalAt, isSheet, judged}
+use Rattle.sheet.specs.Kept.{keptOf, keptBytes, gateOf, keptForm, keptLegal, laid, sheetBytes, keptAt, sheetAt, sheetLegalAt, isSheet, judged}
 use Rattle.lot.proofs.Declared.{numbers-of-bytes}
 use Rattle.sheet.proofs.Gates.{no-nan, at-most-finite, low-finite, high-finite, sheet-sized}
 
@@ -30,6 +32,22 @@ unfolding gateOf
 gate-of-kept Open f = refl
 gate-of-kept (AtMost high) f = ap AtMost (ofBits-toBits binary32 high f)
 gate-of-kept (Between low high) f = ap₂ Between (ofBits-toBits binary32 low (f .0)) (ofBits-toBits binary32 high (f .1))
+
+-- what is read is a value of binary32, whatever the bytes
+pub gate-fits : (k : Kept) → GateFits (gateOf k)
+unfolding gateOf
+gate-fits k = go (eqb (k .kind) 0) (eqb (k .kind) 1)
+  where
+    lo : Float
+    lo = ofBits binary32 (k .low)
+
+    hi : Float
+    hi = ofBits binary32 (k .high)
+
+    go : (b c : Bool) → GateFits (cond b Open (cond c (AtMost hi) (Between lo hi)))
+    go true c = tt
+    go false true = ofBits-fits binary32 (k .high)
+    go false false = (ofBits-fits binary32 (k .low), ofBits-fits binary32 (k .high))
 
 form-of-kept : (g : Gate) → keptForm (keptOf g) ≡ true
 unfolding keptForm
@@ -114,6 +132,33 @@ module _ (s : Sheet) (m : GateFits (s .moisture)) (c : GateFits (s .conductivity
   unfolding judged judgedBy
   judged-bytes d =
       λ i. cond (legal-bytes i) (cond (plausible (sheet-of-bytes i) (numbers-of-bytes d i)) 0 5) 10
+
+-- a gate's limits, as numbers of 32 bits
+limits-small : (g : Gate) → GateFits g → (keptOf g .low < 2 ^ 32) × (keptOf g .high < 2 ^ 32)
+limits-small Open f = omega arith
+limits-small (AtMost high) f = (omega arith, toBits-lt binary32 high f)
+limits-small (Between low high) f = (toBits-lt binary32 low (f .0), toBits-lt binary32 high (f .1))
+
+kind-small : (g : Gate) → keptOf g .kind < 256
+kind-small Open = omega arith
+kind-small (AtMost high) = omega arith
+kind-small (Between low high) = omega arith
+
+kept-bytes : (g : Gate) → GateFits g → Bytes (keptBytes (keptOf g))
+kept-bytes g f =
+    let k = keptOf g in
+    let l = limits-small g f in
+    bytes-cons (k .kind) (be32 (k .low) ++ be32 (k .high)) (kind-small g)
+    (bytes-append (be32 (k .low)) (be32 (k .high)) (be-bytes (k .low) (l .0)) (be-bytes (k .high) (l .1)))
+
+-- a sheet's bytes are bytes
+pub sheet-bytes : (s : Sheet) → s .cap < 2 ^ 32 → GateFits (s .moisture) → GateFits (s .conductivity) → Bytes (sheetBytes s)
+unfolding sheetBytes
+sheet-bytes s l m c =
+    let moisture = keptBytes (keptOf (s .moisture)) in
+    let conductivity = keptBytes (keptOf (s .conductivity)) in
+    bytes-append (be32 (s .cap)) (moisture ++ conductivity) (be-bytes (s .cap) l)
+    (bytes-append moisture conductivity (kept-bytes (s .moisture) m) (kept-bytes (s .conductivity) c))
 
 -- ---- from bytes to the sheet and back
 

@@ -1,0 +1,86 @@
+-- The bytes of a meaning are its header and then its slots, one after the other.
+-- Assumes nothing.
+use Prim.Native.Nat.{ℕ, zero, suc, _+_, _*_, _≤_, _<_}
+use mathlib.Core.Path.{_≡_, refl, sym, ap, ap₂, _∙_}
+use mathlib.Core.Bool.{Bool, cond}
+use mathlib.Core.List.{List, [], _∷_, _++_, append-assoc}
+use mathlib.Core.Option.{Option, none, some}
+use native.Mathlib.Nat.{add-assoc}
+use native.Mathlib.Omega.{arith}
+use lib.Dec.{eqb, ltb}
+use borrow.Author.Tests.{eq-eqb, lt-ltb}
+use Rattle.lot.specs.declared.Sheet.{Sheet}
+use Rattle.protocol.specs.Entry.{Decl, Entry}
+use Rattle.meaning.specs.Slot.{slotBytes}
+use Rattle.meaning.specs.Layout.{perEntry, slotCount, entrySlot, echoSlot, readySlot, readySentSlot, deliveredSlot}
+use Rattle.meaning.specs.Book.{Meaning, forHouses, head, rows, entryBytes, write}
+use Rattle.meaning.proofs.Rows.{rows-same, rows-add, rows-flat}
+use Rattle.meaning.proofs.Entries.{entryFrom, rowIn, publishedIn, entryIn, entriesIn, entries-in}
+
+in-houses : (n : ℕ) (f : ℕ → Option Decl) (p : ℕ) → p < n → f p ≡ forHouses n f p
+in-houses n f p l = rw (lt-ltb p n l)
+
+-- the entry's bytes are its row's
+entry-rows : (n : ℕ) (row : ℕ → Option Decl) (o : Option Decl) → entryBytes n (entryFrom n row o) ≡ rows (perEntry n) (λ i. slotBytes (row i))
+unfolding entryBytes perEntry rows
+entry-rows n row o =
+    let count : 2 * n + 3 ≡ 1 + (n + (n + 2)) = omega arith in
+    let echo = rows-same n (λ p. f (1 + p)) (λ p. slotBytes (forHouses n echoes p)) (λ p l. ap slotBytes (in-houses n echoes p l)) in
+    let ready =
+    rows-same n (λ p. f (1 + (n + p))) (λ p. slotBytes (forHouses n readies p))
+    (λ p l. let e : 1 + (n + p) ≡ 1 + n + p = omega arith in ap f e ∙ ap slotBytes (in-houses n readies p l))
+    in
+    let sent : 1 + (n + (n + 0)) ≡ 1 + 2 * n = omega arith in
+    let delivered : 1 + (n + (n + 1)) ≡ 2 + 2 * n = omega arith in
+    sym
+    (ap (λ (x : ℕ). rows x f) count
+    ∙ rows-add 1 (n + (n + 2)) f
+    ∙ ap (λ (l : List ℕ). f 0 ++ l) (rows-add n (n + 2) (λ k. f (1 + k)))
+    ∙ ap (λ (l : List ℕ). f 0 ++ (rows n (λ k. f (1 + k)) ++ l)) (rows-add n 2 (λ k. f (1 + (n + k))))
+    ∙ (λ i. f 0 ++ (echo i ++ (ready i ++ (f (sent i) ++ f (delivered i))))))
+  where
+    f : ℕ → List ℕ
+    f i = slotBytes (row i)
+
+    echoes : ℕ → Option Decl
+    echoes p = row (echoSlot p)
+
+    readies : ℕ → Option Decl
+    readies p = row (readySlot n p)
+
+module _ (n s own season : ℕ) (sheet : Sheet) (slot : ℕ → Option Decl) (h : own < n) where
+  -- the slots after the published ones, and those of one entry
+  abbrev past : ℕ → List ℕ
+  past k = slotBytes (slot (s + k))
+
+  abbrev oneRow : ℕ → List ℕ
+  oneRow r = rows (perEntry n) (λ i. past (r * perEntry n + i))
+
+  published-written : rows s (λ c. slotBytes (entriesIn n s own slot own c .published)) ≡ rows s (λ c. slotBytes (slot c))
+  published-written =
+      rows-same s (λ c. slotBytes (entriesIn n s own slot own c .published)) (λ c. slotBytes (slot c))
+      (λ c l. ap (λ (e : Entry). slotBytes (e .published)) (entries-in n s own slot own c h l) ∙ rw (eq-eqb own own refl))
+
+  entry-written : (c j : ℕ) → c < s → j < n → entryBytes n (entriesIn n s own slot j c) ≡ oneRow (c * n + j)
+  unfolding entrySlot
+  entry-written c j lc lj =
+      ap (entryBytes n) (entries-in n s own slot j c lj lc)
+      ∙ entry-rows n (rowIn n s slot j c) (publishedIn own slot j c)
+      ∙ rows-same (perEntry n) (λ i. slotBytes (rowIn n s slot j c i)) (λ i. past ((c * n + j) * perEntry n + i))
+      (λ i l. ap (λ (k : ℕ). slotBytes (slot k)) (add-assoc s ((c * n + j) * perEntry n) i))
+
+  entries-written : rows s (λ c. rows n (λ j. entryBytes n (entriesIn n s own slot j c))) ≡ rows (s * n * perEntry n) past
+  entries-written =
+      rows-same s (λ c. rows n (λ j. entryBytes n (entriesIn n s own slot j c))) (λ c. rows n (λ j. oneRow (c * n + j)))
+      (λ c lc. rows-same n (λ j. entryBytes n (entriesIn n s own slot j c)) (λ j. oneRow (c * n + j)) (λ j lj. entry-written c j lc lj))
+      ∙ rows-flat s n oneRow
+      ∙ rows-flat (s * n) (perEntry n) past
+
+  abbrev pub meaningOf : Meaning
+  meaningOf = record { n = n; numbers = s; own = own; season = season; sheet = sheet; entries = entriesIn n s own slot }
+
+  pub write-slots : write meaningOf ≡ head n s own season sheet ++ rows (slotCount n s) (λ k. slotBytes (slot k))
+  unfolding write slotCount
+  write-slots =
+      (λ i. head n s own season sheet ++ (published-written i ++ entries-written i))
+      ∙ ap (λ (l : List ℕ). head n s own season sheet ++ l) (sym (rows-add s (s * n * perEntry n) (λ k. slotBytes (slot k))))
