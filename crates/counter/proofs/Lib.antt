@@ -2,3 +2,4 @@ pub mod Earliest
 pub mod Answers
 pub mod Seen
 pub mod Fullness
+pub mod Taken

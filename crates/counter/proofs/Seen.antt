@@ -41,7 +41,7 @@ module _ (b : List ℕ) (j c : ℕ) (has : Has b j c) where
   published-seen e = ap (λ (e : Entry). e .published) look-in ∙ rw (eq-eqb j (ownOf b) e)
 
   -- the slots of a row follow one another
-  place-along : (i p : ℕ) → placeIn b j c i + 21 * p ≡ placeIn b j c (i + p)
+  pub place-along : (i p : ℕ) → placeIn b j c i + 21 * p ≡ placeIn b j c (i + p)
   unfolding slotPlace entrySlot
   place-along i p = omega arith
 

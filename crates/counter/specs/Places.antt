@@ -1,13 +1,19 @@
 -- Where a call's slots stand, and what the code asks of the book it works on.
 -- Assumes nothing.
-use Prim.Native.Nat.{ℕ, _<_}
+use Prim.Native.Nat.{ℕ, _+_, _*_, _<_}
 use mathlib.Core.Path.{_≡_}
-use mathlib.Core.Bool.{true}
+use mathlib.Core.Bool.{Bool, true, false, _&&_}
 use mathlib.Core.List.{List}
-use Rattle.protocol.specs.Entry.{Kind, SEND, ECHO, READY}
-use Rattle.meaning.specs.Layout.{slotPlace, entrySlot, perEntry, sendSlot, echoSlot, readySlot}
+use mathlib.Core.Option.{Option}
+use lib.Dec.{leb}
+use Rattle.card.specs.Card.{countsOf}
+use Rattle.card.specs.Count.{count}
+use Rattle.protocol.specs.Entry.{Decl, Kind, SEND, ECHO, READY, isNone, holds}
+use Rattle.meaning.specs.Slot.{slotAt}
+use Rattle.meaning.specs.Layout.{slotLength, slotPlace, entrySlot, sendSlot, echoSlot, readySlot, readySentSlot, deliveredSlot}
 use Rattle.meaning.specs.Book.{nOf, numbersOf}
 use Rattle.meaning.specs.Legal.{legal}
+use Rattle.counter.specs.declared.Marks.{Marks}
 
 -- where slot i of the entry of sender j and number c begins
 abbrev pub placeIn : List ℕ → (sender number i : ℕ) → ℕ
@@ -24,3 +30,27 @@ pub record Has (b : List ℕ) (j c : ℕ) : Type 0 where
   pub is-legal : legal b ≡ true
   pub sender : j < nOf b
   pub number : c < numbersOf b
+
+-- slot i of the entry whose first slot begins at `base`
+abbrev pub slotFrom : List ℕ → (base i : ℕ) → Option Decl
+slotFrom b base i = slotAt b (base + slotLength * i)
+
+-- how many houses vouch for v in the row that begins with slot i
+abbrev pub votesFrom : List ℕ → (base i : ℕ) → Decl → ℕ
+votesFrom b base i v = count (λ p. holds (slotAt b (base + slotLength * i + slotLength * p)) v) (nOf b)
+
+-- whether vouchers for v now make a READY, and deliver: of ECHOes by the quorum, of READYs by amplify and deliver
+unfoldable pub marksAt : List ℕ → Kind → (base : ℕ) → Decl → Marks
+marksAt b SEND base v = record { gives = false; delivers = false }
+marksAt b ECHO base v =
+    record {
+      gives = isNone (slotFrom b base (readySentSlot (nOf b)))
+          && leb (countsOf (nOf b) .quorum) (votesFrom b base (heardSlot ECHO (nOf b) 0) v);
+      delivers = false;
+    }
+marksAt b READY base v =
+    let votes : ℕ = votesFrom b base (heardSlot READY (nOf b) 0) v in
+    record {
+      gives = isNone (slotFrom b base (readySentSlot (nOf b))) && leb (countsOf (nOf b) .amplify) votes;
+      delivers = isNone (slotFrom b base (deliveredSlot (nOf b))) && leb (countsOf (nOf b) .deliver) votes;
+    }

@@ -31,6 +31,12 @@ pub struct Waiting {
     pub sender: u8,
 }
 
+// Whether a message's vouchers now make a READY, and deliver.
+pub struct Marks {
+    pub gives: bool,
+    pub delivers: bool,
+}
+
 // ---- what a call gives
 
 // A refusal: the number, no message, no delivery.

@@ -1,0 +1,62 @@
+-- An accepted message at the bytes: what the code stores, gives and delivers is the protocol's step on the entry.
+-- Assumes nothing.
+use Prim.Native.Nat.{ℕ, _+_, _*_, _<_}
+use mathlib.Core.Path.{_≡_, refl, sym, ap, ap₂, _∙_}
+use mathlib.Core.Bool.{Bool, true, false, cond, _&&_}
+use mathlib.Core.List.{List}
+use mathlib.Core.Option.{Option, none, some}
+use native.Mathlib.Omega.{arith}
+use lib.Dec.{leb}
+use Rattle.card.specs.Card.{tolerated, quorum, amplify, deliver, countsOf}
+use Rattle.card.specs.Count.{count}
+use Rattle.words.specs.Words.{Bytes}
+use Rattle.protocol.specs.Entry.{Decl, Kind, SEND, ECHO, READY, Entry, Rules, isNone, holds, votes}
+use Rattle.protocol.specs.Steps.{Out, Say, say, given, recorded, marked, reached, takesSend, takesEcho, takesReady, takes}
+use Rattle.protocol.specs.Thresholds.{rulesOf}
+use Rattle.meaning.specs.Slot.{slotAt, putSlot}
+use Rattle.meaning.specs.Layout.{slotPlace, entrySlot, echoSlot, readySlot, readySentSlot, deliveredSlot}
+use Rattle.meaning.specs.Book.{nOf, numbersOf, look, meant}
+use Rattle.meaning.specs.Legal.{legal, IsDecl}
+use Rattle.meaning.proofs.Stores.{Stored, stored-entry, stored-heard}
+use Rattle.counter.specs.declared.Marks.{Marks}
+use Rattle.counter.specs.Call.{rulesBy}
+use Rattle.counter.specs.Places.{placeIn, heardSlot, Has, slotFrom, votesFrom, marksAt}
+use Rattle.counter.proofs.Seen.{place-along, sent-seen, delivered-seen, echoes-seen, readies-seen}
+
+-- ---- in a book that has the entry, slots from its first one on are the entry's
+
+module _ (b : List ℕ) (j c : ℕ) (has : Has b j c) (base : ℕ) (at : base ≡ placeIn b j c 0) where
+  from : (i : ℕ) → base + 21 * i ≡ placeIn b j c i
+  from i = ap (λ (x : ℕ). x + 21 * i) at ∙ place-along b j c has 0 i
+
+  sent-from : slotFrom b base (readySentSlot (nOf b)) ≡ look b j c .readySent
+  sent-from = ap (slotAt b) (from (readySentSlot (nOf b))) ∙ sym (sent-seen b j c has)
+
+  delivered-from : slotFrom b base (deliveredSlot (nOf b)) ≡ look b j c .delivered
+  delivered-from = ap (slotAt b) (from (deliveredSlot (nOf b))) ∙ sym (delivered-seen b j c has)
+
+  row-from : (i : ℕ) (v : Decl) → votesFrom b base i v ≡ count (λ p. holds (slotAt b (placeIn b j c i + 21 * p)) v) (nOf b)
+  row-from i v = ap (λ (x : ℕ). count (λ p. holds (slotAt b (x + 21 * p)) v) (nOf b)) (from i)
+
+  marks-echo : (v : Decl) → marksAt b ECHO base v
+      ≡ record { gives = reached (countsOf (nOf b) .quorum) (look b j c .readySent) (look b j c .echo) v (nOf b); delivers = false }
+  unfolding marksAt
+  marks-echo v = λ i.
+      record {
+        gives = isNone (sent-from i) && leb (countsOf (nOf b) .quorum) ((row-from (echoSlot 0) v ∙ echoes-seen b j c has v) i);
+        delivers = false;
+      }
+
+  marks-ready : (v : Decl) → marksAt b READY base v
+      ≡ record {
+        gives = reached (countsOf (nOf b) .amplify) (look b j c .readySent) (look b j c .ready) v (nOf b);
+        delivers = reached (countsOf (nOf b) .deliver) (look b j c .delivered) (look b j c .ready) v (nOf b);
+      }
+  unfolding marksAt
+  marks-ready v =
+      let votes = row-from (readySlot (nOf b) 0) v ∙ readies-seen b j c has v in
+      λ i.
+      record {
+        gives = isNone (sent-from i) && leb (countsOf (nOf b) .amplify) (votes i);
+        delivers = isNone (delivered-from i) && leb (countsOf (nOf b) .deliver) (votes i);
+      }
