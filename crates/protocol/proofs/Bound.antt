@@ -21,7 +21,7 @@ use Rattle.protocol.proofs.Slots.{run-fills}
 use Rattle.protocol.proofs.Mail.{copies-kinds}
 use Rattle.protocol.proofs.Invariant.{View, Inv}
 use Rattle.protocol.proofs.Views.{view}
-use Rattle.protocol.proofs.Runs.{taken}
+use Rattle.protocol.proofs.Consuming.{taken}
 
 pub count-all : (n : ℕ) → count (λ i. true) n ≡ n
 count-all n = omega (arith, count-not (λ i. true) n, count-none (λ i. false) n (λ i l. refl))

@@ -35,15 +35,15 @@ way k F Q m = isKind k (m .kind) && (F (m .from) && Q (m .to))
 abbrev pub true-to : (ℕ → Entry) → Copy → Bool
 true-to H m = holds (own (m .kind) (H (m .from))) (m .decl)
 
-pub is-refl : (j c : ℕ) → T (sameEntry j c j c)
-is-refl j c = and-mk (eqb j j) (eqb c c) (eqb-refl j) (eqb-refl c)
+pub entry-refl : (j c : ℕ) → T (sameEntry j c j c)
+entry-refl j c = and-mk (eqb j j) (eqb c c) (eqb-refl j) (eqb-refl c)
 
 -- of a message of kind l from house r, the copies that pass
 way-toAll : (j c r : ℕ) (k l : Kind) (F Q : ℕ → Bool) (w : Decl) (n : ℕ)
     → tally (λ m. onIt j c m && way k F Q m) (toAll j c r l w n) ≡ count (λ q. (isKind k l && F r) && Q q) n
 way-toAll j c r k l F Q w n =
     tally-toAll (λ m. onIt j c m && way k F Q m) j c r l w n
-    ∙ count-same _ _ n (λ q h. regroup (sameEntry j c j c) (isKind k l) (F r) (Q q) (is-refl j c))
+    ∙ count-same _ _ n (λ q h. regroup (sameEntry j c j c) (isKind k l) (F r) (Q q) (entry-refl j c))
   where
     regroup : (t a b q : Bool) → T t → (t && (a && (b && q))) ≡ ((a && b) && q)
     regroup true true b q x = refl
