@@ -47,28 +47,35 @@ module _ (B : Wall) (t : ℕ) (up : ℕ → Bool) (Y : Tolerated B t up) where
   keep-backed : (j c : ℕ) (s : View) → Inv B j c s → Backed B (s .house) → (r : ℕ) (a : Call) (o : Out) (mail : List Copy)
       → Act B j c s r a o mail → Backed B (upd (s .house) r (o .entry))
   keep-backed j c s I K r a o mail A q v =
-      upd-all (λ q x. x .readySent ≡ some v → B .rules .quorum ≤ count (vouch B (upd (s .house) r (o .entry)) v) (n B))
-      (s .house) r (o .entry) here (λ q e. more (K q v e)) q
+      upd-all (λ q x. x .readySent ≡ some v → Quorate H′) (s .house) r (o .entry) here (λ q e. more (K q v e)) q
     where
-      sent : (p : ℕ) → s .house p .send ≡ some v → upd (s .house) r (o .entry) p .send ≡ some v
-      sent p =
-          upd-all (λ p x. s .house p .send ≡ some v → x .send ≡ some v) (s .house) r (o .entry) (A .done .moves .filled .send v) (λ p e. e) p
+      H′ : ℕ → Entry
+      H′ = upd (s .house) r (o .entry)
 
-      more : B .rules .quorum ≤ count (vouch B (s .house) v) (n B) → B .rules .quorum ≤ count (vouch B (upd (s .house) r (o .entry)) v) (n B)
+      Quorate : (ℕ → Entry) → Type 0
+      Quorate H = B .rules .quorum ≤ count (vouch B H v) (n B)
+
+      sent : (p : ℕ) → s .house p .send ≡ some v → H′ p .send ≡ some v
+      sent p =
+          upd-all (λ p x. s .house p .send ≡ some v → x .send ≡ some v) (s .house) r (o .entry)
+          (A .done .moves .filled .send v) (λ p e. e) p
+
+      more : Quorate (s .house) → Quorate H′
       more l =
           omega (
             arith,
-            count-mono (vouch B (s .house) v) (vouch B (upd (s .house) r (o .entry)) v) (n B)
+            count-mono (vouch B (s .house) v) (vouch B H′ v) (n B)
                 (λ p i t. vouch-of (right B p) _ (λ g. eq-holds _ v (sent p (holds-eq (s .house p .send) v (vouch-to (right B p) _ g t))))),
           )
 
-      here : o .entry .readySent ≡ some v → B .rules .quorum ≤ count (vouch B (upd (s .house) r (o .entry)) v) (n B)
+      here : o .entry .readySent ≡ some v → Quorate H′
       here e =
           ⊎-elim
           (λ l. more (omega (
             arith,
             count-mono (λ p. holds (o .entry .echo p) v) (vouch B (s .house) v) (n B)
-                (λ p i t. vouch-of (right B p) _ (λ g. eq-holds (s .house p .send) v (act-heard B j c s I r a o mail A ECHO p v (holds-eq (o .entry .echo p) v t) tt g))),
+                (λ p i t. vouch-of (right B p) _ (λ g. eq-holds (s .house p .send) v
+                (act-heard B j c s I r a o mail A ECHO p v (holds-eq (o .entry .echo p) v t) tt g))),
           )))
           (λ l. let x = honest-one (λ p. holds (o .entry .ready p) v) (omega (arith, Y .thresholds .amplified)) in
           more (K (x .0) v (act-heard B j c s I r a o mail A READY (x .0) v (holds-eq (o .entry .ready (x .0)) v (x .2)) tt (x .1))))
@@ -81,7 +88,7 @@ module _ (B : Wall) (t : ℕ) (up : ℕ → Bool) (Y : Tolerated B t up) where
     -- a READY's declaration is one that an honest house gave an ECHO of
     vouched : (r : ℕ) (v : Decl) → s .house r .readySent ≡ some v → (p : ℕ) × T (right B p) × (s .house p .send ≡ some v)
     vouched r v e =
-        let x = honest-one (vouch B (s .house) v) (omega (arith, K r v e, Y .thresholds .overlapping, Y .thresholds .echoed, count-le up (n B))) in
+        let x = honest-one (vouch B (s .house) v) (omega (arith, K r v e, Y .thresholds, count-le up (n B))) in
         (x .0, x .1, holds-eq (s .house (x .0) .send) v (vouch-to (right B (x .0)) _ (x .1) (x .2)))
 
     ready-agree : (r q : ℕ) (v w : Decl) → s .house r .readySent ≡ some v → s .house q .readySent ≡ some w → v ≡ w
@@ -97,7 +104,7 @@ module _ (B : Wall) (t : ℕ) (up : ℕ → Bool) (Y : Tolerated B t up) where
     -- a delivered declaration is one that an honest house gave a READY of
     delivered-ready : (r : ℕ) (v : Decl) → s .house r .delivered ≡ some v → (p : ℕ) × T (right B p) × (s .house p .readySent ≡ some v)
     delivered-ready r v e =
-        let x = honest-one (λ p. holds (s .house r .ready p) v) (omega (arith, I .local r .delivery-backed v e, Y .thresholds .amplified, Y .thresholds .delivered)) in
+        let x = honest-one (λ p. holds (s .house r .ready p) v) (omega (arith, I .local r .delivery-backed v e, Y .thresholds)) in
         (x .0, x .1, I .given r READY (x .0) v (holds-eq (s .house r .ready (x .0)) v (x .2)) tt (x .1))
 
     pub deliver-ready-agree : (r q : ℕ) (v w : Decl) → s .house r .delivered ≡ some v → s .house q .readySent ≡ some w → v ≡ w

@@ -37,7 +37,8 @@ pub record Done (R : Rules) (j r : ℕ) (a : Call) (e : Entry) (o : Out) : Type 
   pub hears : (l : Kind) (q : ℕ) (w : Decl) → heard l q (o .entry) ≡ some w → T (may j l q) → (heard l q e ≡ some w) ⊎ Brings a l q w
 
 module _ (R : Rules) (j : ℕ) where
-  heard-new : (k : Kind) (p : ℕ) (v : Decl) (e : Entry) → T (may j k p) → (l : Kind) (q : ℕ) (w : Decl) → heard l q (takes R k p v e .entry) ≡ some w
+  heard-new : (k : Kind) (p : ℕ) (v : Decl) (e : Entry) → T (may j k p) → (l : Kind) (q : ℕ) (w : Decl)
+      → heard l q (takes R k p v e .entry) ≡ some w
       → T (may j l q) → (heard l q e ≡ some w) ⊎ ((l ≡ k) × (q ≡ p) × (v ≡ w))
   unfolding takesSend takesEcho takesReady
   heard-new SEND p v e a SEND q w x b = inr (refl, eqb→eq q j b ∙ sym (eqb→eq p j a), cc)
@@ -83,7 +84,8 @@ module _ (R : Rules) (j : ℕ) where
   unfolding receive
   receive-taken p k v e a b m h =
       let zero-is : must (ltb p (R .n)) 4 (must (R .ok v) 5 (must (may j k p) 6 (recording (heard k p e) v))) ≡ 0 =
-      must-pass (ltb p (R .n)) 4 _ a ∙ must-pass (R .ok v) 5 _ b ∙ must-pass (may j k p) 6 _ m ∙ ap (λ o. recording o v) h ∙ recording-none v
+      must-pass (ltb p (R .n)) 4 _ a ∙ must-pass (R .ok v) 5 _ b ∙ must-pass (may j k p) 6 _ m
+      ∙ ap (λ o. recording o v) h ∙ recording-none v
       in
       rw zero-is (takes-heard k p v e)
 
@@ -174,7 +176,8 @@ module _ (R : Rules) (numbers own : ℕ) (a : Call) where
       go false = refused-done R (senderOf own a) own 4 a (named b) (none-is a)
 
   -- a message is given on an entry of the book only
-  pub outcome-booked : (b : Book) (m : Say) → outcome R numbers own a b .message ≡ some m → T (inBook R numbers (senderOf own a) (numberOf a))
+  pub outcome-booked : (b : Book) (m : Say) → outcome R numbers own a b .message ≡ some m
+      → T (inBook R numbers (senderOf own a) (numberOf a))
   unfolding outcome
   outcome-booked b m = go (inBook R numbers (senderOf own a) (numberOf a))
     where

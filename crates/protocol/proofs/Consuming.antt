@@ -32,7 +32,8 @@ heard-same R j r a e o D k p m f =
     ⊎-elim (isSome-of _ (x .0)) (λ b. absurd (f (x .0) b)) (D .hears k p (x .0) (x .1) m))
 
 -- a call that brings nothing from an honest house
-pub plain-act : (B : Wall) (r : ℕ) (a : Call) (s : State) → T (right B r) → ((k : Kind) (p : ℕ) (v : Decl) → Brings a k p v → T (right B p) → ⊥)
+pub plain-act : (B : Wall) (r : ℕ) (a : Call) (s : State) → T (right B r)
+    → ((k : Kind) (p : ℕ) (v : Decl) → Brings a k p v → T (right B p) → ⊥)
     → (j c : ℕ) → Named B r a s j c → Inv B j c (view j c s) → Act B j c (view j c s) r a (out B r a s) (s .mail)
 plain-act B r a s g f j c N I =
     record {
@@ -41,7 +42,8 @@ plain-act B r a s g f j c N I =
       booked = N .booked;
       honest = λ k p v b g. absurd (f k p v b g);
       unmarked = λ P x. refl;
-      marks = λ k p q g g₂ m. I .consumed k p q g g₂ m ∙ ap bit (upd-all (λ q x. isSome (heard k p (H q)) ≡ isSome (heard k p x)) H r (out B r a s .entry)
+      marks = λ k p q g g₂ m. I .consumed k p q g g₂ m
+          ∙ ap bit (upd-all (λ q x. isSome (heard k p (H q)) ≡ isSome (heard k p x)) H r (out B r a s .entry)
           (heard-same (B .rules) j r a (H r) (out B r a s) (N .done) k p m (λ v b. f k p v b g)) (λ q. refl) q);
     }
   where
@@ -49,7 +51,8 @@ plain-act B r a s g f j c N I =
     H q = s .gave .books q j c
 
 -- the consumption of a copy in the mail that is not consumed, to an honest house
-module _ (B : Wall) (s : State) (i : ℕ) (m : Copy) (at-i : at (s .mail) i ≡ some m) (right-to : T (right B (m .to))) (unread : m .consumed ≡ false) where
+module _ (B : Wall) (s : State) (i : ℕ) (m : Copy)
+    (at-i : at (s .mail) i ≡ some m) (right-to : T (right B (m .to))) (unread : m .consumed ≡ false) where
   abbrev k : Kind
   k = m .kind
 
@@ -132,7 +135,8 @@ module _ (B : Wall) (s : State) (i : ℕ) (m : Copy) (at-i : at (s .mail) i ≡ 
         }
       where
         marks′ : (l : Kind) (q u : ℕ) → T (right B q) → T (right B u) → T (may j l q)
-            → copiesOf j c (λ x. way l (eqb q) (eqb u) x && x .consumed) (consumeAt (s .mail) i) ≡ bit (isSome (heard l q (upd H r (o .entry) u)))
+            → copiesOf j c (λ x. way l (eqb q) (eqb u) x && x .consumed) (consumeAt (s .mail) i)
+            ≡ bit (isSome (heard l q (upd H r (o .entry) u)))
         marks′ l q u g₁ g₂ x =
             omega (
               arith,
@@ -143,11 +147,14 @@ module _ (B : Wall) (s : State) (i : ℕ) (m : Copy) (at-i : at (s .mail) i ≡ 
             )
           where
             go : (b : Bool) → way l (eqb q) (eqb u) m ≡ b
-                → bit (isSome (heard l q (H u))) + bit (onIt j c m && (way l (eqb q) (eqb u) m && true)) ≡ bit (isSome (heard l q (upd H r (o .entry) u)))
+                → bit (isSome (heard l q (H u))) + bit (onIt j c m && (way l (eqb q) (eqb u) m && true))
+                ≡ bit (isSome (heard l q (upd H r (o .entry) u)))
             go true t =
                 let z : l ≡ k = isKind-eq l k (and-l (isKind l k) _ (T-of t)) in
                 let y : T (eqb q p && eqb u r) = and-r (isKind l k) _ (T-of t) in
-                rw (t, true-of (onIt j c m) it, z, eqb→eq q p (and-l (eqb q p) _ y), eqb→eq u r (and-r (eqb q p) _ y), upd-same H r (o .entry), unheard, taken .1)
+                let z₂ : q ≡ p = eqb→eq q p (and-l (eqb q p) _ y) in
+                let z₃ : u ≡ r = eqb→eq u r (and-r (eqb q p) _ y) in
+                rw (t, true-of (onIt j c m) it, z, z₂, z₃, upd-same H r (o .entry), unheard, taken .1)
             go false t =
                 let same = upd-all (λ u y. way l (eqb q) (eqb u) m ≡ false → isSome (heard l q (H u)) ≡ isSome (heard l q y)) H r (o .entry)
                 (λ t. heard-same (B .rules) j r (opens m) (H r) o done l q x (λ w b. T-not-of t (rw (b .0, b .1) here-is)))

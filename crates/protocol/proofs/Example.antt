@@ -22,5 +22,7 @@ example =
       cost = refl;
       cost-between = refl;
       delivered = λ r g. season wall 1 steps 0 0 .complete (carded 4 1 1 _ _ (lit< tt) (lit≤ tt)) refl .equal tt r g;
-      lied = (refl, refl, refl);
+      lied = refl;
+      lied-otherwise = refl;
+      forged = refl;
     }

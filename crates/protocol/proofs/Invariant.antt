@@ -112,7 +112,8 @@ module _ (B : Wall) (j c : ℕ) where
         (λ p. I .owner p k v) p
 
     -- what the call leaves as heard from an honest house, that house gave before
-    pub act-heard : (k : Kind) (p : ℕ) (v : Decl) → heard k p (o .entry) ≡ some v → T (may j k p) → T (right B p) → own k (s .house p) ≡ some v
+    pub act-heard : (k : Kind) (p : ℕ) (v : Decl) → heard k p (o .entry) ≡ some v → T (may j k p) → T (right B p)
+        → own k (s .house p) ≡ some v
     act-heard k p v h m g = ⊎-elim (λ x. I .given r k p v x m g) (λ x. A .honest k p v x g) (A .done .hears k p v h m)
 
     act-given : (q : ℕ) (k : Kind) (p : ℕ) (v : Decl) → heard k p (H′ q) ≡ some v → T (may j k p) → T (right B p) → own k (H′ p) ≡ some v
@@ -128,7 +129,8 @@ module _ (B : Wall) (j c : ℕ) where
         omega (
           arith,
           tally-append untrue mail (posted j c r (o .message) (n B)),
-          tally-mono untrue before mail (λ m t. and-mk (onIt j c m) _ (and-l (onIt j c m) _ t) (not-T (true-to (s .house) m) (λ x. T-not (true-to H′ m) (and-r (onIt j c m) _ t) (stays m x)))),
+          tally-mono untrue before mail (λ m t. and-mk (onIt j c m) _ (and-l (onIt j c m) _ t)
+              (not-T (true-to (s .house) m) (λ x. T-not (true-to H′ m) (and-r (onIt j c m) _ t) (stays m x)))),
           A .unmarked before (λ m. refl),
           I .truthful,
           new (o .message) refl,
@@ -173,7 +175,9 @@ module _ (B : Wall) (j c : ℕ) where
         X = count Q (n B)
 
         still : (T (F r) → (w : Decl) → o .message ≡ some (say k w) → ⊥) → X * count P (n B) ≡ X * count P′ (n B)
-        still f = ap (λ (y : ℕ). X * y) (count-same P P′ (n B) (λ p l. upd-all (λ p x. P p ≡ (F p && isSome (own k x))) (s .house) r (o .entry) at-r (λ p. refl) p))
+        still f =
+            ap (λ (y : ℕ). X * y) (count-same P P′ (n B)
+            (λ p l. upd-all (λ p x. P p ≡ (F p && isSome (own k x))) (s .house) r (o .entry) at-r (λ p. refl) p))
           where
             at-r : P r ≡ (F r && isSome (own k (o .entry)))
             at-r =
@@ -181,7 +185,8 @@ module _ (B : Wall) (j c : ℕ) where
                 (λ t. let x = some-of (own k (s .house r)) (and-r (F r) _ t) in
                 and-mk (F r) _ (and-l (F r) _ t) (isSome-of _ (x .0) (filled-own (A .done .moves .filled) k (x .0) (x .1))))
                 (λ t. let x = some-of (own k (o .entry)) (and-r (F r) _ t) in
-                and-mk (F r) _ (and-l (F r) _ t) (⊎-elim (isSome-of _ (x .0)) (λ m. absurd (f (and-l (F r) _ t) (x .0) m)) (A .done .moves .new k (x .0) (x .1))))
+                and-mk (F r) _ (and-l (F r) _ t)
+                (⊎-elim (isSome-of _ (x .0)) (λ m. absurd (f (and-l (F r) _ t) (x .0) m)) (A .done .moves .new k (x .0) (x .1))))
 
         go : (x : Option Say) → o .message ≡ x → copiesOf j c (way k F Q) (posted j c r x (n B)) + X * count P (n B) ≡ X * count P′ (n B)
         go none e = omega (arith, still (λ t w m. no-message (say k w) (sym e ∙ m)))
@@ -206,7 +211,8 @@ module _ (B : Wall) (j c : ℕ) where
                 )
 
     act-consumed : (k : Kind) (p q : ℕ) → T (right B p) → T (right B q) → T (may j k p)
-        → copiesOf j c (λ m. way k (eqb p) (eqb q) m && m .consumed) (mail ++ posted j c r (o .message) (n B)) ≡ bit (isSome (heard k p (H′ q)))
+        → copiesOf j c (λ m. way k (eqb p) (eqb q) m && m .consumed) (mail ++ posted j c r (o .message) (n B))
+        ≡ bit (isSome (heard k p (H′ q)))
     unfolding H′
     act-consumed k p q g g₂ m =
         omega (arith, tally-append taken mail (posted j c r (o .message) (n B)), A .marks k p q g g₂ m, new (o .message))
@@ -218,7 +224,8 @@ module _ (B : Wall) (j c : ℕ) where
         new none = refl
         new (some (say l w)) =
             tally-toAll taken j c r l w (n B)
-            ∙ count-none _ (n B) (λ i h. and-false (sameEntry j c j c) _ (and-false (way k (eqb p) (eqb q) (copyTo j c r l w i)) false refl))
+            ∙ count-none _ (n B)
+            (λ i h. and-false (sameEntry j c j c) _ (and-false (way k (eqb p) (eqb q) (copyTo j c r l w i)) false refl))
 
     act-list : (g : Entry → Option Decl) (f : ℕ → List Decl) (x : Option Decl) → ((q : ℕ) → f q ≡ listOf (g (s .house q)))
         → push x (listOf (g (s .house r))) ≡ listOf (g (o .entry)) → (q : ℕ) → upd f r (push x (f r)) q ≡ listOf (g (H′ q))

@@ -53,7 +53,8 @@ tally-use P (x ∷ l) zero m e = let z : x ≡ m = cc in rw z (omega arith)
 tally-use P (x ∷ l) (suc i) m e = omega (arith, tally-use P l i m e)
 
 -- n copies, one to each house
-pub tally-toAll : (P : Copy → Bool) (j c r : ℕ) (k : Kind) (v : Decl) (n : ℕ) → tally P (toAll j c r k v n) ≡ count (λ q. P (copyTo j c r k v q)) n
+pub tally-toAll : (P : Copy → Bool) (j c r : ℕ) (k : Kind) (v : Decl) (n : ℕ)
+    → tally P (toAll j c r k v n) ≡ count (λ q. P (copyTo j c r k v q)) n
 tally-toAll P j c r k v zero = refl
 tally-toAll P j c r k v (suc n) =
     omega (arith, tally-append P (toAll j c r k v n) (copyTo j c r k v n ∷ []), tally-toAll P j c r k v n)
@@ -66,7 +67,8 @@ pub copies-kinds : (j c : ℕ) (P : Copy → Bool) (l : List Copy)
 copies-kinds j c P [] = refl
 copies-kinds j c P (m ∷ l) = omega (arith, go (onIt j c m) (P m) (m .kind), copies-kinds j c P l)
   where
-    go : (a p : Bool) (k : Kind) → bit (a && p) ≡ bit (a && (isKind SEND k && p)) + bit (a && (isKind ECHO k && p)) + bit (a && (isKind READY k && p))
+    go : (a p : Bool) (k : Kind)
+        → bit (a && p) ≡ bit (a && (isKind SEND k && p)) + bit (a && (isKind ECHO k && p)) + bit (a && (isKind READY k && p))
     go true p SEND = omega arith
     go true p ECHO = omega arith
     go true p READY = omega arith

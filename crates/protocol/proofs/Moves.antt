@@ -138,7 +138,8 @@ module _ (R : Rules) (j : ℕ) where
         publishes = sym (ap listOf (same SEND));
       }
     where
-      ready′ : (b : Bool) (w : Decl) → mark b v (now .readySent) ≡ some w → (e .readySent ≡ some w) ⊎ (given b (say READY v) ≡ some (say READY w))
+      ready′ : (b : Bool) (w : Decl) → mark b v (now .readySent) ≡ some w
+          → (e .readySent ≡ some w) ⊎ (given b (say READY v) ≡ some (say READY w))
       ready′ true w x = inr (let z : v ≡ w = cc in cc)
       ready′ false w x = inl (sym (same READY) ∙ x)
 
@@ -155,11 +156,13 @@ module _ (R : Rules) (j : ℕ) where
           let z : v ≡ w = cc in (sym (same READY) ∙ none-of (now .readySent) (f tt), cc, rw z at g, tt)
       says′ false f k w m = no-message (say k w) m
 
-      delivers′ : (d : Bool) → (T d → T (isNone (now .delivered))) → push (given d v) (listOf (e .delivered)) ≡ listOf (mark d v (now .delivered))
+      delivers′ : (d : Bool) → (T d → T (isNone (now .delivered)))
+          → push (given d v) (listOf (e .delivered)) ≡ listOf (mark d v (now .delivered))
       delivers′ true f = rw (sym ds ∙ none-of (now .delivered) (f tt))
       delivers′ false f = ap listOf (sym ds)
 
-  pub takes-moves : (r : ℕ) (k : Kind) (p : ℕ) (v : Decl) (e : Entry) → T (R .ok v) → heard k p e ≡ none → Moves R j r e (takes R k p v e) none
+  pub takes-moves : (r : ℕ) (k : Kind) (p : ℕ) (v : Decl) (e : Entry) → T (R .ok v) → heard k p e ≡ none
+      → Moves R j r e (takes R k p v e) none
   unfolding takesSend takesEcho takesReady
   takes-moves r SEND p v e g h =
       record { filled = recorded-filled SEND p v e h; new = new′; says = says′; delivers = refl; publishes = refl }
@@ -199,7 +202,8 @@ module _ (R : Rules) (j : ℕ) where
   reached-le : (m : ℕ) (o : Option Decl) (f : ℕ → Option Decl) (v : Decl) → T (reached m o f v (R .n)) → m ≤ votes f v (R .n)
   reached-le m o f v t = leb→le m (votes f v (R .n)) (and-r (isNone o) _ t)
 
-  pub takes-local : (k : Kind) (p : ℕ) (v : Decl) (e : Entry) → T (R .ok v) → heard k p e ≡ none → Local R e → Local R (takes R k p v e .entry)
+  pub takes-local : (k : Kind) (p : ℕ) (v : Decl) (e : Entry) → T (R .ok v) → heard k p e ≡ none → Local R e
+      → Local R (takes R k p v e .entry)
   unfolding takesSend takesEcho takesReady
   takes-local SEND p v e g h L =
       record {
@@ -215,7 +219,7 @@ module _ (R : Rules) (j : ℕ) where
       let b : Bool = reached (R .quorum) (e .readySent) f v (R .n) in
       record {
         echoes-heeded = heeds (R .quorum) (R .n) (e .echo) p v (e .readySent) (L .echoes-heeded);
-        readies-heeded = λ w a c. mark-keeps b v (e .readySent) (L .readies-heeded w a c);
+        readies-heeded = λ w a. mark-keeps b v (e .readySent) (L .readies-heeded w a);
         delivery-heeded = L .delivery-heeded;
         ready-backed = λ w x. ⊎-elim
             (λ y. ⊎-elim (λ a. inl (omega (arith, votes-up (e .echo) p v w (R .n) h))) inr (L .ready-backed w y))
@@ -229,7 +233,7 @@ module _ (R : Rules) (j : ℕ) where
       let b : Bool = reached (R .amplify) (e .readySent) f v (R .n) in
       let d : Bool = reached (R .deliver) (e .delivered) f v (R .n) in
       record {
-        echoes-heeded = λ w a c. mark-keeps b v (e .readySent) (L .echoes-heeded w a c);
+        echoes-heeded = λ w a. mark-keeps b v (e .readySent) (L .echoes-heeded w a);
         readies-heeded = heeds (R .amplify) (R .n) (e .ready) p v (e .readySent) (L .readies-heeded);
         delivery-heeded = heeds (R .deliver) (R .n) (e .ready) p v (e .delivered) (L .delivery-heeded);
         ready-backed = λ w x. ⊎-elim

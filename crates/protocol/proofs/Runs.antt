@@ -7,7 +7,7 @@ use mathlib.Core.List.{List, [], _∷_}
 use Prim.Native.Nat.{ℕ}
 use native.Mathlib.Omega.{arith}
 use lib.Dec.{T-not, eqb, eqb→eq}
-use Rattle.card.specs.Count.{bit}
+use Rattle.card.specs.Count.{bit, count}
 use Rattle.card.proofs.Counting.{count-none}
 use Rattle.protocol.specs.Entry.{Decl, Kind, SEND, ECHO, READY, Entry, fresh, heard, own, isSome, upd}
 use Rattle.protocol.specs.Steps.{Out}
@@ -22,7 +22,8 @@ use Rattle.protocol.proofs.Consuming.{plain-act, consumption}
 
 -- a fact Ψ of one entry of every book that each call keeps is kept by every step, beside the invariant
 module _ (B : Wall) (j c : ℕ) (Ψ : (ℕ → Entry) → Type 0)
-    (keep : (s : View) → Inv B j c s → Ψ (s .house) → (r : ℕ) (a : Call) (o : Out) (mail : List Copy) → Act B j c s r a o mail → Ψ (upd (s .house) r (o .entry))) where
+    (keep : (s : View) → Inv B j c s → Ψ (s .house) → (r : ℕ) (a : Call) (o : Out) (mail : List Copy) → Act B j c s r a o mail
+    → Ψ (upd (s .house) r (o .entry))) where
   abbrev Kept : View → Type 0
   Kept u = Inv B j c u × Ψ (u .house)
 
@@ -74,7 +75,8 @@ module _ (B : Wall) (j c : ℕ) (Ψ : (ℕ → Entry) → Type 0)
       (λ t. call-holds r (publishing c₂ v) s (s .mail) (plain-act B r (publishing c₂ v) s (T-of t) (λ k p w b g. b)) (λ t P. refl) H)
   step-holds (consume i) s H = go (at (s .mail) i) refl
     where
-      unused : (m : Copy) → at (s .mail) i ≡ some m → onIt j c m ≡ false → (P : Copy → Bool) → copiesOf j c P (consumeAt (s .mail) i) ≡ copiesOf j c P (s .mail)
+      unused : (m : Copy) → at (s .mail) i ≡ some m → onIt j c m ≡ false → (P : Copy → Bool)
+          → copiesOf j c P (consumeAt (s .mail) i) ≡ copiesOf j c P (s .mail)
       unused m e t P =
           omega (arith, tally-use (λ m. onIt j c m && P m) (s .mail) i m e, no-copy (P m), no-copy (P (consumedCopy m)))
         where
@@ -114,7 +116,10 @@ module _ (B : Wall) (j c : ℕ) (Ψ : (ℕ → Entry) → Type 0)
       fresh-heard READY p = refl
 
       unheeded : (m : ℕ) (o : Option Decl) → Heeded m (n B) (λ p. none) o
-      unheeded m o v a b = absurd (omega (arith, count-none (λ p. false) (n B) (λ i l. refl)))
+      unheeded m o v a = absurd (omega (arith, count-none (λ p. false) (n B) (λ i l. refl)))
+
+      unsaid : (k : Kind) (F : ℕ → Bool) → count (λ p. F p && isSome (own k fresh)) (n B) ≡ 0
+      unsaid k F = count-none _ (n B) (λ i l. and-false (F i) _ (ap isSome (fresh-own k)))
 
       start-inv : Inv B j c (view j c start)
       start-inv =
@@ -130,7 +135,7 @@ module _ (B : Wall) (j c : ℕ) (Ψ : (ℕ → Entry) → Type 0)
             owner = λ p k v e. absurd (none-some (own k fresh) v (fresh-own k) e);
             given = λ r k p v e m g. absurd (none-some (heard k p fresh) v (fresh-heard k p) e);
             truthful = refl;
-            sent = λ k F Q. rw (count-none (λ p. F p && isSome (own k fresh)) (n B) (λ i l. and-false (F i) _ (ap isSome (fresh-own k)))) (omega arith);
+            sent = λ k F Q. rw (unsaid k F) (omega arith);
             consumed = λ k p r g g₂ m. ap (λ o. bit (isSome o)) (sym (fresh-heard k p));
             delivered = λ r. refl;
             published = λ r. refl;

@@ -26,7 +26,8 @@ use Rattle.protocol.proofs.Bound.{count-all, one-of, delivered-of, sent
 use Rattle.protocol.proofs.Agreement.{Backed, backed, deliver-agree, deliver-authentic}
 use Rattle.protocol.proofs.Totality.{reach, published-ready, delivered-ready-up, ready-delivered, cost-is, readies-are}
 
-module _ (B : Wall) (j c t : ℕ) (s : State) (I : Inv B j c (view j c s)) (Y : Tolerated B t (right B)) (K : Backed B (view j c s .house)) where
+module _ (B : Wall) (j c t : ℕ) (s : State)
+    (I : Inv B j c (view j c s)) (Y : Tolerated B t (right B)) (K : Backed B (view j c s .house)) where
   abbrev v : View
   v = view j c s
 
@@ -52,7 +53,8 @@ module _ (B : Wall) (j c t : ℕ) (s : State) (I : Inv B j c (view j c s)) (Y : 
     costs : (F Q : ℕ → Bool) → ((p : ℕ) → T (right B p) → T (F p)) → T (right B j) → (x : Decl) → Published B j c s x
         → copiesOf j c (λ m. F (m .from) && Q (m .to)) (s .mail) ≡ count Q (n B) + 2 * (h B * count Q (n B))
     costs F Q f g x e =
-        cost-is B j c v I F Q x f g (published-is x e) (reach B t (right B) Y (λ p y. y) j c v I K D j SEND x (published-is x e)) (ready g x e)
+        cost-is B j c v I F Q x f g (published-is x e)
+        (reach B t (right B) Y (λ p y. y) j c v I K D j SEND x (published-is x e)) (ready g x e)
 
     complete : Complete B j c s
     complete =
@@ -64,7 +66,8 @@ module _ (B : Wall) (j c t : ℕ) (s : State) (I : Inv B j c (view j c s)) (Y : 
           all-readies = λ q x e. readies-are B j c v I x (followed q x e);
         }
       where
-        equal′ : T (right B j) → (r : ℕ) → T (right B r) → (o : Option Decl) → v .house j .published ≡ o → s .gave .deliveries r j c ≡ s .gave .publications j j c
+        equal′ : T (right B j) → (r : ℕ) → T (right B r) → (o : Option Decl) → v .house j .published ≡ o
+            → s .gave .deliveries r j c ≡ s .gave .publications j j c
         equal′ g r y none e = I .delivered r ∙ nothing (v .house r .delivered) refl ∙ sym (I .published j ∙ ap listOf e)
           where
             nothing : (o : Option Decl) → v .house r .delivered ≡ o → listOf (v .house r .delivered) ≡ []

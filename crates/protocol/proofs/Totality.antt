@@ -52,9 +52,11 @@ module _ (B : Wall) (t : ℕ) (up : ℕ → Bool) (Y : Tolerated B t up) (within
         unread x m t =
             let t₁ = and-r (onIt j c m) _ t in
             let t₂ = and-r (isKind k (m .kind)) _ (and-l (way k (eqb p) (eqb r) m) _ t₁) in
+            let e₁ = eqb→eq p (m .from) (and-l (eqb p (m .from)) _ t₂) in
+            let e₂ = eqb→eq r (m .to) (and-r (eqb p (m .from)) _ t₂) in
             and-mk (onIt j c m) _ (and-l (onIt j c m) _ t)
             (and-mk (right B (m .from) && up (m .to)) _
-            (and-mk (right B (m .from)) _ (rw (eqb→eq p (m .from) (and-l (eqb p (m .from)) _ t₂)) at x) (rw (eqb→eq r (m .to) (and-r (eqb p (m .from)) _ t₂)) at g))
+            (and-mk (right B (m .from)) _ (rw e₁ at x) (rw e₂ at g))
             (and-r (way k (eqb p) (eqb r) m) _ t₁))
 
     -- what all that take part gave, each of them heard from that many
@@ -67,42 +69,48 @@ module _ (B : Wall) (t : ℕ) (up : ℕ → Bool) (Y : Tolerated B t up) (within
     pub published-ready : T (right B j) → (v : Decl) → s .house j .published ≡ some v → (r : ℕ) → T (up r) → s .house r .readySent ≡ some v
     published-ready g v e r x =
         let enough = heard-up ECHO v (λ p y. reach j SEND v e p y) r x in
-        let w = some-of (s .house r .readySent) (I .local r .echoes-heeded v (omega (arith, Y .thresholds)) (omega (arith, Y .thresholds))) in
+        let w = some-of (s .house r .readySent) (I .local r .echoes-heeded v (omega (arith, Y .thresholds))) in
         w .1 ∙ sym (ready-authentic B t up Y j c s I K g r (w .0) (w .1)) ∙ e
 
     -- a delivery at one honest house: all that take part give a READY of it
     pub delivered-ready-up : (q : ℕ) (v : Decl) → s .house q .delivered ≡ some v → (r : ℕ) → T (up r) → s .house r .readySent ≡ some v
     delivered-ready-up q v e r x =
-        let w = some-of (s .house r .readySent) (I .local r .readies-heeded v (omega (arith, enough, Y .thresholds)) (omega (arith, enough, Y .thresholds))) in
+        let w = some-of (s .house r .readySent) (I .local r .readies-heeded v (omega (arith, enough, Y .thresholds))) in
         w .1 ∙ ap some (sym (deliver-ready-agree B t up Y j c s I K q r v (w .0) e (w .1)))
       where
-        both : ℕ → Bool
-        both p = holds (s .house q .ready p) v && right B p
+        heard-at-q : ℕ → Bool
+        heard-at-q p = holds (s .house q .ready p) v
+
+        again : (p : ℕ) → T (heard-at-q p && right B p) → T (holds (s .house r .ready p) v)
+        again p y =
+            let g = and-r (heard-at-q p) (right B p) y in
+            let h = holds-eq (s .house q .ready p) v (and-l (heard-at-q p) (right B p) y) in
+            eq-holds (s .house r .ready p) v (reach p READY v (I .given q READY p v h tt g) r x)
 
         enough : B .rules .amplify ≤ votes (s .house r .ready) v (n B)
         enough =
             omega (
               arith,
-              count-and (λ p. holds (s .house q .ready p) v) (right B) (n B),
+              count-and heard-at-q (right B) (n B),
               count-not (right B) (n B),
               I .local q .delivery-backed v e,
               Y .few,
               Y .thresholds .delivered,
-              count-mono both (λ p. holds (s .house r .ready p) v) (n B)
-                  (λ p l y. eq-holds (s .house r .ready p) v (reach p READY v
-                  (I .given q READY p v (holds-eq (s .house q .ready p) v (and-l (holds (s .house q .ready p) v) (right B p) y)) tt (and-r (holds (s .house q .ready p) v) (right B p) y)) r x)),
+              count-mono (λ p. heard-at-q p && right B p) (λ p. holds (s .house r .ready p) v) (n B) (λ p l y. again p y),
             )
 
     -- and with all their READYs consumed, all that take part deliver it
-    pub ready-delivered : (v : Decl) → ((p : ℕ) → T (up p) → s .house p .readySent ≡ some v) → (r : ℕ) → T (up r) → s .house r .delivered ≡ some v
+    pub ready-delivered : (v : Decl) → ((p : ℕ) → T (up p) → s .house p .readySent ≡ some v) → (r : ℕ) → T (up r)
+        → s .house r .delivered ≡ some v
     ready-delivered v f r g =
         let enough = heard-up READY v f r g in
-        let w = some-of (s .house r .delivered) (I .local r .delivery-heeded v (omega (arith, Y .thresholds)) (omega (arith, Y .thresholds))) in
+        let w = some-of (s .house r .delivered) (I .local r .delivery-heeded v (omega (arith, Y .thresholds))) in
         w .1 ∙ ap some (deliver-ready-agree B t up Y j c s I K r r (w .0) v (w .1) (f r g))
 
 module _ (B : Wall) (j c : ℕ) (s : View) (I : Inv B j c s) where
   -- a kind that all honest houses gave, h of them gave
-  gave-all : (k : Kind) (F : ℕ → Bool) (v : Decl) → ((p : ℕ) → T (right B p) → T (F p)) → ((p : ℕ) → T (right B p) → own k (s .house p) ≡ some v) → gave B j c s I k F ≡ h B
+  gave-all : (k : Kind) (F : ℕ → Bool) (v : Decl) → ((p : ℕ) → T (right B p) → T (F p))
+      → ((p : ℕ) → T (right B p) → own k (s .house p) ≡ some v) → gave B j c s I k F ≡ h B
   gave-all k F v f g =
       omega (
         arith,

@@ -46,4 +46,6 @@ pub record Met : Type 0 where
   pub cost-between : between wall 0 0 end ≡ 21
   pub delivered : Everywhere wall 0 0 end lot
   -- the liar was heard
-  pub lied : (end .gave .books 1 0 0 .echo 3 ≡ some lie) × (end .gave .books 2 0 0 .echo 3 ≡ some lot) × (end .gave .books 2 0 0 .ready 3 ≡ some lie)
+  pub lied : end .gave .books 1 0 0 .echo 3 ≡ some lie
+  pub lied-otherwise : end .gave .books 2 0 0 .echo 3 ≡ some lot
+  pub forged : end .gave .books 2 0 0 .ready 3 ≡ some lie
