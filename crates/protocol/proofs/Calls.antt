@@ -13,7 +13,7 @@ use Rattle.protocol.specs.Steps.{takes, receive, publish}
 use Rattle.protocol.specs.Book.{Book, Call, publishing, receiving, inBook, senderOf, numberOf, onEntry, outcome, after, publication}
 use Rattle.protocol.specs.Claims.{Alone}
 use Rattle.protocol.proofs.Basics.{none-of, none-some, must-zero, must-pass, upd-same, upd-new}
-use Rattle.protocol.proofs.Moves.{Local, Moves, other-kind, no-message, takes-moves, takes-local, refused-moves}
+use Rattle.protocol.proofs.Moves.{Local, Moves, local-same, other-kind, no-message, takes-moves, takes-local, refused-moves}
 
 -- 7 stands for a full slot, and 0 for an empty one
 pub recording-free : (o : Option Decl) (v : Decl) → recording o v ≡ 0 → o ≡ none
@@ -124,18 +124,6 @@ module _ (R : Rules) (j : ℕ) where
       says′ ECHO w m = other-kind SEND ECHO v w refl m
       says′ READY w m = other-kind SEND READY v w refl m
 
-  publishes-local : (v : Decl) (e : Entry) → Local R e → Local R (publishes v e .entry)
-  unfolding publishes
-  publishes-local v e L =
-      record {
-        echoes-heeded = L .echoes-heeded;
-        readies-heeded = L .readies-heeded;
-        delivery-heeded = L .delivery-heeded;
-        ready-backed = L .ready-backed;
-        delivery-backed = L .delivery-backed;
-        delivery-ok = L .delivery-ok;
-      }
-
   publish-done : (c : ℕ) (v : Decl) (e : Entry) → Done R j j (publishing c v) e (publish R v e)
   unfolding publish publishes
   publish-done c v e = go (must (R .ok v) 5 (must (isNone (e .published)) 8 0)) refl
@@ -146,7 +134,7 @@ module _ (R : Rules) (j : ℕ) where
           let x₂ = must-zero (isNone (e .published)) 7 _ (x₁ .1) in
           record {
             moves = publishes-moves c v e (x₁ .0) (none-of (e .published) (x₂ .0));
-            local = publishes-local v e;
+            local = local-same R e (e .send) (some v);
             hears = λ l q w h m. inl (sym (publishes-hears v e l q) ∙ h);
           }
       go (suc n) x = refused-done j (suc n) (publishing c v) e refl

@@ -124,6 +124,26 @@ marked-filled b d v e f g =
       published = λ w x. x;
     }
 
+-- neither the SEND nor the publication bears on it
+pub local-same : (R : Rules) (e : Entry) (x y : Option Decl) → Local R e
+    → Local R (record {
+      send = x;
+      echo = e .echo;
+      ready = e .ready;
+      readySent = e .readySent;
+      delivered = e .delivered;
+      published = y;
+    })
+local-same R e x y L =
+    record {
+      echoes-heeded = L .echoes-heeded;
+      readies-heeded = L .readies-heeded;
+      delivery-heeded = L .delivery-heeded;
+      ready-backed = L .ready-backed;
+      delivery-backed = L .delivery-backed;
+      delivery-ok = L .delivery-ok;
+    }
+
 module _ (R : Rules) (j : ℕ) where
   -- a voucher is recorded; a READY is marked and given where b says so, a delivery made where d does
   voucher-moves : (r : ℕ) (e now : Entry) (b d : Bool) (v : Decl) → Filled e now → ((l : Kind) → own l now ≡ own l e)
@@ -205,15 +225,7 @@ module _ (R : Rules) (j : ℕ) where
   pub takes-local : (k : Kind) (p : ℕ) (v : Decl) (e : Entry) → T (R .ok v) → heard k p e ≡ none → Local R e
       → Local R (takes R k p v e .entry)
   unfolding takesSend takesEcho takesReady
-  takes-local SEND p v e g h L =
-      record {
-        echoes-heeded = L .echoes-heeded;
-        readies-heeded = L .readies-heeded;
-        delivery-heeded = L .delivery-heeded;
-        ready-backed = L .ready-backed;
-        delivery-backed = L .delivery-backed;
-        delivery-ok = L .delivery-ok;
-      }
+  takes-local SEND p v e g h L = local-same R e (some v) (e .published) L
   takes-local ECHO p v e g h L =
       let f : ℕ → Option Decl = upd (e .echo) p (some v) in
       let b : Bool = reached (R .quorum) (e .readySent) f v (R .n) in
