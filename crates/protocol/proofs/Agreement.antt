@@ -1,7 +1,7 @@
 -- Where at most t houses are wrong, all READYs of honest houses on an entry are for one declaration, and so are deliveries.
 -- Assumes nothing.
 use mathlib.Core.Path.{_≡_, refl, sym, _∙_}
-use mathlib.Core.Bool.{Bool, true, false, not, cond}
+use mathlib.Core.Bool.{Bool, true, false, cond}
 use mathlib.Core.Logic.{⊎-elim}
 use mathlib.Core.Option.{none, some, Option·some-injective}
 use mathlib.Core.List.{List}
@@ -14,7 +14,7 @@ use Rattle.card.proofs.Overlap.{share}
 use Rattle.protocol.specs.Entry.{Decl, SEND, ECHO, READY, Entry, holds, upd}
 use Rattle.protocol.specs.Steps.{Out}
 use Rattle.protocol.specs.Book.{Call}
-use Rattle.protocol.specs.Run.{n, Wall, Copy, Step, right, start, run}
+use Rattle.protocol.specs.Run.{n, isWrong, Wall, Copy, Step, right, start, run}
 use Rattle.protocol.specs.Thresholds.{Tolerated}
 use Rattle.protocol.proofs.Basics.{not-not, and-l, and-r, none-some, holds-eq, eq-holds, upd-all}
 use Rattle.protocol.proofs.Invariant.{View, Inv, Act, act-heard}
@@ -41,7 +41,7 @@ module _ (B : Wall) (t : ℕ) (up : ℕ → Bool) (Y : Tolerated B t up) where
   -- more than t houses pass a test: an honest one does
   pub honest-one : (P : ℕ → Bool) → t < count P (n B) → (p : ℕ) × T (right B p) × T (P p)
   honest-one P l =
-      let x = count-find P (λ p. not (right B p)) (n B) (omega (arith, Y .few)) in
+      let x = count-find P (isWrong B) (n B) (omega (arith, Y .few)) in
       (x .0, not-not (right B (x .0)) (x .3), x .2)
 
   keep-backed : (j c : ℕ) (s : View) → Inv B j c s → Backed B (s .house) → (r : ℕ) (a : Call) (o : Out) (mail : List Copy)
@@ -95,7 +95,7 @@ module _ (B : Wall) (t : ℕ) (up : ℕ → Bool) (Y : Tolerated B t up) where
     ready-agree r q v w a b =
         let P : ℕ → Bool = vouch B (s .house) v in
         let Q : ℕ → Bool = vouch B (s .house) w in
-        let x = share (n B) t (B .rules .quorum) (λ p. not (right B p)) P Q (Y .thresholds .overlapping) (Y .few) (K r v a) (K q w b) in
+        let x = share (n B) t (B .rules .quorum) (isWrong B) P Q (Y .thresholds .overlapping) (Y .few) (K r v a) (K q w b) in
         let g = not-not (right B (x .0)) (x .3) in
         let d : s .house (x .0) .send ≡ some v = holds-eq _ v (vouch-to (right B (x .0)) _ g (and-l (P (x .0)) (Q (x .0)) (x .2))) in
         let e : s .house (x .0) .send ≡ some w = holds-eq _ w (vouch-to (right B (x .0)) _ g (and-r (P (x .0)) (Q (x .0)) (x .2))) in

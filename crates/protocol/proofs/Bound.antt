@@ -71,7 +71,7 @@ module _ (B : Wall) (j c : ℕ) (s : View) (I : Inv B j c s) where
 pub bounded : (B : Wall) (j c : ℕ) (s : State) → ((j c : ℕ) → Inv B j c (view j c s)) → Bounded B j c s
 bounded B j c s I =
     record {
-      bound = rw (count-all (n B)) at (sent-le B j c (view j c s) (I j c) (λ p. true) (λ q. true));
+      bound = omega (arith, rw (count-all (n B)) at (sent-le B j c (view j c s) (I j c) (λ p. true) (λ q. true)));
       bound-between = sent-le B j c (view j c s) (I j c) (right B) (right B);
       once = λ r. rw (I j c .delivered r) (length-listOf (s .gave .books r j c .delivered));
       plausible = λ r v e. I j c .local r .delivery-ok v (delivered-of B j c (view j c s) (I j c) r v e);

@@ -12,8 +12,8 @@ use Rattle.card.proofs.Counting.{count-none}
 use Rattle.protocol.specs.Entry.{Decl, Kind, SEND, ECHO, READY, Entry, fresh, heard, own, isSome, upd}
 use Rattle.protocol.specs.Steps.{Out}
 use Rattle.protocol.specs.Book.{sameEntry, Call, publishing, receiving, senderOf, numberOf}
-use Rattle.protocol.specs.Run.{n, Wall, Copy, State, Step, publish, consume, wrong, right, start, at, consumedCopy, consumeAt, posted}
-use Rattle.protocol.specs.Run.{opens, called, consumes, step, run, onIt, copiesOf}
+use Rattle.protocol.specs.Run.{n, isWrong, Wall, Copy, State, Step, publish, consume, wrong, right, start, at, consumedCopy}
+use Rattle.protocol.specs.Run.{consumeAt, posted, opens, called, consumes, step, run, onIt, copiesOf}
 use Rattle.protocol.proofs.Basics.{bcase, T-of, false-of, and-l, and-r, and-false, none-some, Heeded}
 use Rattle.protocol.proofs.Mail.{tally-append, tally-use}
 use Rattle.protocol.proofs.Invariant.{View, Inv, Act, act-inv, else-inv}
@@ -91,7 +91,7 @@ module _ (B : Wall) (j c : ℕ) (Ψ : (ℕ → Entry) → Type 0)
           (consumption B s i m e (and-l (right B (m .to)) _ (T-of t)) (false-of (m .consumed) (and-r (right B (m .to)) _ (T-of t))))
           (unused m e) H)
   step-holds (wrong p r k j₂ c₂ v) s H =
-      if-holds (right B r && not (right B p)) s _ H
+      if-holds (right B r && isWrong B p) s _ H
       (λ t. call-holds r (receiving p k j₂ c₂ v) s (s .mail)
       (plain-act B r (receiving p k j₂ c₂ v) s (and-l (right B r) _ (T-of t))
       (λ l q w b g. T-not (right B p) (and-r (right B r) _ (T-of t)) (rw (b .1) at g)))

@@ -7,7 +7,7 @@ use mathlib.Core.List.{List, []}
 use Prim.Native.Nat.{ℕ, _+_, _*_, _<_}
 use native.Mathlib.Omega.{arith}
 use lib.Dec.{T}
-use Rattle.card.specs.Card.{tolerated, amplify, deliver}
+use Rattle.card.specs.Card.{tolerated, quorum, amplify, deliver}
 use Rattle.card.specs.Count.{count}
 use Rattle.card.proofs.Counting.{count-not}
 use Rattle.card.proofs.Overlap.{quorum-more, rest-quorum, rest-deliver, tolerated-third}
@@ -101,13 +101,13 @@ season B t l j c =
 -- the card's counts meet the inequalities wherever n > 3t
 pub carded : (n t numbers : ℕ) (ok : Decl → Bool) (honest : ℕ → Bool) → 3 * t < n
     → AtMost (wallOf n t numbers ok honest) t → Tolerated (wallOf n t numbers ok honest) t (right (wallOf n t numbers ok honest))
-unfolding wallOf rulesOf amplify deliver
+unfolding wallOf rulesOf quorum amplify deliver
 carded n t numbers ok honest third few =
     let B : Wall = wallOf n t numbers ok honest in
     record {
       few = few;
       thresholds = record {
-        overlapping = quorum-more n t;
+        overlapping = omega (arith, quorum-more n t);
         amplified = omega arith;
         delivered = omega arith;
         echoed = omega (arith, rest-quorum n t third, count-not (right B) n);

@@ -7,8 +7,8 @@ use mathlib.Core.List.{List, [], _∷_}
 use Prim.Native.Nat.{ℕ}
 use lib.Dec.{eqb, eqb→eq}
 use Rattle.protocol.specs.Book.{PerEntry, Book, sameEntry, place, Call, publishing, receiving, senderOf, numberOf, outcome, after}
-use Rattle.protocol.specs.Run.{Wall, Copy, State, Step, publish, consume, wrong, right, at, consumeAt, opens, called, consumes, step}
-use Rattle.protocol.specs.Run.{run}
+use Rattle.protocol.specs.Run.{isWrong, Wall, Copy, State, Step, publish, consume, wrong, right, at, consumeAt, opens, called}
+use Rattle.protocol.specs.Run.{consumes, step, run}
 use Rattle.protocol.specs.Claims.{Filled}
 use Rattle.protocol.proofs.Basics.{T-of, and-l, and-r, upd-all}
 use Rattle.protocol.proofs.Moves.{filled-refl, filled-trans}
@@ -49,7 +49,7 @@ module _ (B : Wall) where
       go : (x : Option Copy) → Fills s (consumes B i x s)
       go none = λ r j c. filled-refl (s .gave .books r j c)
       go (some m) = if-fills (right B (m .to) && not (m .consumed)) s _ (called-fills (m .to) (opens m) s (consumeAt (s .mail) i))
-  step-fills (wrong p r k j c v) s = if-fills (right B r && not (right B p)) s _ (called-fills r (receiving p k j c v) s (s .mail))
+  step-fills (wrong p r k j c v) s = if-fills (right B r && isWrong B p) s _ (called-fills r (receiving p k j c v) s (s .mail))
 
   pub run-fills : (l : List Step) (s : State) → Fills s (run B l s)
   unfolding run

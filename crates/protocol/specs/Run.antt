@@ -26,6 +26,10 @@ n B = B .rules .n
 abbrev pub right : Wall → ℕ → Bool
 right B p = ltb p (n B) && B .honest p
 
+-- a wrong house's number or a number not below n
+abbrev pub isWrong : Wall → ℕ → Bool
+isWrong B p = not (right B p)
+
 -- how many houses are honest
 abbrev pub h : Wall → ℕ
 h B = count (right B) (n B)
@@ -138,7 +142,7 @@ unfoldable pub step : Wall → Step → State → State
 step B (publish r c v) s = cond (right B r) (called B r (publishing c v) (s .gave) (s .mail)) s
 step B (consume i) s = consumes B i (at (s .mail) i) s
 step B (wrong p r k j c v) s =
-    cond (right B r && not (right B p)) (called B r (receiving p k j c v) (s .gave) (s .mail)) s
+    cond (right B r && isWrong B p) (called B r (receiving p k j c v) (s .gave) (s .mail)) s
 
 unfoldable pub run : Wall → List Step → State → State
 run B [] s = s
