@@ -6,10 +6,10 @@ use mathlib.Core.Option.{some}
 use mathlib.Core.List.{List, [], _∷_, _++_}
 use Prim.Native.Nat.{ℕ, zero, suc}
 use lib.Dec.{ltb}
-use Rattle.protocol.specs.Entry.{Decl, ECHO, READY}
+use Rattle.protocol.specs.Entry.{Decl, SEND, ECHO, READY, Entry}
 use Rattle.protocol.specs.Run.{Wall, State, Step, publish, consume, wrong, start, run, copies, between, Drained}
 use Rattle.protocol.specs.Thresholds.{wallOf, AtMost}
-use Rattle.protocol.specs.Claims.{Published, Everywhere}
+use Rattle.protocol.specs.Claims.{Delivered, Published}
 
 -- n = 4, t = 1, one entry number, houses 0 to 2 honest
 unfoldable pub wall : Wall
@@ -27,25 +27,34 @@ unfoldable pub consumeAll : ℕ → List Step
 consumeAll zero = []
 consumeAll (suc i) = consumeAll i ++ (consume i ∷ [])
 
+-- The liar sends house 1 a SEND in house 0's name, an ECHO before the SEND is heard and a second one that differs; house 2 an ECHO and a
+-- READY that differ. A READY under an honest house's number, and a copy consumed again, are no steps of a run.
 unfoldable pub steps : List Step
 unfolding consumeAll
 steps =
-    wrong 3 1 ECHO 0 0 lie ∷ wrong 3 2 ECHO 0 0 lot ∷ publish 0 0 lot ∷ wrong 3 2 READY 0 0 lie ∷ consumeAll 28
+    wrong 3 1 SEND 0 0 lie ∷ wrong 3 1 ECHO 0 0 lie ∷ wrong 3 1 ECHO 0 0 lot ∷ wrong 3 2 ECHO 0 0 lot
+    ∷ publish 0 0 lot ∷ wrong 3 2 READY 0 0 lie ∷ wrong 1 2 READY 0 0 lie ∷ consume 0 ∷ consumeAll 28
 
 unfoldable pub end : State
 unfolding wall steps
 end = run wall steps start
 
--- the premises of the claims are met, and the claims not empty
+abbrev pub entryAt : ℕ → Entry
+entryAt r = end .gave .books r 0 0
+
+-- the premises of the claims are met, by a run in which the liar is heard
 pub record Met : Type 0 where
-  -- three honest, honest sender, 28 copies
   pub few : AtMost wall 1
   pub published : Published wall 0 0 end lot
   pub drained : Drained wall 0 0 end
+  -- three honest, honest sender, 28 copies
   pub cost : copies wall 0 0 end ≡ 28
   pub cost-between : between wall 0 0 end ≡ 21
-  pub delivered : Everywhere wall 0 0 end lot
-  -- the liar was heard
-  pub lied : end .gave .books 1 0 0 .echo 3 ≡ some lie
-  pub lied-otherwise : end .gave .books 2 0 0 .echo 3 ≡ some lot
-  pub forged : end .gave .books 2 0 0 .ready 3 ≡ some lie
+  pub delivered : Delivered wall 0 0 end 2 lot
+  -- the liar's first ECHO to house 1, not its second; the other one to house 2; the forged READY
+  pub first-echo : entryAt 1 .echo 3 ≡ some lie
+  pub other-echo : entryAt 2 .echo 3 ≡ some lot
+  pub forged : entryAt 2 .ready 3 ≡ some lie
+  -- an honest house's READY as it gave it, and house 2's own
+  pub honest : entryAt 2 .ready 1 ≡ some lot
+  pub own : entryAt 2 .readySent ≡ some lot
