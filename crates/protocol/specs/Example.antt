@@ -27,13 +27,15 @@ unfoldable pub consumeAll : ℕ → List Step
 consumeAll zero = []
 consumeAll (suc i) = consumeAll i ++ (consume i ∷ [])
 
--- The liar sends house 1 a SEND in house 0's name, an ECHO before the SEND is heard and a second one that differs; house 2 an ECHO and a
--- READY that differ. A READY under an honest house's number, and a copy consumed again, are no steps of a run.
+-- The liar sends house 1 a SEND on house 0's entry, house 2 an ECHO before the SEND is heard. When house 1 has two ECHOes of the lot, the
+-- liar sends it an ECHO of the lie and then of the lot, and house 2 a READY of the lie. A READY under an honest house's number, and a copy
+-- consumed again, are no steps of a run.
 unfoldable pub steps : List Step
 unfolding consumeAll
 steps =
-    wrong 3 1 SEND 0 0 lie ∷ wrong 3 1 ECHO 0 0 lie ∷ wrong 3 1 ECHO 0 0 lot ∷ wrong 3 2 ECHO 0 0 lot
-    ∷ publish 0 0 lot ∷ wrong 3 2 READY 0 0 lie ∷ wrong 1 2 READY 0 0 lie ∷ consume 0 ∷ consumeAll 28
+    wrong 3 1 SEND 0 0 lie ∷ wrong 3 2 ECHO 0 0 lot ∷ publish 0 0 lot
+    ∷ consume 0 ∷ consume 1 ∷ consume 2 ∷ consume 5 ∷ consume 9 ∷ wrong 3 1 ECHO 0 0 lie ∷ wrong 3 1 ECHO 0 0 lot
+    ∷ wrong 3 2 READY 0 0 lie ∷ wrong 1 2 READY 0 0 lie ∷ consumeAll 28
 
 unfoldable pub end : State
 unfolding wall steps
@@ -55,6 +57,6 @@ pub record Met : Type 0 where
   pub first-echo : entryAt 1 .echo 3 ≡ some lie
   pub other-echo : entryAt 2 .echo 3 ≡ some lot
   pub forged : entryAt 2 .ready 3 ≡ some lie
-  -- an honest house's READY as it gave it, and house 2's own
+  -- an honest house's READY as it gave it
   pub honest : entryAt 2 .ready 1 ≡ some lot
-  pub own : entryAt 2 .readySent ≡ some lot
+  pub own : entryAt 1 .readySent ≡ some lot
