@@ -74,6 +74,7 @@ bounded B j c s I =
       bound = omega (arith, rw (count-all (n B)) at (sent-le B j c (view j c s) (I j c) (λ p. true) (λ q. true)));
       bound-between = sent-le B j c (view j c s) (I j c) (right B) (right B);
       once = λ r. rw (I j c .delivered r) (length-listOf (s .gave .books r j c .delivered));
+      published-once = rw (I j c .published j) (length-listOf (s .gave .books j j c .published));
       plausible = λ r v e. I j c .local r .delivery-ok v (delivered-of B j c (view j c s) (I j c) r v e);
       accepted = λ i m e t g u. taken B s i m e g u (I (m .sender) (m .number)) .0;
       fills = λ l r. run-fills B l s r j c;

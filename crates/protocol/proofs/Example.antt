@@ -4,8 +4,7 @@ use mathlib.Core.Path.{refl}
 use lib.Dec.{lit<, lit≤}
 use Rattle.card.specs.Card.{quorum, amplify, deliver}
 use Rattle.protocol.specs.Entry.{same}
-use Rattle.protocol.specs.Steps.{publishes, takesSend, takesEcho, takesReady, recording, receiveAnswer, receive, publishAnswer}
-use Rattle.protocol.specs.Steps.{publish}
+use Rattle.protocol.specs.Steps.{publishes, takesSend, takesEcho, takesReady, recording, receive, publish}
 use Rattle.protocol.specs.Book.{outcome, after}
 use Rattle.protocol.specs.Run.{called, consumes, step, run}
 use Rattle.protocol.specs.Thresholds.{rulesOf, wallOf}
@@ -15,7 +14,7 @@ use Rattle.protocol.proofs.Season.{season, carded}
 
 pub example : Met
 unfolding wallOf rulesOf quorum amplify deliver wall consumeAll steps end run step consumes called
-    after outcome publishAnswer publish receiveAnswer receive recording publishes takesSend takesEcho takesReady same
+    after outcome publish receive recording publishes takesSend takesEcho takesReady same
 example =
     record {
       few = lit≤ tt;

@@ -82,7 +82,7 @@ module _ (B : Wall) (j c t : ℕ) (s : State)
         authentic = λ g r x e. I .published j ∙ ap listOf (deliver-authentic B t (right B) Y j c v I K g r x (delivered-is r x e));
         by-count = λ g x e n. full (omega (
           arith,
-          copies-split j c (isBetween B j c) (λ m. m .consumed) (s .mail),
+          copies-split j c (isBetween B) (λ m. m .consumed) (s .mail),
           sent-le B j c v I (right B) (right B),
         )) g x e;
       }

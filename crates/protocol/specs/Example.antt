@@ -50,7 +50,7 @@ pub record Met : Type 0 where
   pub published : Published wall 0 0 end lot
   pub drained : Drained wall 0 0 end
   -- three honest, honest sender, 28 copies
-  pub cost : copies wall 0 0 end ≡ 28
+  pub cost : copies 0 0 end ≡ 28
   pub cost-between : between wall 0 0 end ≡ 21
   pub delivered : Delivered wall 0 0 end 2 lot
   -- the liar's first ECHO to house 1, not its second; the other one to house 2; the forged READY

@@ -161,23 +161,23 @@ onIt j c m = sameEntry (m .sender) (m .number) j c
 abbrev pub copiesOf : ℕ → ℕ → (Copy → Bool) → List Copy → ℕ
 copiesOf j c P l = tally (λ m. onIt j c m && P m) l
 
-module _ (B : Wall) (j c : ℕ) where
-  -- between honest houses, a house's copy to itself included
-  abbrev pub isBetween : Copy → Bool
-  isBetween m = right B (m .from) && right B (m .to)
+-- all of the entry's copies, and its READY copies
+abbrev pub copies : ℕ → ℕ → State → ℕ
+copies j c s = copiesOf j c (λ m. true) (s .mail)
 
-  abbrev pub copies : State → ℕ
-  copies s = copiesOf j c (λ m. true) (s .mail)
+abbrev pub readies : ℕ → ℕ → State → ℕ
+readies j c s = copiesOf j c (λ m. isKind READY (m .kind)) (s .mail)
 
-  abbrev pub readies : State → ℕ
-  readies s = copiesOf j c (λ m. isKind READY (m .kind)) (s .mail)
+-- between honest houses, a house's copy to itself included
+abbrev pub isBetween : Wall → Copy → Bool
+isBetween B m = right B (m .from) && right B (m .to)
 
-  abbrev pub between : State → ℕ
-  between s = copiesOf j c isBetween (s .mail)
+abbrev pub between : Wall → ℕ → ℕ → State → ℕ
+between B j c s = copiesOf j c (isBetween B) (s .mail)
 
-  abbrev pub consumedBetween : State → ℕ
-  consumedBetween s = copiesOf j c (λ m. isBetween m && m .consumed) (s .mail)
+abbrev pub consumedBetween : Wall → ℕ → ℕ → State → ℕ
+consumedBetween B j c s = copiesOf j c (λ m. isBetween B m && m .consumed) (s .mail)
 
-  -- every copy of this entry between honest houses is consumed; other entries may be in flight
-  abbrev pub Drained : State → Type 0
-  Drained s = copiesOf j c (λ m. isBetween m && not (m .consumed)) (s .mail) ≡ 0
+-- every copy of this entry between honest houses is consumed; other entries may be in flight
+abbrev pub Drained : Wall → ℕ → ℕ → State → Type 0
+Drained B j c s = copiesOf j c (λ m. isBetween B m && not (m .consumed)) (s .mail) ≡ 0

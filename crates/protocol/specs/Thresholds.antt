@@ -18,9 +18,13 @@ wallOf n t numbers ok honest = record { rules = rulesOf n t ok; numbers = number
 
 -- at most t are wrong, and `up` honest houses take part
 pub record Thresholds (R : Rules) (t up : ℕ) : Type 0 where
+  -- two quorums share more than t houses
   pub overlapping : R .n + t < R .quorum + R .quorum
+  -- the wrong houses alone make no READY
   pub amplified : t < R .amplify
+  -- of the READYs that deliver, the honest ones make a READY at every house
   pub delivered : R .amplify + t ≤ R .deliver
+  -- those that take part are a quorum, and enough to deliver
   pub echoed : R .quorum ≤ up
   pub vouched : R .deliver ≤ up
 
