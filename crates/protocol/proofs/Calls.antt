@@ -6,13 +6,14 @@ use mathlib.Core.Logic.{_⊎_, inl, inr, ⊎-elim}
 use mathlib.Core.Option.{Option, none, some}
 use Prim.Native.Nat.{ℕ, zero, suc}
 use native.Mathlib.Omega.{arith}
-use lib.Dec.{T, ltb, eqb→eq, eqb-refl}
+use lib.Dec.{T, eqb, ltb, eqb→eq, eqb-refl}
 use Rattle.protocol.specs.Entry.{Decl, Kind, SEND, ECHO, READY, Entry, Rules, heard, own, isNone}
 use Rattle.protocol.specs.Steps.{Say, say, Out, refused, settle, may, recording, publishes, takesSend, takesEcho, takesReady, takes}
 use Rattle.protocol.specs.Steps.{receiveAnswer, receive, publishAnswer, publish}
-use Rattle.protocol.specs.Book.{Book, Call, publishing, receiving, inBook, senderOf, numberOf, onEntry, outcome, after, publication}
+use Rattle.protocol.specs.Book.{sameEntry, Book, Call, publishing, receiving, inBook, senderOf, numberOf, onEntry, outcome, after}
+use Rattle.protocol.specs.Book.{publication}
 use Rattle.protocol.specs.Claims.{Alone}
-use Rattle.protocol.proofs.Basics.{none-of, none-some, must-zero, must-pass, upd-same, upd-new}
+use Rattle.protocol.proofs.Basics.{bcase, T-of, and-l, and-r, none-of, none-some, must-zero, must-pass, upd-same, upd-new}
 use Rattle.protocol.proofs.Moves.{Local, Moves, local-same, other-kind, no-message, takes-moves, takes-local, refused-moves}
 
 -- 7 stands for a full slot, and 0 for an empty one
@@ -190,4 +191,12 @@ module _ (R : Rules) (numbers own : ℕ) (a : Call) where
 
   pub alone : Alone R numbers own a
   unfolding after outcome
-  alone = record { others = λ b j c e. rw e; same = λ b b₂ e. rw e; agreeing = λ b b₂ e. rw e }
+  alone = record { others = others′; same = λ b b₂ e. rw e; agreeing = λ b b₂ e. rw e }
+    where
+      others′ : (b : Book) (j c : ℕ) → ((j ≡ senderOf own a) × (c ≡ numberOf a) → ⊥) → after R numbers own a b j c ≡ b j c
+      others′ b j c d =
+          bcase (sameEntry (senderOf own a) (numberOf a) j c)
+          (λ t. let x = eqb→eq j (senderOf own a) (and-l (eqb j (senderOf own a)) (eqb c (numberOf a)) (T-of t)) in
+          let y = eqb→eq c (numberOf a) (and-r (eqb j (senderOf own a)) (eqb c (numberOf a)) (T-of t)) in
+          absurd (d (x, y)))
+          (λ t. rw t)

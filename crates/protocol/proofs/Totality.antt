@@ -1,8 +1,8 @@
 -- With at most t wrong houses and an entry's copies consumed: what an honest sender published, and what one honest house delivered, all
 -- that take part deliver; and what that cost.
 -- Assumes nothing.
-use mathlib.Core.Path.{_≡_, refl, sym, ap, _∙_}
-use mathlib.Core.Bool.{Bool, true, false, not, _&&_}
+use mathlib.Core.Path.{_≡_, sym, ap, _∙_}
+use mathlib.Core.Bool.{Bool, true, not, _&&_, and-true}
 use mathlib.Core.Option.{Option, none, some}
 use Prim.Native.Nat.{ℕ, _+_, _*_, _≤_, _<_}
 use native.Mathlib.Nat.{mul-le-mul-left}
@@ -139,7 +139,3 @@ module _ (B : Wall) (j c : ℕ) (s : View) (I : Inv B j c s) where
       let e : copiesOf j c (λ m. isKind READY (m .kind)) (s .mail) ≡ copiesOf j c (way READY (λ p. true) (λ q. true)) (s .mail) =
       tally-same _ _ (s .mail) (λ m. ap (λ (b : Bool). onIt j c m && b) (sym (and-true (isKind READY (m .kind))))) in
       e ∙ I .sent READY (λ p. true) (λ q. true) ∙ rw (count-all (n B), gave-all READY (λ p. true) v (λ p x. tt) ready) (omega arith)
-    where
-      and-true : (b : Bool) → (b && true) ≡ b
-      and-true true = refl
-      and-true false = refl

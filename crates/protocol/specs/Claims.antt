@@ -9,7 +9,7 @@ use lib.Dec.{T}
 use lib.ListN.{length}
 use Rattle.card.specs.Card.{tolerated}
 use Rattle.protocol.specs.Entry.{Decl, Entry, Rules}
-use Rattle.protocol.specs.Book.{Book, sameEntry, Call, senderOf, numberOf, outcome, after}
+use Rattle.protocol.specs.Book.{Book, Call, senderOf, numberOf, outcome, after}
 use Rattle.protocol.specs.Run.{n, Wall, Copy, State, Step, right, h, start, run, at, opens, onIt, copies, readies, between}
 use Rattle.protocol.specs.Run.{consumedBetween, Drained}
 use Rattle.protocol.specs.Thresholds.{wallOf, AtMost, Tolerated}
@@ -17,7 +17,7 @@ use Rattle.protocol.specs.Thresholds.{wallOf, AtMost, Tolerated}
 -- An accepted publication or message changes the named entry alone. Two books that agree on one entry give the same answer, message
 -- and delivery to any call that names that entry, and end agreeing on it, whatever the other entries hold.
 pub record Alone (R : Rules) (numbers own : ℕ) (a : Call) : Type 0 where
-  pub others : (b : Book) (j c : ℕ) → sameEntry (senderOf own a) (numberOf a) j c ≡ false → after R numbers own a b j c ≡ b j c
+  pub others : (b : Book) (j c : ℕ) → ((j ≡ senderOf own a) × (c ≡ numberOf a) → ⊥) → after R numbers own a b j c ≡ b j c
   pub same : (b b₂ : Book) → b (senderOf own a) (numberOf a) ≡ b₂ (senderOf own a) (numberOf a)
       → outcome R numbers own a b ≡ outcome R numbers own a b₂
   pub agreeing : (b b₂ : Book) → b (senderOf own a) (numberOf a) ≡ b₂ (senderOf own a) (numberOf a)
