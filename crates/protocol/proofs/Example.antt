@@ -28,9 +28,10 @@ example =
       forged = refl;
       honest = refl;
       own = refl;
+      untouched = refl;
     }
 
 pub everywhere : Everywhere wall 0 0 end lot
 unfolding wall end
 everywhere =
-    season wall 1 steps 0 0 .complete (carded 4 1 1 _ _ (lit< tt) (example .few)) (example .drained) .all 2 lot (example .delivered)
+    season wall 1 steps 0 0 .complete (carded 4 1 2 _ _ (lit< tt) (example .few)) (example .drained) .all 2 lot (example .delivered)

@@ -6,15 +6,15 @@ use mathlib.Core.Option.{some}
 use mathlib.Core.List.{List, [], _∷_, _++_}
 use Prim.Native.Nat.{ℕ, zero, suc}
 use lib.Dec.{ltb}
-use Rattle.protocol.specs.Entry.{Decl, SEND, ECHO, READY, Entry}
+use Rattle.protocol.specs.Entry.{Decl, SEND, ECHO, READY, Entry, fresh}
 use Rattle.protocol.specs.Run.{Wall, State, Step, publish, consume, wrong, start, run, copies, between, Drained}
 use Rattle.protocol.specs.Thresholds.{wallOf, AtMost}
 use Rattle.protocol.specs.Claims.{Delivered, Published}
 
--- n = 4, t = 1, one entry number, houses 0 to 2 honest
+-- n = 4, t = 1, two entry numbers, houses 0 to 2 honest
 unfoldable pub wall : Wall
 unfolding wallOf
-wall = wallOf 4 1 1 (λ v. true) (λ p. ltb p 3)
+wall = wallOf 4 1 2 (λ v. true) (λ p. ltb p 3)
 
 abbrev pub lot : Decl
 lot = 7 ∷ []
@@ -60,3 +60,5 @@ pub record Met : Type 0 where
   -- an honest house's READY as it gave it
   pub honest : entryAt 2 .ready 1 ≡ some lot
   pub own : entryAt 1 .readySent ≡ some lot
+  -- the sender's other entry
+  pub untouched : end .gave .books 1 0 1 ≡ fresh
