@@ -13,12 +13,12 @@ use Rattle.card.proofs.Counting.{count-one}
 use Rattle.protocol.specs.Entry.{Decl, Kind, Entry, Rules, heard, own, isKind, isSome, upd}
 use Rattle.protocol.specs.Steps.{Out, may}
 use Rattle.protocol.specs.Book.{Call, inBook, outcome}
-use Rattle.protocol.specs.Run.{n, Wall, Copy, State, right, at, consumeAt, opens, onIt, copiesOf}
+use Rattle.protocol.specs.Run.{n, Wall, Copy, State, right, at, consumedCopy, consumeAt, opens, onIt, copiesOf}
 use Rattle.protocol.proofs.Basics.{bcase, T-of, T-not-of, true-of, not-of, and-l, and-r, and-mk, and-false, both, isKind-eq}
 use Rattle.protocol.proofs.Basics.{isKind-refl, some-of, isSome-of, holds-eq, upd-all, upd-same}
 use Rattle.protocol.proofs.Moves.{filled-heard}
 use Rattle.protocol.proofs.Calls.{Brings, Done, outcome-done, outcome-booked, receive-taken}
-use Rattle.protocol.proofs.Mail.{tally-at, tally-use, copies-split}
+use Rattle.protocol.proofs.Mail.{tally-at, tally-change, copies-split}
 use Rattle.protocol.proofs.Invariant.{Inv, Act, way, true-to, entry-refl}
 use Rattle.protocol.proofs.Views.{view, out, Named}
 
@@ -130,7 +130,7 @@ module _ (B : Wall) (s : State) (i : ℕ) (m : Copy)
           done = done;
           booked = outcome-booked (B .rules) (B .numbers) r (opens m) (s .gave .books r);
           honest = λ l q w b g. rw (b .0, b .1, ← b .2) gave;
-          unmarked = λ P x. omega (arith, tally-use P (s .mail) i m at-i, ap bit (x m));
+          unmarked = λ P x. omega (arith, tally-change P consumedCopy (s .mail) i m at-i, ap bit (x m));
           marks = marks′;
         }
       where
@@ -140,7 +140,7 @@ module _ (B : Wall) (s : State) (i : ℕ) (m : Copy)
         marks′ l q u g₁ g₂ x =
             omega (
               arith,
-              tally-use (λ x. onIt j c x && (way l (eqb q) (eqb u) x && x .consumed)) (s .mail) i m at-i,
+              tally-change (λ x. onIt j c x && (way l (eqb q) (eqb u) x && x .consumed)) consumedCopy (s .mail) i m at-i,
               ap bit (and-false (onIt j c m) _ (and-false (way l (eqb q) (eqb u) m) _ unread)),
               I .consumed l q u g₁ g₂ x,
               go (way l (eqb q) (eqb u) m) refl,

@@ -11,7 +11,7 @@ use lib.Dec.{T, leb→le}
 use Rattle.protocol.specs.Entry.{Decl, Kind, SEND, ECHO, READY, Entry, Rules, heard, own, isKind, isNone, upd, votes}
 use Rattle.protocol.specs.Steps.{Say, say, Out, refused, given, mark, recorded, marked, reached, may, takesSend, takesEcho}
 use Rattle.protocol.specs.Steps.{takesReady, takes}
-use Rattle.protocol.specs.Run.{n, push}
+use Rattle.protocol.specs.Run.{push}
 use Rattle.protocol.specs.Claims.{Stays, Filled}
 use Rattle.protocol.proofs.Basics.{T-not-of, and-l, and-r, isKind-refl, none-of, none-some, upd-keeps, votes-up, mark-keeps}
 use Rattle.protocol.proofs.Basics.{mark-new, Heeded, heeds}

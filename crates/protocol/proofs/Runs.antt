@@ -15,7 +15,7 @@ use Rattle.protocol.specs.Book.{sameEntry, Call, publishing, receiving, 
 use Rattle.protocol.specs.Run.{n, isWrong, Wall, Copy, State, Step, publish, consume, wrong, right, start, at, consumedCopy}
 use Rattle.protocol.specs.Run.{consumeAt, posted, opens, called, consumes, step, run, onIt, copiesOf}
 use Rattle.protocol.proofs.Basics.{bcase, T-of, false-of, and-l, and-r, and-false, none-some, Heeded}
-use Rattle.protocol.proofs.Mail.{tally-append, tally-use}
+use Rattle.protocol.proofs.Mail.{tally-append, tally-change}
 use Rattle.protocol.proofs.Invariant.{View, Inv, Act, act-inv, else-inv}
 use Rattle.protocol.proofs.Views.{view, out, Named, named, view-elsewhere, posted-elsewhere}
 use Rattle.protocol.proofs.Consuming.{plain-act, consumption}
@@ -78,7 +78,7 @@ module _ (B : Wall) (j c : ℕ) (Ψ : (ℕ → Entry) → Type 0)
       unused : (m : Copy) → at (s .mail) i ≡ some m → onIt j c m ≡ false → (P : Copy → Bool)
           → copiesOf j c P (consumeAt (s .mail) i) ≡ copiesOf j c P (s .mail)
       unused m e t P =
-          omega (arith, tally-use (λ m. onIt j c m && P m) (s .mail) i m e, no-copy (P m), no-copy (P (consumedCopy m)))
+          omega (arith, tally-change (λ m. onIt j c m && P m) consumedCopy (s .mail) i m e, no-copy (P m), no-copy (P (consumedCopy m)))
         where
           no-copy : (b : Bool) → bit (onIt j c m && b) ≡ 0
           no-copy b = rw t

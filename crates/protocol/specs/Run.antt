@@ -83,7 +83,7 @@ posted j c r none n = []
 posted j c r (some (say k v)) n = toAll j c r k v n
 
 -- the copy at a place of the mail, and the mail with that copy consumed
-abbrev pub at : List Copy → ℕ → Option Copy
+abbrev pub at : {A : Type 0} → List A → ℕ → Option A
 at [] i = none
 at (m ∷ l) zero = some m
 at (m ∷ l) (suc i) = at l i
@@ -100,10 +100,13 @@ consumedCopy m =
       consumed = true;
     }
 
+abbrev pub changeAt : {A : Type 0} → (A → A) → List A → ℕ → List A
+changeAt f [] i = []
+changeAt f (m ∷ l) zero = f m ∷ l
+changeAt f (m ∷ l) (suc i) = m ∷ changeAt f l i
+
 abbrev pub consumeAt : List Copy → ℕ → List Copy
-consumeAt [] i = []
-consumeAt (m ∷ l) zero = consumedCopy m ∷ l
-consumeAt (m ∷ l) (suc i) = m ∷ consumeAt l i
+consumeAt l i = changeAt consumedCopy l i
 
 abbrev pub push : Option Decl → List Decl → List Decl
 push none l = l
@@ -149,7 +152,7 @@ run B [] s = s
 run B (a ∷ l) s = run B l (step B a s)
 
 -- Sent messages are counted from the steps, copy by copy.
-abbrev pub tally : (Copy → Bool) → List Copy → ℕ
+abbrev pub tally : {A : Type 0} → (A → Bool) → List A → ℕ
 tally P [] = 0
 tally P (m ∷ l) = bit (P m) + tally P l
 
