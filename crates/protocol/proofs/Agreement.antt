@@ -17,7 +17,7 @@ use Rattle.protocol.specs.Book.{Call}
 use Rattle.protocol.specs.Run.{n, isWrong, Wall, Copy, Step, right, start, run}
 use Rattle.protocol.specs.Thresholds.{Tolerated}
 use Rattle.protocol.proofs.Basics.{not-not, and-l, and-r, none-some, holds-eq, eq-holds, upd-all}
-use Rattle.protocol.proofs.Invariant.{View, Inv, Act, act-heard}
+use Rattle.protocol.proofs.Invariant.{View, Books, Inv, Act, act-heard}
 use Rattle.protocol.proofs.Views.{view}
 use Rattle.protocol.proofs.Runs.{holds-from-start}
 
@@ -79,12 +79,12 @@ module _ (B : Wall) (t : ℕ) (up : ℕ → Bool) (Y : Tolerated B t up) where
           )))
           (λ l. let x = honest-one (λ p. holds (o .entry .ready p) v) (omega (arith, Y .thresholds .amplified)) in
           more (K (x .0) v (act-heard B j c s I r a o mail A READY (x .0) v (holds-eq (o .entry .ready (x .0)) v (x .2)) tt (x .1))))
-          (A .done .local (I .local r) .ready-backed v e)
+          (A .done .local (I .books .local r) .ready-backed v e)
 
   pub backed : (j c : ℕ) (l : List Step) → Backed B (view j c (run B l start) .house)
   backed j c l = holds-from-start B j c (Backed B) (keep-backed j c) (λ r v e. absurd (none-some none v refl e)) l .1
 
-  module _ (j c : ℕ) (s : View) (I : Inv B j c s) (K : Backed B (s .house)) where
+  module _ (j c : ℕ) (s : View) (I : Books B j c s) (K : Backed B (s .house)) where
     -- a READY's declaration is one that an honest house gave an ECHO of
     vouched : (r : ℕ) (v : Decl) → s .house r .readySent ≡ some v → (p : ℕ) × T (right B p) × (s .house p .send ≡ some v)
     vouched r v e =

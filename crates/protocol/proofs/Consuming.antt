@@ -42,7 +42,7 @@ plain-act B r a s g f j c N I =
       booked = N .booked;
       honest = λ k p v b g. absurd (f k p v b g);
       unmarked = λ P x. refl;
-      marks = λ k p q g g₂ m. I .consumed k p q g g₂ m
+      marks = λ k p q g g₂ m. I .post .consumed k p q g g₂ m
           ∙ ap bit (upd-all (λ q x. isSome (heard k p (H q)) ≡ isSome (heard k p x)) H r (out B r a s .entry)
           (heard-same (B .rules) j r a (H r) (out B r a s) (N .done) k p m (λ v b. f k p v b g)) (λ q. refl) q);
     }
@@ -92,21 +92,21 @@ module _ (B : Wall) (s : State) (i : ℕ) (m : Copy)
         bcase (true-to H m) (λ t. holds-eq _ (m .decl) (T-of t))
         (λ t. absurd (omega (
           arith,
-          I .truthful,
+          I .post .truthful,
           tally-at (λ x. onIt j c x && not (true-to H x)) (s .mail) i m at-i (and-mk (onIt j c m) _ it (not-of (true-to H m) t)),
         )))
 
     -- it is the one copy of its kind from its house to its house: nothing of the kind was heard
     unheard : heard k p (H r) ≡ none
     unheard =
-        let w = I .owner p k (m .decl) gave in
+        let w = I .books .owner p k (m .decl) gave in
         let one = count-one (λ q. eqb p q && isSome (own k (H q))) (n B) p (λ q t. sym (eqb→eq p q (and-l (eqb p q) _ t))) in
         empty (heard k p (H r)) (omega (
           arith,
           count-one (eqb r) (n B) r (λ q t. sym (eqb→eq r q t)),
           mul-le-mul-left (count (eqb r) (n B)) one,
-          I .sent k (eqb p) (eqb r),
-          I .consumed k p r (w .0) right-to (w .2),
+          I .post .sent k (eqb p) (eqb r),
+          I .post .consumed k p r (w .0) right-to (w .2),
           copies-split j c here (λ x. x .consumed) (s .mail),
           tally-at (λ x. onIt j c x && (here x && not (x .consumed))) (s .mail) i m at-i
               (and-mk (onIt j c m) _ it (and-mk (here m) _ here-is (not-of (m .consumed) unread))),
@@ -119,7 +119,7 @@ module _ (B : Wall) (s : State) (i : ℕ) (m : Copy)
     pub taken : (o .answer ≡ 0) × (heard k p (o .entry) ≡ some (m .decl))
     unfolding outcome
     taken =
-        let w = I .owner p k (m .decl) gave in
+        let w = I .books .owner p k (m .decl) gave in
         rw (true-of (inBook (B .rules) (B .numbers) j c) (w .3))
         (receive-taken (B .rules) j p k (m .decl) (H r) (and-l (ltb p (n B)) _ (w .0)) (w .1) (w .2) unheard)
 
@@ -142,7 +142,7 @@ module _ (B : Wall) (s : State) (i : ℕ) (m : Copy)
               arith,
               tally-change (λ x. onIt j c x && (way l (eqb q) (eqb u) x && x .consumed)) consumedCopy (s .mail) i m at-i,
               ap bit (and-false (onIt j c m) _ (and-false (way l (eqb q) (eqb u) m) _ unread)),
-              I .consumed l q u g₁ g₂ x,
+              I .post .consumed l q u g₁ g₂ x,
               go (way l (eqb q) (eqb u) m) refl,
             )
           where

@@ -124,19 +124,23 @@ module _ (B : Wall) (j c : ℕ) (Ψ : (ℕ → Entry) → Type 0)
       start-inv : Inv B j c (view j c start)
       start-inv =
           record {
-            local = λ r. record {
-              echoes-heeded = unheeded (B .rules .quorum) none;
-              readies-heeded = unheeded (B .rules .amplify) none;
-              delivery-heeded = unheeded (B .rules .deliver) none;
-              ready-backed = λ v e. absurd (none-some none v refl e);
-              delivery-backed = λ v e. absurd (none-some none v refl e);
-              delivery-ok = λ v e. absurd (none-some none v refl e);
+            books = record {
+              local = λ r. record {
+                echoes-heeded = unheeded (B .rules .quorum) none;
+                readies-heeded = unheeded (B .rules .amplify) none;
+                delivery-heeded = unheeded (B .rules .deliver) none;
+                ready-backed = λ v e. absurd (none-some none v refl e);
+                delivery-backed = λ v e. absurd (none-some none v refl e);
+                delivery-ok = λ v e. absurd (none-some none v refl e);
+              };
+              owner = λ p k v e. absurd (none-some (own k fresh) v (fresh-own k) e);
+              given = λ r k p v e m g. absurd (none-some (heard k p fresh) v (fresh-heard k p) e);
+              delivered = λ r. refl;
+              published = λ r. refl;
             };
-            owner = λ p k v e. absurd (none-some (own k fresh) v (fresh-own k) e);
-            given = λ r k p v e m g. absurd (none-some (heard k p fresh) v (fresh-heard k p) e);
-            truthful = refl;
-            sent = λ k F Q. rw (unsaid k F) (omega arith);
-            consumed = λ k p r g g₂ m. ap (λ o. bit (isSome o)) (sym (fresh-heard k p));
-            delivered = λ r. refl;
-            published = λ r. refl;
+            post = record {
+              truthful = refl;
+              sent = λ k F Q. rw (unsaid k F) (omega arith);
+              consumed = λ k p r g g₂ m. ap (λ o. bit (isSome o)) (sym (fresh-heard k p));
+            };
           }

@@ -32,13 +32,13 @@ module _ (B : Wall) (j c t : ℕ) (s : State)
   v = view j c s
 
   noted : (r : ℕ) (x : Decl) → v .house r .delivered ≡ some x → Delivered B j c s r x
-  noted r x e = I .delivered r ∙ ap listOf e
+  noted r x e = I .books .delivered r ∙ ap listOf e
 
   delivered-is : (r : ℕ) (x : Decl) → Delivered B j c s r x → v .house r .delivered ≡ some x
   delivered-is r x e = delivered-of B j c (view j c s) I r x e
 
   published-is : (x : Decl) → Published B j c s x → v .house j .published ≡ some x
-  published-is x e = one-of (v .house j .published) x (sym (I .published j) ∙ e)
+  published-is x e = one-of (v .house j .published) x (sym (I .books .published j) ∙ e)
 
   module _ (D : Drained B j c s) where
     ready : T (right B j) → (x : Decl) → Published B j c s x → (r : ℕ) → T (right B r) → v .house r .readySent ≡ some x
@@ -68,18 +68,19 @@ module _ (B : Wall) (j c t : ℕ) (s : State)
       where
         equal′ : T (right B j) → (r : ℕ) → T (right B r) → (o : Option Decl) → v .house j .published ≡ o
             → s .gave .deliveries r j c ≡ s .gave .publications j j c
-        equal′ g r y none e = I .delivered r ∙ nothing (v .house r .delivered) refl ∙ sym (I .published j ∙ ap listOf e)
+        equal′ g r y none e = I .books .delivered r ∙ nothing (v .house r .delivered) refl ∙ sym (I .books .published j ∙ ap listOf e)
           where
             nothing : (o : Option Decl) → v .house r .delivered ≡ o → listOf (v .house r .delivered) ≡ []
             nothing none d = ap listOf d
-            nothing (some x) d = absurd (none-some _ x e (deliver-authentic B t (right B) Y j c v I K g r x d))
-        equal′ g r y (some x) e = let p = I .published j ∙ ap listOf e in full g x p r y ∙ sym p
+            nothing (some x) d = absurd (none-some _ x e (deliver-authentic B t (right B) Y j c v (I .books) K g r x d))
+        equal′ g r y (some x) e = let p = I .books .published j ∙ ap listOf e in full g x p r y ∙ sym p
 
   agreed : Agreed B j c s
   agreed =
       record {
-        agree = λ r q x w a b. deliver-agree B t (right B) Y j c v I K r q x w (delivered-is r x a) (delivered-is q w b);
-        authentic = λ g r x e. I .published j ∙ ap listOf (deliver-authentic B t (right B) Y j c v I K g r x (delivered-is r x e));
+        agree = λ r q x w a b. deliver-agree B t (right B) Y j c v (I .books) K r q x w (delivered-is r x a) (delivered-is q w b);
+        authentic = λ g r x e. I .books .published j
+            ∙ ap listOf (deliver-authentic B t (right B) Y j c v (I .books) K g r x (delivered-is r x e));
         by-count = λ g x e n. full (omega (
           arith,
           copies-split j c (isBetween B) (λ m. m .consumed) (s .mail),
