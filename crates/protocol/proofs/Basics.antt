@@ -120,7 +120,8 @@ none-of (some v) t = absurd t
 pub none-some : (o : Option Decl) (v : Decl) → o ≡ none → o ≡ some v → ⊥
 none-some o v a b = let z : _≡_ {A = ℕ} 0 1 = cc in omega arith
 
-pub upd-all {ℓ} : {A : Type ℓ} (Φ : ℕ → A → Type 0) (f : ℕ → A) (p : ℕ) (x : A) → Φ p x → ((i : ℕ) → Φ i (f i)) → (i : ℕ) → Φ i (upd f p x i)
+pub upd-all {ℓ} : {A : Type ℓ} (Φ : ℕ → A → Type 0) (f : ℕ → A) (p : ℕ) (x : A) → Φ p x → ((i : ℕ) → Φ i (f i)) → (i : ℕ)
+    → Φ i (upd f p x i)
 upd-all Φ f p x a g i = go (eqb i p) refl
   where
     go : (b : Bool) → eqb i p ≡ b → Φ i (cond b x (f i))
@@ -138,7 +139,8 @@ pub upd-keeps : (f : ℕ → Option Decl) (p : ℕ) (v : Decl) (i : ℕ) (w : De
 upd-keeps f p v i w h =
     upd-all (λ i x. f i ≡ some w → x ≡ some w) f p (some v) (λ e. absurd (none-some (f p) w h e)) (λ i e. e) i
 
-pub upd-new : (f : ℕ → Option Decl) (p : ℕ) (v : Decl) (i : ℕ) (w : Decl) → upd f p (some v) i ≡ some w → (f i ≡ some w) ⊎ ((i ≡ p) × (v ≡ w))
+pub upd-new : (f : ℕ → Option Decl) (p : ℕ) (v : Decl) (i : ℕ) (w : Decl) → upd f p (some v) i ≡ some w
+    → (f i ≡ some w) ⊎ ((i ≡ p) × (v ≡ w))
 upd-new f p v i w =
     upd-all (λ i x. x ≡ some w → (f i ≡ some w) ⊎ ((i ≡ p) × (v ≡ w))) f p (some v) (λ e. inr (refl, cc)) (λ i e. inl e) i
 
@@ -162,17 +164,17 @@ mark-new false v o w e = inl e
 
 -- the vouchers of f for one declaration were never enough, or the slot o is marked
 abbrev pub Heeded : ℕ → ℕ → (ℕ → Option Decl) → Option Decl → Type 0
-Heeded m n f o = (w : Decl) → 0 < votes f w n → m ≤ votes f w n → T (isSome o)
+Heeded m n f o = (w : Decl) → (0 < votes f w n) × (m ≤ votes f w n) → T (isSome o)
 
 -- it stays so when one more voucher is recorded and the mark is made for it
 pub heeds : (m n : ℕ) (f : ℕ → Option Decl) (p : ℕ) (v : Decl) (o : Option Decl) → Heeded m n f o
     → Heeded m n (upd f p (some v)) (mark (reached m o (upd f p (some v)) v n) v o)
-heeds m n f p v (some x) ih w a h = tt
-heeds m n f p v none ih w a h = go (leb m (votes (upd f p (some v)) v n)) refl
+heeds m n f p v (some x) ih w h = tt
+heeds m n f p v none ih w h = go (leb m (votes (upd f p (some v)) v n)) refl
   where
     go : (b : Bool) → leb m (votes (upd f p (some v)) v n) ≡ b → T (isSome (mark b v none))
     go true e = tt
     go false e =
         bcase (same v w)
-        (λ s. absurd (T-not-of e (le→leb m _ (rw (← same-eq v w (T-of s)) at h))))
-        (λ s. let l = votes-other f p v w n s in ih w (omega arith) (omega arith))
+        (λ s. absurd (T-not-of e (le→leb m _ (rw (← same-eq v w (T-of s)) at (h .1)))))
+        (λ s. let l = votes-other f p v w n s in ih w (omega arith))

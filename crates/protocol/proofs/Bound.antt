@@ -21,7 +21,7 @@ use Rattle.protocol.proofs.Slots.{run-fills}
 use Rattle.protocol.proofs.Mail.{copies-kinds}
 use Rattle.protocol.proofs.Invariant.{View, Inv}
 use Rattle.protocol.proofs.Views.{view}
-use Rattle.protocol.proofs.Runs.{taken}
+use Rattle.protocol.proofs.Consuming.{taken}
 
 pub count-all : (n : ℕ) → count (λ i. true) n ≡ n
 count-all n = omega (arith, count-not (λ i. true) n, count-none (λ i. false) n (λ i l. refl))
@@ -44,7 +44,13 @@ module _ (B : Wall) (j c : ℕ) (s : View) (I : Inv B j c s) where
       → copiesOf j c (λ m. F (m .from) && Q (m .to)) (s .mail)
       ≡ count Q (n B) * gave SEND F + count Q (n B) * gave ECHO F + count Q (n B) * gave READY F
   sent-kinds F Q =
-      omega (arith, copies-kinds j c (λ m. F (m .from) && Q (m .to)) (s .mail), I .sent SEND F Q, I .sent ECHO F Q, I .sent READY F Q)
+      omega (
+        arith,
+        copies-kinds j c (λ m. F (m .from) && Q (m .to)) (s .mail),
+        I .post .sent SEND F Q,
+        I .post .sent ECHO F Q,
+        I .post .sent READY F Q,
+      )
 
   giver : (k : Kind) (F : ℕ → Bool) (p : ℕ) → T (F p && isSome (own k (s .house p))) → (v : Decl) × (own k (s .house p) ≡ some v)
   giver k F p t = some-of (own k (s .house p)) (and-r (F p) _ t)
@@ -52,12 +58,12 @@ module _ (B : Wall) (j c : ℕ) (s : View) (I : Inv B j c s) where
   pub gave-le : (k : Kind) (F : ℕ → Bool) → gave k F ≤ h B
   gave-le k F =
       count-mono (λ p. F p && isSome (own k (s .house p))) (right B) (n B)
-      (λ p l t. let x = giver k F p t in I .owner p k (x .0) (x .1) .0)
+      (λ p l t. let x = giver k F p t in I .books .owner p k (x .0) (x .1) .0)
 
   pub gave-send : (F : ℕ → Bool) → gave SEND F ≤ 1
   gave-send F =
       count-one (λ p. F p && isSome (own SEND (s .house p))) (n B) j
-      (λ p t. let x = giver SEND F p t in eqb→eq p j (I .owner p SEND (x .0) (x .1) .2))
+      (λ p t. let x = giver SEND F p t in eqb→eq p j (I .books .owner p SEND (x .0) (x .1) .2))
 
   -- at most one message and two more of each honest house, to each house that passes Q
   pub sent-le : (F Q : ℕ → Bool) → copiesOf j c (λ m. F (m .from) && Q (m .to)) (s .mail) ≤ count Q (n B) + 2 * (h B * count Q (n B))
@@ -66,15 +72,16 @@ module _ (B : Wall) (j c : ℕ) (s : View) (I : Inv B j c s) where
       omega (arith, sent-kinds F Q, mul-le-mul-left (count Q (n B)) l)
 
   pub delivered-of : (r : ℕ) (v : Decl) → s .deliveries r ≡ v ∷ [] → s .house r .delivered ≡ some v
-  delivered-of r v e = one-of (s .house r .delivered) v (sym (I .delivered r) ∙ e)
+  delivered-of r v e = one-of (s .house r .delivered) v (sym (I .books .delivered r) ∙ e)
 
 pub bounded : (B : Wall) (j c : ℕ) (s : State) → ((j c : ℕ) → Inv B j c (view j c s)) → Bounded B j c s
 bounded B j c s I =
     record {
-      bound = rw (count-all (n B)) at (sent-le B j c (view j c s) (I j c) (λ p. true) (λ q. true));
+      bound = omega (arith, rw (count-all (n B)) at (sent-le B j c (view j c s) (I j c) (λ p. true) (λ q. true)));
       bound-between = sent-le B j c (view j c s) (I j c) (right B) (right B);
-      once = λ r. rw (I j c .delivered r) (length-listOf (s .gave .books r j c .delivered));
-      plausible = λ r v e. I j c .local r .delivery-ok v (delivered-of B j c (view j c s) (I j c) r v e);
+      once = λ r. rw (I j c .books .delivered r) (length-listOf (s .gave .books r j c .delivered));
+      published-once = rw (I j c .books .published j) (length-listOf (s .gave .books j j c .published));
+      plausible = λ r v e. I j c .books .local r .delivery-ok v (delivered-of B j c (view j c s) (I j c) r v e);
       accepted = λ i m e t g u. taken B s i m e g u (I (m .sender) (m .number)) .0;
       fills = λ l r. run-fills B l s r j c;
     }

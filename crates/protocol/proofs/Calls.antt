@@ -6,14 +6,15 @@ use mathlib.Core.Logic.{_⊎_, inl, inr, ⊎-elim}
 use mathlib.Core.Option.{Option, none, some}
 use Prim.Native.Nat.{ℕ, zero, suc}
 use native.Mathlib.Omega.{arith}
-use lib.Dec.{T, ltb, eqb→eq, eqb-refl}
+use lib.Dec.{T, eqb, ltb, eqb→eq, eqb-refl}
 use Rattle.protocol.specs.Entry.{Decl, Kind, SEND, ECHO, READY, Entry, Rules, heard, own, isNone}
-use Rattle.protocol.specs.Steps.{Say, say, Out, refused, settle, must, may, recording, publishes, takesSend, takesEcho, takesReady}
-use Rattle.protocol.specs.Steps.{takes, receive, publish}
-use Rattle.protocol.specs.Book.{Book, Call, publishing, receiving, inBook, senderOf, numberOf, onEntry, outcome, after, publication}
+use Rattle.protocol.specs.Steps.{Say, say, Out, refused, settle, may, recording, publishes, takesSend, takesEcho, takesReady, takes}
+use Rattle.protocol.specs.Steps.{receiveAnswer, receive, publishAnswer, publish}
+use Rattle.protocol.specs.Book.{sameEntry, Book, Call, publishing, receiving, inBook, senderOf, numberOf, onEntry, outcome, after}
+use Rattle.protocol.specs.Book.{publication}
 use Rattle.protocol.specs.Claims.{Alone}
-use Rattle.protocol.proofs.Basics.{none-of, none-some, must-zero, must-pass, upd-same, upd-new}
-use Rattle.protocol.proofs.Moves.{Local, Moves, other-kind, no-message, takes-moves, takes-local, refused-moves}
+use Rattle.protocol.proofs.Basics.{bcase, T-of, and-l, and-r, none-of, none-some, must-zero, must-pass, upd-same, upd-new}
+use Rattle.protocol.proofs.Moves.{Local, Moves, local-same, other-kind, no-message, takes-moves, takes-local, refused-moves}
 
 -- 7 stands for a full slot, and 0 for an empty one
 pub recording-free : (o : Option Decl) (v : Decl) → recording o v ≡ 0 → o ≡ none
@@ -37,7 +38,8 @@ pub record Done (R : Rules) (j r : ℕ) (a : Call) (e : Entry) (o : Out) : Type 
   pub hears : (l : Kind) (q : ℕ) (w : Decl) → heard l q (o .entry) ≡ some w → T (may j l q) → (heard l q e ≡ some w) ⊎ Brings a l q w
 
 module _ (R : Rules) (j : ℕ) where
-  heard-new : (k : Kind) (p : ℕ) (v : Decl) (e : Entry) → T (may j k p) → (l : Kind) (q : ℕ) (w : Decl) → heard l q (takes R k p v e .entry) ≡ some w
+  heard-new : (k : Kind) (p : ℕ) (v : Decl) (e : Entry) → T (may j k p) → (l : Kind) (q : ℕ) (w : Decl)
+      → heard l q (takes R k p v e .entry) ≡ some w
       → T (may j l q) → (heard l q e ≡ some w) ⊎ ((l ≡ k) × (q ≡ p) × (v ≡ w))
   unfolding takesSend takesEcho takesReady
   heard-new SEND p v e a SEND q w x b = inr (refl, eqb→eq q j b ∙ sym (eqb→eq p j a), cc)
@@ -59,33 +61,43 @@ module _ (R : Rules) (j : ℕ) where
   refused-done : (r n : ℕ) (a : Call) (e : Entry) → publication a n ≡ none → Done R j r a e (refused n e)
   refused-done r n a e x = record { moves = rw x (refused-moves R j r n e); local = λ L. L; hears = λ l q w h m. inl h }
 
+  -- what is answered 0 is plausible, from a house that may say it, and the first of its kind
+  answer-zero : (p : ℕ) (k : Kind) (v : Decl) (e : Entry) → receiveAnswer R j p k v e ≡ 0
+      → T (R .ok v) × T (may j k p) × (heard k p e ≡ none)
+  unfolding receiveAnswer
+  answer-zero p k v e x =
+      let x₁ = must-zero (ltb p (R .n)) 3 _ x in
+      let x₂ = must-zero (R .ok v) 4 _ (x₁ .1) in
+      let x₃ = must-zero (may j k p) 5 _ (x₂ .1) in
+      (x₂ .0, x₃ .0, recording-free (heard k p e) v (x₃ .1))
+
+  -- and what is so, from a house of the book, is answered 0
+  answer-passes : (p : ℕ) (k : Kind) (v : Decl) (e : Entry) → T (ltb p (R .n)) → T (R .ok v) → T (may j k p) → heard k p e ≡ none
+      → receiveAnswer R j p k v e ≡ 0
+  unfolding receiveAnswer
+  answer-passes p k v e a b m h =
+      must-pass (ltb p (R .n)) 4 _ a ∙ must-pass (R .ok v) 5 _ b ∙ must-pass (may j k p) 6 _ m
+      ∙ ap (λ o. recording o v) h ∙ recording-none v
+
   receive-done : (r p : ℕ) (k : Kind) (j₂ c : ℕ) (v : Decl) (e : Entry) → Done R j r (receiving p k j₂ c v) e (receive R j p k v e)
   unfolding receive
-  receive-done r p k j₂ c v e = go (must (ltb p (R .n)) 4 (must (R .ok v) 5 (must (may j k p) 6 (recording (heard k p e) v)))) refl
+  receive-done r p k j₂ c v e = go (receiveAnswer R j p k v e) refl
     where
-      go : (n : ℕ) → must (ltb p (R .n)) 4 (must (R .ok v) 5 (must (may j k p) 6 (recording (heard k p e) v))) ≡ n
-          → Done R j r (receiving p k j₂ c v) e (settle n (takes R k p v e) e)
+      go : (n : ℕ) → receiveAnswer R j p k v e ≡ n → Done R j r (receiving p k j₂ c v) e (settle n (takes R k p v e) e)
       go zero x =
-          let x₁ = must-zero (ltb p (R .n)) 3 _ x in
-          let x₂ = must-zero (R .ok v) 4 _ (x₁ .1) in
-          let x₃ = must-zero (may j k p) 5 _ (x₂ .1) in
-          let free : heard k p e ≡ none = recording-free (heard k p e) v (x₃ .1) in
+          let y = answer-zero p k v e x in
           record {
-            moves = takes-moves R j r k p v e (x₂ .0) free;
-            local = takes-local R j k p v e (x₂ .0) free;
-            hears = heard-new k p v e (x₃ .0);
+            moves = takes-moves R j r k p v e (y .0) (y .2);
+            local = takes-local R j k p v e (y .0) (y .2);
+            hears = heard-new k p v e (y .1);
           }
       go (suc n) x = refused-done r (suc n) (receiving p k j₂ c v) e refl
 
-  -- what is plausible, from a house that may say it, where nothing of the kind was heard from it, is accepted
+  -- an accepted message is recorded
   pub receive-taken : (p : ℕ) (k : Kind) (v : Decl) (e : Entry) → T (ltb p (R .n)) → T (R .ok v) → T (may j k p) → heard k p e ≡ none
       → (receive R j p k v e .answer ≡ 0) × (heard k p (receive R j p k v e .entry) ≡ some v)
   unfolding receive
-  receive-taken p k v e a b m h =
-      let zero-is : must (ltb p (R .n)) 4 (must (R .ok v) 5 (must (may j k p) 6 (recording (heard k p e) v))) ≡ 0 =
-      must-pass (ltb p (R .n)) 4 _ a ∙ must-pass (R .ok v) 5 _ b ∙ must-pass (may j k p) 6 _ m ∙ ap (λ o. recording o v) h ∙ recording-none v
-      in
-      rw zero-is (takes-heard k p v e)
+  receive-taken p k v e a b m h = rw (answer-passes p k v e a b m h) (takes-heard k p v e)
 
   publishes-hears : (v : Decl) (e : Entry) (l : Kind) (q : ℕ) → heard l q (publishes v e .entry) ≡ heard l q e
   unfolding publishes
@@ -122,29 +134,23 @@ module _ (R : Rules) (j : ℕ) where
       says′ ECHO w m = other-kind SEND ECHO v w refl m
       says′ READY w m = other-kind SEND READY v w refl m
 
-  publishes-local : (v : Decl) (e : Entry) → Local R e → Local R (publishes v e .entry)
-  unfolding publishes
-  publishes-local v e L =
-      record {
-        echoes-heeded = L .echoes-heeded;
-        readies-heeded = L .readies-heeded;
-        delivery-heeded = L .delivery-heeded;
-        ready-backed = L .ready-backed;
-        delivery-backed = L .delivery-backed;
-        delivery-ok = L .delivery-ok;
-      }
+  publish-zero : (v : Decl) (e : Entry) → publishAnswer R v e ≡ 0 → T (R .ok v) × (e .published ≡ none)
+  unfolding publishAnswer
+  publish-zero v e x =
+      let x₁ = must-zero (R .ok v) 4 _ x in
+      let x₂ = must-zero (isNone (e .published)) 7 _ (x₁ .1) in
+      (x₁ .0, none-of (e .published) (x₂ .0))
 
   publish-done : (c : ℕ) (v : Decl) (e : Entry) → Done R j j (publishing c v) e (publish R v e)
   unfolding publish publishes
-  publish-done c v e = go (must (R .ok v) 5 (must (isNone (e .published)) 8 0)) refl
+  publish-done c v e = go (publishAnswer R v e) refl
     where
-      go : (n : ℕ) → must (R .ok v) 5 (must (isNone (e .published)) 8 0) ≡ n → Done R j j (publishing c v) e (settle n (publishes v e) e)
+      go : (n : ℕ) → publishAnswer R v e ≡ n → Done R j j (publishing c v) e (settle n (publishes v e) e)
       go zero x =
-          let x₁ = must-zero (R .ok v) 4 _ x in
-          let x₂ = must-zero (isNone (e .published)) 7 _ (x₁ .1) in
+          let y = publish-zero v e x in
           record {
-            moves = publishes-moves c v e (x₁ .0) (none-of (e .published) (x₂ .0));
-            local = publishes-local v e;
+            moves = publishes-moves c v e (y .0) (y .1);
+            local = local-same R e (e .send) (some v);
             hears = λ l q w h m. inl (sym (publishes-hears v e l q) ∙ h);
           }
       go (suc n) x = refused-done j (suc n) (publishing c v) e refl
@@ -174,7 +180,8 @@ module _ (R : Rules) (numbers own : ℕ) (a : Call) where
       go false = refused-done R (senderOf own a) own 4 a (named b) (none-is a)
 
   -- a message is given on an entry of the book only
-  pub outcome-booked : (b : Book) (m : Say) → outcome R numbers own a b .message ≡ some m → T (inBook R numbers (senderOf own a) (numberOf a))
+  pub outcome-booked : (b : Book) (m : Say) → outcome R numbers own a b .message ≡ some m
+      → T (inBook R numbers (senderOf own a) (numberOf a))
   unfolding outcome
   outcome-booked b m = go (inBook R numbers (senderOf own a) (numberOf a))
     where
@@ -184,4 +191,12 @@ module _ (R : Rules) (numbers own : ℕ) (a : Call) where
 
   pub alone : Alone R numbers own a
   unfolding after outcome
-  alone = record { others = λ b j c e. rw e; same = λ b b₂ e. rw e; agreeing = λ b b₂ e. rw e }
+  alone = record { others = others′; same = λ b b₂ e. rw e; agreeing = λ b b₂ e. rw e }
+    where
+      others′ : (b : Book) (j c : ℕ) → ((j ≡ senderOf own a) × (c ≡ numberOf a) → ⊥) → after R numbers own a b j c ≡ b j c
+      others′ b j c d =
+          bcase (sameEntry (senderOf own a) (numberOf a) j c)
+          (λ t. let x = eqb→eq j (senderOf own a) (and-l (eqb j (senderOf own a)) (eqb c (numberOf a)) (T-of t)) in
+          let y = eqb→eq c (numberOf a) (and-r (eqb j (senderOf own a)) (eqb c (numberOf a)) (T-of t)) in
+          absurd (d (x, y)))
+          (λ t. rw t)

@@ -1,4 +1,4 @@
--- The run of four houses, computed: the premises of the claims can be met.
+-- The run of four houses, computed: the premises of the claims can be met, and so what they claim comes of it.
 -- Assumes nothing.
 use mathlib.Core.Path.{refl}
 use lib.Dec.{lit<, lit≤}
@@ -8,7 +8,8 @@ use Rattle.protocol.specs.Steps.{publishes, takesSend, takesEcho, takesR
 use Rattle.protocol.specs.Book.{outcome, after}
 use Rattle.protocol.specs.Run.{called, consumes, step, run}
 use Rattle.protocol.specs.Thresholds.{rulesOf, wallOf}
-use Rattle.protocol.specs.Example.{wall, consumeAll, steps, end, Met}
+use Rattle.protocol.specs.Claims.{Everywhere}
+use Rattle.protocol.specs.Example.{wall, lot, consumeAll, steps, end, Met}
 use Rattle.protocol.proofs.Season.{season, carded}
 
 pub example : Met
@@ -21,6 +22,16 @@ example =
       drained = refl;
       cost = refl;
       cost-between = refl;
-      delivered = λ r g. season wall 1 steps 0 0 .complete (carded 4 1 1 _ _ (lit< tt) (lit≤ tt)) refl .equal tt r g;
-      lied = (refl, refl, refl);
+      delivered = refl;
+      first-echo = refl;
+      other-echo = refl;
+      forged = refl;
+      honest = refl;
+      own = refl;
+      untouched = refl;
     }
+
+pub everywhere : Everywhere wall 0 0 end lot
+unfolding wall end
+everywhere =
+    season wall 1 steps 0 0 .complete (carded 4 1 2 _ _ (lit< tt) (example .few)) (example .drained) .all 2 lot (example .delivered)

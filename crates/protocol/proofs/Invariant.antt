@@ -35,15 +35,15 @@ way k F Q m = isKind k (m .kind) && (F (m .from) && Q (m .to))
 abbrev pub true-to : (ℕ → Entry) → Copy → Bool
 true-to H m = holds (own (m .kind) (H (m .from))) (m .decl)
 
-pub is-refl : (j c : ℕ) → T (sameEntry j c j c)
-is-refl j c = and-mk (eqb j j) (eqb c c) (eqb-refl j) (eqb-refl c)
+pub entry-refl : (j c : ℕ) → T (sameEntry j c j c)
+entry-refl j c = and-mk (eqb j j) (eqb c c) (eqb-refl j) (eqb-refl c)
 
 -- of a message of kind l from house r, the copies that pass
 way-toAll : (j c r : ℕ) (k l : Kind) (F Q : ℕ → Bool) (w : Decl) (n : ℕ)
     → tally (λ m. onIt j c m && way k F Q m) (toAll j c r l w n) ≡ count (λ q. (isKind k l && F r) && Q q) n
 way-toAll j c r k l F Q w n =
     tally-toAll (λ m. onIt j c m && way k F Q m) j c r l w n
-    ∙ count-same _ _ n (λ q h. regroup (sameEntry j c j c) (isKind k l) (F r) (Q q) (is-refl j c))
+    ∙ count-same _ _ n (λ q h. regroup (sameEntry j c j c) (isKind k l) (F r) (Q q) (entry-refl j c))
   where
     regroup : (t a b q : Bool) → T t → (t && (a && (b && q))) ≡ ((a && b) && q)
     regroup true true b q x = refl
@@ -51,7 +51,8 @@ way-toAll j c r k l F Q w n =
     regroup false a b q x = absurd x
 
 module _ (B : Wall) (j c : ℕ) where
-  pub record Inv (s : View) : Type 0 where
+  -- of what calls gave
+  pub record Books (s : View) : Type 0 where
     pub local : (r : ℕ) → Local (B .rules) (s .house r)
     -- who gave a message is honest and may give it, and it is plausible and on an entry of the book
     pub owner : (p : ℕ) (k : Kind) (v : Decl) → own k (s .house p) ≡ some v
@@ -59,6 +60,11 @@ module _ (B : Wall) (j c : ℕ) where
     -- what was heard from an honest house, it gave
     pub given : (r : ℕ) (k : Kind) (p : ℕ) (v : Decl) → heard k p (s .house r) ≡ some v → T (may j k p) → T (right B p)
         → own k (s .house p) ≡ some v
+    pub delivered : (r : ℕ) → s .deliveries r ≡ listOf (s .house r .delivered)
+    pub published : (r : ℕ) → s .publications r ≡ listOf (s .house r .published)
+
+  -- of the copies
+  pub record Post (s : View) : Type 0 where
     -- no copy is untrue
     pub truthful : copiesOf j c (λ m. not (true-to (s .house) m)) (s .mail) ≡ 0
     -- a message given is one copy to each house
@@ -67,8 +73,10 @@ module _ (B : Wall) (j c : ℕ) where
     -- between honest houses, what was heard is what was consumed
     pub consumed : (k : Kind) (p r : ℕ) → T (right B p) → T (right B r) → T (may j k p)
         → copiesOf j c (λ m. way k (eqb p) (eqb r) m && m .consumed) (s .mail) ≡ bit (isSome (heard k p (s .house r)))
-    pub delivered : (r : ℕ) → s .deliveries r ≡ listOf (s .house r .delivered)
-    pub published : (r : ℕ) → s .publications r ≡ listOf (s .house r .published)
+
+  pub record Inv (s : View) : Type 0 where
+    pub books : Books s
+    pub post : Post s
 
   -- a call at house r on this entry, with outcome o, that a run may make; `mail` is the mail as the call finds it
   pub record Act (s : View) (r : ℕ) (a : Call) (o : Out) (mail : List Copy) : Type 0 where
@@ -106,21 +114,22 @@ module _ (B : Wall) (j c : ℕ) where
     act-owner p k v =
         upd-all (λ p x. own k x ≡ some v → T (right B p) × T (B .rules .ok v) × T (may j k p) × T (inBook (B .rules) (B .numbers) j c))
         (s .house) r (o .entry)
-        (λ e. ⊎-elim (I .owner r k v)
+        (λ e. ⊎-elim (I .books .owner r k v)
         (λ m. let y = A .done .moves .says k v m in (A .here, y .2, y .3, A .booked (say k v) m))
         (A .done .moves .new k v e))
-        (λ p. I .owner p k v) p
+        (λ p. I .books .owner p k v) p
 
     -- what the call leaves as heard from an honest house, that house gave before
-    pub act-heard : (k : Kind) (p : ℕ) (v : Decl) → heard k p (o .entry) ≡ some v → T (may j k p) → T (right B p) → own k (s .house p) ≡ some v
-    act-heard k p v h m g = ⊎-elim (λ x. I .given r k p v x m g) (λ x. A .honest k p v x g) (A .done .hears k p v h m)
+    pub act-heard : (k : Kind) (p : ℕ) (v : Decl) → heard k p (o .entry) ≡ some v → T (may j k p) → T (right B p)
+        → own k (s .house p) ≡ some v
+    act-heard k p v h m g = ⊎-elim (λ x. I .books .given r k p v x m g) (λ x. A .honest k p v x g) (A .done .hears k p v h m)
 
     act-given : (q : ℕ) (k : Kind) (p : ℕ) (v : Decl) → heard k p (H′ q) ≡ some v → T (may j k p) → T (right B p) → own k (H′ p) ≡ some v
     unfolding H′
     act-given q k p v =
         upd-all (λ q x. heard k p x ≡ some v → T (may j k p) → T (right B p) → own k (H′ p) ≡ some v) (s .house) r (o .entry)
         (λ h m g. own-stays p k v (act-heard k p v h m g))
-        (λ q h m g. own-stays p k v (I .given q k p v h m g)) q
+        (λ q h m g. own-stays p k v (I .books .given q k p v h m g)) q
 
     act-truthful : copiesOf j c (λ m. not (true-to H′ m)) (mail ++ posted j c r (o .message) (n B)) ≡ 0
     unfolding H′
@@ -128,9 +137,10 @@ module _ (B : Wall) (j c : ℕ) where
         omega (
           arith,
           tally-append untrue mail (posted j c r (o .message) (n B)),
-          tally-mono untrue before mail (λ m t. and-mk (onIt j c m) _ (and-l (onIt j c m) _ t) (not-T (true-to (s .house) m) (λ x. T-not (true-to H′ m) (and-r (onIt j c m) _ t) (stays m x)))),
+          tally-mono untrue before mail (λ m t. and-mk (onIt j c m) _ (and-l (onIt j c m) _ t)
+              (not-T (true-to (s .house) m) (λ x. T-not (true-to H′ m) (and-r (onIt j c m) _ t) (stays m x)))),
           A .unmarked before (λ m. refl),
-          I .truthful,
+          I .post .truthful,
           new (o .message) refl,
         )
       where
@@ -159,7 +169,7 @@ module _ (B : Wall) (j c : ℕ) where
           arith,
           tally-append (λ m. onIt j c m && way k F Q m) mail (posted j c r (o .message) (n B)),
           A .unmarked (λ m. onIt j c m && way k F Q m) (λ m. refl),
-          I .sent k F Q,
+          I .post .sent k F Q,
           go (o .message) refl,
         )
       where
@@ -173,7 +183,9 @@ module _ (B : Wall) (j c : ℕ) where
         X = count Q (n B)
 
         still : (T (F r) → (w : Decl) → o .message ≡ some (say k w) → ⊥) → X * count P (n B) ≡ X * count P′ (n B)
-        still f = ap (λ (y : ℕ). X * y) (count-same P P′ (n B) (λ p l. upd-all (λ p x. P p ≡ (F p && isSome (own k x))) (s .house) r (o .entry) at-r (λ p. refl) p))
+        still f =
+            ap (λ (y : ℕ). X * y) (count-same P P′ (n B)
+            (λ p l. upd-all (λ p x. P p ≡ (F p && isSome (own k x))) (s .house) r (o .entry) at-r (λ p. refl) p))
           where
             at-r : P r ≡ (F r && isSome (own k (o .entry)))
             at-r =
@@ -181,7 +193,8 @@ module _ (B : Wall) (j c : ℕ) where
                 (λ t. let x = some-of (own k (s .house r)) (and-r (F r) _ t) in
                 and-mk (F r) _ (and-l (F r) _ t) (isSome-of _ (x .0) (filled-own (A .done .moves .filled) k (x .0) (x .1))))
                 (λ t. let x = some-of (own k (o .entry)) (and-r (F r) _ t) in
-                and-mk (F r) _ (and-l (F r) _ t) (⊎-elim (isSome-of _ (x .0)) (λ m. absurd (f (and-l (F r) _ t) (x .0) m)) (A .done .moves .new k (x .0) (x .1))))
+                and-mk (F r) _ (and-l (F r) _ t)
+                (⊎-elim (isSome-of _ (x .0)) (λ m. absurd (f (and-l (F r) _ t) (x .0) m)) (A .done .moves .new k (x .0) (x .1))))
 
         go : (x : Option Say) → o .message ≡ x → copiesOf j c (way k F Q) (posted j c r x (n B)) + X * count P (n B) ≡ X * count P′ (n B)
         go none e = omega (arith, still (λ t w m. no-message (say k w) (sym e ∙ m)))
@@ -206,7 +219,8 @@ module _ (B : Wall) (j c : ℕ) where
                 )
 
     act-consumed : (k : Kind) (p q : ℕ) → T (right B p) → T (right B q) → T (may j k p)
-        → copiesOf j c (λ m. way k (eqb p) (eqb q) m && m .consumed) (mail ++ posted j c r (o .message) (n B)) ≡ bit (isSome (heard k p (H′ q)))
+        → copiesOf j c (λ m. way k (eqb p) (eqb q) m && m .consumed) (mail ++ posted j c r (o .message) (n B))
+        ≡ bit (isSome (heard k p (H′ q)))
     unfolding H′
     act-consumed k p q g g₂ m =
         omega (arith, tally-append taken mail (posted j c r (o .message) (n B)), A .marks k p q g g₂ m, new (o .message))
@@ -218,7 +232,8 @@ module _ (B : Wall) (j c : ℕ) where
         new none = refl
         new (some (say l w)) =
             tally-toAll taken j c r l w (n B)
-            ∙ count-none _ (n B) (λ i h. and-false (sameEntry j c j c) _ (and-false (way k (eqb p) (eqb q) (copyTo j c r l w i)) false refl))
+            ∙ count-none _ (n B)
+            (λ i h. and-false (sameEntry j c j c) _ (and-false (way k (eqb p) (eqb q) (copyTo j c r l w i)) false refl))
 
     act-list : (g : Entry → Option Decl) (f : ℕ → List Decl) (x : Option Decl) → ((q : ℕ) → f q ≡ listOf (g (s .house q)))
         → push x (listOf (g (s .house r))) ≡ listOf (g (o .entry)) → (q : ℕ) → upd f r (push x (f r)) q ≡ listOf (g (H′ q))
@@ -233,14 +248,15 @@ module _ (B : Wall) (j c : ℕ) where
     unfolding H′
     act-inv =
         record {
-          local = upd-all (λ q x. Local (B .rules) x) (s .house) r (o .entry) (A .done .local (I .local r)) (I .local);
-          owner = act-owner;
-          given = act-given;
-          truthful = act-truthful;
-          sent = act-sent;
-          consumed = act-consumed;
-          delivered = act-list (λ e. e .delivered) (s .deliveries) (o .delivery) (I .delivered) (A .done .moves .delivers);
-          published = act-list (λ e. e .published) (s .publications) (publication a (o .answer)) (I .published) (A .done .moves .publishes);
+          books = record {
+            local = upd-all (λ q x. Local (B .rules) x) (s .house) r (o .entry) (A .done .local (I .books .local r)) (I .books .local);
+            owner = act-owner;
+            given = act-given;
+            delivered = act-list (λ e. e .delivered) (s .deliveries) (o .delivery) (I .books .delivered) (A .done .moves .delivers);
+            published = act-list (λ e. e .published) (s .publications) (publication a (o .answer)) (I .books .published)
+                (A .done .moves .publishes);
+          };
+          post = record { truthful = act-truthful; sent = act-sent; consumed = act-consumed };
         }
 
   -- a call on another entry: it leaves this one, and the count of its copies by any test
@@ -248,12 +264,16 @@ module _ (B : Wall) (j c : ℕ) where
       → Inv (record { house = s .house; deliveries = s .deliveries; publications = s .publications; mail = mail })
   else-inv s mail f I =
       record {
-        local = I .local;
-        owner = I .owner;
-        given = I .given;
-        truthful = f _ ∙ I .truthful;
-        sent = λ k F Q. f _ ∙ I .sent k F Q;
-        consumed = λ k p r g g₂ m. f _ ∙ I .consumed k p r g g₂ m;
-        delivered = I .delivered;
-        published = I .published;
+        books = record {
+          local = I .books .local;
+          owner = I .books .owner;
+          given = I .books .given;
+          delivered = I .books .delivered;
+          published = I .books .published;
+        };
+        post = record {
+          truthful = f _ ∙ I .post .truthful;
+          sent = λ k F Q. f _ ∙ I .post .sent k F Q;
+          consumed = λ k p r g g₂ m. f _ ∙ I .post .consumed k p r g g₂ m;
+        };
       }

@@ -1,4 +1,4 @@
--- Counting the copies in the mail that pass a test.
+-- Counting the copies of a mail that pass a test, and what sending and consuming do to the count.
 -- Assumes nothing.
 use mathlib.Core.Path.{_≡_, refl, ap}
 use mathlib.Core.Bool.{Bool, true, false, not, _&&_}
@@ -10,7 +10,7 @@ use lib.Dec.{T}
 use Rattle.card.specs.Count.{bit, count}
 use Rattle.card.proofs.Counting.{count-mono}
 use Rattle.protocol.specs.Entry.{Decl, Kind, SEND, ECHO, READY, isKind}
-use Rattle.protocol.specs.Run.{n, Copy, at, consumedCopy, consumeAt, copyTo, toAll, tally, onIt, copiesOf}
+use Rattle.protocol.specs.Run.{Copy, at, changeAt, copyTo, toAll, tally, onIt, copiesOf}
 
 bit-one : (a : Bool) → T a → bit a ≡ 1
 bit-one true t = refl
@@ -22,15 +22,15 @@ bit-split true true false = refl
 bit-split true false c = refl
 bit-split false b c = refl
 
-pub tally-mono : (P Q : Copy → Bool) (l : List Copy) → ((m : Copy) → T (P m) → T (Q m)) → tally P l ≤ tally Q l
+pub tally-mono : {A : Type 0} (P Q : A → Bool) (l : List A) → ((m : A) → T (P m) → T (Q m)) → tally P l ≤ tally Q l
 tally-mono P Q [] f = omega arith
 tally-mono P Q (m ∷ l) f = omega (arith, count-mono (λ i. P m) (λ i. Q m) 1 (λ i h. f m), tally-mono P Q l f)
 
-pub tally-same : (P Q : Copy → Bool) (l : List Copy) → ((m : Copy) → P m ≡ Q m) → tally P l ≡ tally Q l
+pub tally-same : {A : Type 0} (P Q : A → Bool) (l : List A) → ((m : A) → P m ≡ Q m) → tally P l ≡ tally Q l
 tally-same P Q [] f = refl
 tally-same P Q (m ∷ l) f = omega (arith, ap bit (f m), tally-same P Q l f)
 
-pub tally-append : (P : Copy → Bool) (l k : List Copy) → tally P (l ++ k) ≡ tally P l + tally P k
+pub tally-append : {A : Type 0} (P : A → Bool) (l k : List A) → tally P (l ++ k) ≡ tally P l + tally P k
 tally-append P [] k = omega arith
 tally-append P (m ∷ l) k = omega (arith, tally-append P l k)
 
@@ -40,20 +40,21 @@ pub copies-split : (j c : ℕ) (P Q : Copy → Bool) (l : List Copy)
 copies-split j c P Q [] = refl
 copies-split j c P Q (m ∷ l) = omega (arith, bit-split (onIt j c m) (P m) (Q m), copies-split j c P Q l)
 
-pub tally-at : (P : Copy → Bool) (l : List Copy) (i : ℕ) (m : Copy) → at l i ≡ some m → T (P m) → 0 < tally P l
+pub tally-at : {A : Type 0} (P : A → Bool) (l : List A) (i : ℕ) (m : A) → at l i ≡ some m → T (P m) → 0 < tally P l
 tally-at P [] i m e t = absurd (let z : _≡_ {A = ℕ} 0 1 = cc in omega arith)
 tally-at P (x ∷ l) zero m e t = let z : x ≡ m = cc in omega (arith, bit-one (P x) (rw z t))
 tally-at P (x ∷ l) (suc i) m e t = omega (arith, tally-at P l i m e t)
 
--- one copy is consumed
-pub tally-use : (P : Copy → Bool) (l : List Copy) (i : ℕ) (m : Copy) → at l i ≡ some m
-    → tally P (consumeAt l i) + bit (P m) ≡ tally P l + bit (P (consumedCopy m))
-tally-use P [] i m e = absurd (let z : _≡_ {A = ℕ} 0 1 = cc in omega arith)
-tally-use P (x ∷ l) zero m e = let z : x ≡ m = cc in rw z (omega arith)
-tally-use P (x ∷ l) (suc i) m e = omega (arith, tally-use P l i m e)
+-- one copy is changed
+pub tally-change : {A : Type 0} (P : A → Bool) (f : A → A) (l : List A) (i : ℕ) (m : A) → at l i ≡ some m
+    → tally P (changeAt f l i) + bit (P m) ≡ tally P l + bit (P (f m))
+tally-change P f [] i m e = absurd (let z : _≡_ {A = ℕ} 0 1 = cc in omega arith)
+tally-change P f (x ∷ l) zero m e = let z : x ≡ m = cc in rw z (omega arith)
+tally-change P f (x ∷ l) (suc i) m e = omega (arith, tally-change P f l i m e)
 
 -- n copies, one to each house
-pub tally-toAll : (P : Copy → Bool) (j c r : ℕ) (k : Kind) (v : Decl) (n : ℕ) → tally P (toAll j c r k v n) ≡ count (λ q. P (copyTo j c r k v q)) n
+pub tally-toAll : (P : Copy → Bool) (j c r : ℕ) (k : Kind) (v : Decl) (n : ℕ)
+    → tally P (toAll j c r k v n) ≡ count (λ q. P (copyTo j c r k v q)) n
 tally-toAll P j c r k v zero = refl
 tally-toAll P j c r k v (suc n) =
     omega (arith, tally-append P (toAll j c r k v n) (copyTo j c r k v n ∷ []), tally-toAll P j c r k v n)
@@ -66,7 +67,8 @@ pub copies-kinds : (j c : ℕ) (P : Copy → Bool) (l : List Copy)
 copies-kinds j c P [] = refl
 copies-kinds j c P (m ∷ l) = omega (arith, go (onIt j c m) (P m) (m .kind), copies-kinds j c P l)
   where
-    go : (a p : Bool) (k : Kind) → bit (a && p) ≡ bit (a && (isKind SEND k && p)) + bit (a && (isKind ECHO k && p)) + bit (a && (isKind READY k && p))
+    go : (a p : Bool) (k : Kind)
+        → bit (a && p) ≡ bit (a && (isKind SEND k && p)) + bit (a && (isKind ECHO k && p)) + bit (a && (isKind READY k && p))
     go true p SEND = omega arith
     go true p ECHO = omega arith
     go true p READY = omega arith

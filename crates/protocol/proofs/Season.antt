@@ -7,7 +7,7 @@ use mathlib.Core.List.{List, []}
 use Prim.Native.Nat.{ℕ, _+_, _*_, _<_}
 use native.Mathlib.Omega.{arith}
 use lib.Dec.{T}
-use Rattle.card.specs.Card.{tolerated, amplify, deliver}
+use Rattle.card.specs.Card.{tolerated, quorum, amplify, deliver}
 use Rattle.card.specs.Count.{count}
 use Rattle.card.proofs.Counting.{count-not}
 use Rattle.card.proofs.Overlap.{quorum-more, rest-quorum, rest-deliver, tolerated-third}
@@ -26,18 +26,19 @@ use Rattle.protocol.proofs.Bound.{count-all, one-of, delivered-of, sent
 use Rattle.protocol.proofs.Agreement.{Backed, backed, deliver-agree, deliver-authentic}
 use Rattle.protocol.proofs.Totality.{reach, published-ready, delivered-ready-up, ready-delivered, cost-is, readies-are}
 
-module _ (B : Wall) (j c t : ℕ) (s : State) (I : Inv B j c (view j c s)) (Y : Tolerated B t (right B)) (K : Backed B (view j c s .house)) where
+module _ (B : Wall) (j c t : ℕ) (s : State)
+    (I : Inv B j c (view j c s)) (Y : Tolerated B t (right B)) (K : Backed B (view j c s .house)) where
   abbrev v : View
   v = view j c s
 
   noted : (r : ℕ) (x : Decl) → v .house r .delivered ≡ some x → Delivered B j c s r x
-  noted r x e = I .delivered r ∙ ap listOf e
+  noted r x e = I .books .delivered r ∙ ap listOf e
 
   delivered-is : (r : ℕ) (x : Decl) → Delivered B j c s r x → v .house r .delivered ≡ some x
   delivered-is r x e = delivered-of B j c (view j c s) I r x e
 
   published-is : (x : Decl) → Published B j c s x → v .house j .published ≡ some x
-  published-is x e = one-of (v .house j .published) x (sym (I .published j) ∙ e)
+  published-is x e = one-of (v .house j .published) x (sym (I .books .published j) ∙ e)
 
   module _ (D : Drained B j c s) where
     ready : T (right B j) → (x : Decl) → Published B j c s x → (r : ℕ) → T (right B r) → v .house r .readySent ≡ some x
@@ -52,7 +53,8 @@ module _ (B : Wall) (j c t : ℕ) (s : State) (I : Inv B j c (view j c s)) (Y : 
     costs : (F Q : ℕ → Bool) → ((p : ℕ) → T (right B p) → T (F p)) → T (right B j) → (x : Decl) → Published B j c s x
         → copiesOf j c (λ m. F (m .from) && Q (m .to)) (s .mail) ≡ count Q (n B) + 2 * (h B * count Q (n B))
     costs F Q f g x e =
-        cost-is B j c v I F Q x f g (published-is x e) (reach B t (right B) Y (λ p y. y) j c v I K D j SEND x (published-is x e)) (ready g x e)
+        cost-is B j c v I F Q x f g (published-is x e)
+        (reach B t (right B) Y (λ p y. y) j c v I K D j SEND x (published-is x e)) (ready g x e)
 
     complete : Complete B j c s
     complete =
@@ -64,22 +66,24 @@ module _ (B : Wall) (j c t : ℕ) (s : State) (I : Inv B j c (view j c s)) (Y : 
           all-readies = λ q x e. readies-are B j c v I x (followed q x e);
         }
       where
-        equal′ : T (right B j) → (r : ℕ) → T (right B r) → (o : Option Decl) → v .house j .published ≡ o → s .gave .deliveries r j c ≡ s .gave .publications j j c
-        equal′ g r y none e = I .delivered r ∙ nothing (v .house r .delivered) refl ∙ sym (I .published j ∙ ap listOf e)
+        equal′ : T (right B j) → (r : ℕ) → T (right B r) → (o : Option Decl) → v .house j .published ≡ o
+            → s .gave .deliveries r j c ≡ s .gave .publications j j c
+        equal′ g r y none e = I .books .delivered r ∙ nothing (v .house r .delivered) refl ∙ sym (I .books .published j ∙ ap listOf e)
           where
             nothing : (o : Option Decl) → v .house r .delivered ≡ o → listOf (v .house r .delivered) ≡ []
             nothing none d = ap listOf d
-            nothing (some x) d = absurd (none-some _ x e (deliver-authentic B t (right B) Y j c v I K g r x d))
-        equal′ g r y (some x) e = let p = I .published j ∙ ap listOf e in full g x p r y ∙ sym p
+            nothing (some x) d = absurd (none-some _ x e (deliver-authentic B t (right B) Y j c v (I .books) K g r x d))
+        equal′ g r y (some x) e = let p = I .books .published j ∙ ap listOf e in full g x p r y ∙ sym p
 
   agreed : Agreed B j c s
   agreed =
       record {
-        agree = λ r q x w a b. deliver-agree B t (right B) Y j c v I K r q x w (delivered-is r x a) (delivered-is q w b);
-        authentic = λ g r x e. I .published j ∙ ap listOf (deliver-authentic B t (right B) Y j c v I K g r x (delivered-is r x e));
+        agree = λ r q x w a b. deliver-agree B t (right B) Y j c v (I .books) K r q x w (delivered-is r x a) (delivered-is q w b);
+        authentic = λ g r x e. I .books .published j
+            ∙ ap listOf (deliver-authentic B t (right B) Y j c v (I .books) K g r x (delivered-is r x e));
         by-count = λ g x e n. full (omega (
           arith,
-          copies-split j c (isBetween B j c) (λ m. m .consumed) (s .mail),
+          copies-split j c (isBetween B) (λ m. m .consumed) (s .mail),
           sent-le B j c v I (right B) (right B),
         )) g x e;
       }
@@ -98,13 +102,13 @@ season B t l j c =
 -- the card's counts meet the inequalities wherever n > 3t
 pub carded : (n t numbers : ℕ) (ok : Decl → Bool) (honest : ℕ → Bool) → 3 * t < n
     → AtMost (wallOf n t numbers ok honest) t → Tolerated (wallOf n t numbers ok honest) t (right (wallOf n t numbers ok honest))
-unfolding wallOf rulesOf amplify deliver
+unfolding wallOf rulesOf quorum amplify deliver
 carded n t numbers ok honest third few =
     let B : Wall = wallOf n t numbers ok honest in
     record {
       few = few;
       thresholds = record {
-        overlapping = quorum-more n t;
+        overlapping = omega (arith, quorum-more n t);
         amplified = omega arith;
         delivered = omega arith;
         echoed = omega (arith, rest-quorum n t third, count-not (right B) n);

@@ -6,9 +6,9 @@ use mathlib.Core.Option.{Option, none, some}
 use mathlib.Core.List.{List, [], _∷_}
 use Prim.Native.Nat.{ℕ}
 use lib.Dec.{eqb, eqb→eq}
-use Rattle.protocol.specs.Book.{PerEntry, sameEntry, place, Call, publishing, receiving, senderOf, numberOf, outcome, after}
-use Rattle.protocol.specs.Run.{Wall, Copy, State, Step, publish, consume, wrong, right, at, consumeAt, opens, called, consumes, step}
-use Rattle.protocol.specs.Run.{run}
+use Rattle.protocol.specs.Book.{PerEntry, Book, sameEntry, place, Call, publishing, receiving, senderOf, numberOf, outcome, after}
+use Rattle.protocol.specs.Run.{isWrong, Wall, Copy, State, Step, publish, consume, wrong, right, at, consumeAt, opens, called}
+use Rattle.protocol.specs.Run.{consumes, step, run}
 use Rattle.protocol.specs.Claims.{Filled}
 use Rattle.protocol.proofs.Basics.{T-of, and-l, and-r, upd-all}
 use Rattle.protocol.proofs.Moves.{filled-refl, filled-trans}
@@ -18,7 +18,8 @@ use Rattle.protocol.proofs.Calls.{outcome-done}
 abbrev Fills : State → State → Type 0
 Fills s s₂ = (r j c : ℕ) → Filled (s .gave .books r j c) (s₂ .gave .books r j c)
 
-place-all : {A : Type 0} (Φ : A → A → Type 0) (b : PerEntry A) (j c : ℕ) (x : A) → ((y : A) → Φ y y) → Φ (b j c) x → (j₂ c₂ : ℕ) → Φ (b j₂ c₂) (place b j c x j₂ c₂)
+place-all : {A : Type 0} (Φ : A → A → Type 0) (b : PerEntry A) (j c : ℕ) (x : A) → ((y : A) → Φ y y) → Φ (b j c) x → (j₂ c₂ : ℕ)
+    → Φ (b j₂ c₂) (place b j c x j₂ c₂)
 place-all {A = A} Φ b j c x f g j₂ c₂ = go (sameEntry j c j₂ c₂) refl
   where
     go : (y : Bool) → sameEntry j c j₂ c₂ ≡ y → Φ (b j₂ c₂) (cond y x (b j₂ c₂))
@@ -30,9 +31,10 @@ module _ (B : Wall) where
   called-fills : (r : ℕ) (a : Call) (s : State) (mail : List Copy) → Fills s (called B r a (s .gave) mail)
   unfolding called after
   called-fills r a s mail =
-      upd-all (λ q b. (j c : ℕ) → Filled (s .gave .books q j c) (b j c)) (s .gave .books) r (after (B .rules) (B .numbers) r a (s .gave .books r))
-      (place-all Filled (s .gave .books r) (senderOf r a) (numberOf a) (outcome (B .rules) (B .numbers) r a (s .gave .books r) .entry) filled-refl
-      (outcome-done (B .rules) (B .numbers) r a (s .gave .books r) .moves .filled))
+      let b : Book = s .gave .books r in
+      let o = outcome (B .rules) (B .numbers) r a b in
+      upd-all (λ q b. (j c : ℕ) → Filled (s .gave .books q j c) (b j c)) (s .gave .books) r (after (B .rules) (B .numbers) r a b)
+      (place-all Filled b (senderOf r a) (numberOf a) (o .entry) filled-refl (outcome-done (B .rules) (B .numbers) r a b .moves .filled))
       (λ q j c. filled-refl (s .gave .books q j c))
 
   if-fills : (b : Bool) (s s₂ : State) → Fills s s₂ → Fills s (cond b s₂ s)
@@ -47,7 +49,7 @@ module _ (B : Wall) where
       go : (x : Option Copy) → Fills s (consumes B i x s)
       go none = λ r j c. filled-refl (s .gave .books r j c)
       go (some m) = if-fills (right B (m .to) && not (m .consumed)) s _ (called-fills (m .to) (opens m) s (consumeAt (s .mail) i))
-  step-fills (wrong p r k j c v) s = if-fills (right B r && not (right B p)) s _ (called-fills r (receiving p k j c v) s (s .mail))
+  step-fills (wrong p r k j c v) s = if-fills (right B r && isWrong B p) s _ (called-fills r (receiving p k j c v) s (s .mail))
 
   pub run-fills : (l : List Step) (s : State) → Fills s (run B l s)
   unfolding run

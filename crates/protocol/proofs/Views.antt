@@ -14,7 +14,7 @@ use Rattle.protocol.specs.Run.{n, Wall, Copy, State, posted, push, calle
 use Rattle.protocol.proofs.Basics.{T-of, true-of}
 use Rattle.protocol.proofs.Calls.{Done, outcome-done, outcome-booked}
 use Rattle.protocol.proofs.Mail.{tally-toAll}
-use Rattle.protocol.proofs.Invariant.{View, is-refl, acted}
+use Rattle.protocol.proofs.Invariant.{View, entry-refl, acted}
 
 abbrev pub view : ℕ → ℕ → State → View
 view j c s =
@@ -25,63 +25,83 @@ view j c s =
       mail = s .mail;
     }
 
--- one place of one house's book is changed, as the entry there sees it, and as another does
-upd-here : {A : Type 0} (f : ℕ → PerEntry A) (r j c : ℕ) (x : A) → _≡_ {A = ℕ → A} (λ q. upd f r (place (f r) j c x) q j c) (upd (λ q. f q j c) r x)
-upd-here {A = A} f r j c x = fun-ext λ q. go q (eqb q r)
+-- the same with another mail
+abbrev pub with-mail : View → List Copy → View
+with-mail u l = record { house = u .house; deliveries = u .deliveries; publications = u .publications; mail = l }
+
+-- house r's table with x at sender j and number c
+abbrev put : {A : Type 0} → (ℕ → PerEntry A) → ℕ → ℕ → ℕ → A → ℕ → PerEntry A
+put f r j c x = upd f r (place (f r) j c x)
+
+put-here : {A : Type 0} (f : ℕ → PerEntry A) (r j c : ℕ) (x : A) → _≡_ {A = ℕ → A} (λ q. put f r j c x q j c) (upd (λ q. f q j c) r x)
+put-here {A = A} f r j c x = fun-ext λ q. go q (eqb q r)
   where
     go : (q : ℕ) (b : Bool) → cond b (place (f r) j c x) (f q) j c ≡ cond b x (f q j c)
-    go q true = rw (true-of (sameEntry j c j c) (is-refl j c))
+    go q true = rw (true-of (sameEntry j c j c) (entry-refl j c))
     go q false = refl
 
-upd-elsewhere : {A : Type 0} (f : ℕ → PerEntry A) (r j₂ c₂ : ℕ) (x : A) (j c : ℕ) → sameEntry j₂ c₂ j c ≡ false
-    → _≡_ {A = ℕ → A} (λ q. upd f r (place (f r) j₂ c₂ x) q j c) (λ q. f q j c)
-upd-elsewhere {A = A} f r j₂ c₂ x j c e = fun-ext λ q. go q (eqb q r) refl
+put-elsewhere : {A : Type 0} (f : ℕ → PerEntry A) (r j₂ c₂ : ℕ) (x : A) (j c : ℕ) → sameEntry j₂ c₂ j c ≡ false
+    → _≡_ {A = ℕ → A} (λ q. put f r j₂ c₂ x q j c) (λ q. f q j c)
+put-elsewhere {A = A} f r j₂ c₂ x j c e = fun-ext λ q. go q (eqb q r) refl
   where
     go : (q : ℕ) (b : Bool) → eqb q r ≡ b → cond b (place (f r) j₂ c₂ x) (f q) j c ≡ f q j c
     go q true t = rw (e, eqb→eq q r (T-of t))
     go q false t = refl
 
-module _ (B : Wall) (j c : ℕ) where
-  pub posted-elsewhere : (j₂ c₂ r : ℕ) (x : Option Say) (n : ℕ) (P : Copy → Bool) → sameEntry j₂ c₂ j c ≡ false → copiesOf j c P (posted j₂ c₂ r x n) ≡ 0
-  posted-elsewhere j₂ c₂ r none n P e = refl
-  posted-elsewhere j₂ c₂ r (some (say k v)) n P e =
-      tally-toAll (λ m. onIt j c m && P m) j₂ c₂ r k v n ∙ count-none _ n (λ q h. rw e)
+pub posted-elsewhere : (j₂ c₂ r : ℕ) (x : Option Say) (n j c : ℕ) (P : Copy → Bool) → sameEntry j₂ c₂ j c ≡ false
+    → copiesOf j c P (posted j₂ c₂ r x n) ≡ 0
+posted-elsewhere j₂ c₂ r none n j c P e = refl
+posted-elsewhere j₂ c₂ r (some (say k v)) n j c P e =
+    tally-toAll (λ m. onIt j c m && P m) j₂ c₂ r k v n ∙ count-none _ n (λ q h. rw e)
 
-  module _ (r : ℕ) (a : Call) (s : State) (mail : List Copy) where
-    abbrev pub out : Out
-    out = outcome (B .rules) (B .numbers) r a (s .gave .books r)
+module _ (B : Wall) (r : ℕ) (a : Call) (s : State) where
+  abbrev pub out : Out
+  out = outcome (B .rules) (B .numbers) r a (s .gave .books r)
 
-    pub view-here : senderOf r a ≡ j → numberOf a ≡ c → view j c (called B r a (s .gave) mail) ≡ acted B j c (view j c s) r a out mail
-    unfolding called after
-    view-here e e₂ =
-        subst (λ (x : ℕ). view x c (called B r a (s .gave) mail) ≡ acted B x c (view x c s) r a out mail) e
-        (subst (λ (y : ℕ). view (senderOf r a) y (called B r a (s .gave) mail) ≡ acted B (senderOf r a) y (view (senderOf r a) y s) r a out mail) e₂
-        (λ i. record {
-          house = upd-here (s .gave .books) r (senderOf r a) (numberOf a) (out .entry) i;
-          deliveries = upd-here (s .gave .deliveries) r (senderOf r a) (numberOf a) (push (out .delivery) (s .gave .deliveries r (senderOf r a) (numberOf a))) i;
-          publications = upd-here (s .gave .publications) r (senderOf r a) (numberOf a) (push (publication a (out .answer)) (s .gave .publications r (senderOf r a) (numberOf a))) i;
-          mail = mail ++ posted (senderOf r a) (numberOf a) r (out .message) (n B);
-        }))
+  abbrev j : ℕ
+  j = senderOf r a
 
-    pub view-elsewhere : sameEntry (senderOf r a) (numberOf a) j c ≡ false
-        → view j c (called B r a (s .gave) mail)
-        ≡ record { house = λ q. s .gave .books q j c; deliveries = λ q. s .gave .deliveries q j c; publications = λ q. s .gave .publications q j c; mail = mail ++ posted (senderOf r a) (numberOf a) r (out .message) (n B) }
-    unfolding called after
-    view-elsewhere e =
-        λ i. record {
-          house = upd-elsewhere (s .gave .books) r (senderOf r a) (numberOf a) (out .entry) j c e i;
-          deliveries = upd-elsewhere (s .gave .deliveries) r (senderOf r a) (numberOf a) (push (out .delivery) (s .gave .deliveries r (senderOf r a) (numberOf a))) j c e i;
-          publications = upd-elsewhere (s .gave .publications) r (senderOf r a) (numberOf a) (push (publication a (out .answer)) (s .gave .publications r (senderOf r a) (numberOf a))) j c e i;
-          mail = mail ++ posted (senderOf r a) (numberOf a) r (out .message) (n B);
-        }
+  abbrev c : ℕ
+  c = numberOf a
 
-    pub done-here : senderOf r a ≡ j → numberOf a ≡ c → Done (B .rules) j r a (s .gave .books r j c) out
-    done-here e e₂ =
-        subst (λ (x : ℕ). Done (B .rules) x r a (s .gave .books r x c) out) e
-        (subst (λ (y : ℕ). Done (B .rules) (senderOf r a) r a (s .gave .books r (senderOf r a) y) out) e₂
-        (outcome-done (B .rules) (B .numbers) r a (s .gave .books r)))
+  view-here : (mail : List Copy) → view j c (called B r a (s .gave) mail) ≡ acted B j c (view j c s) r a out mail
+  unfolding called after
+  view-here mail =
+      λ i. record {
+        house = put-here (s .gave .books) r j c (out .entry) i;
+        deliveries = put-here (s .gave .deliveries) r j c (push (out .delivery) (s .gave .deliveries r j c)) i;
+        publications = put-here (s .gave .publications) r j c (push (publication a (out .answer)) (s .gave .publications r j c)) i;
+        mail = mail ++ posted j c r (out .message) (n B);
+      }
 
-    pub booked-here : senderOf r a ≡ j → numberOf a ≡ c → (m : Say) → out .message ≡ some m → T (inBook (B .rules) (B .numbers) j c)
-    booked-here e e₂ m x =
-        subst (λ (y : ℕ). T (inBook (B .rules) (B .numbers) y c)) e
-        (subst (λ (y : ℕ). T (inBook (B .rules) (B .numbers) (senderOf r a) y)) e₂ (outcome-booked (B .rules) (B .numbers) r a (s .gave .books r) m x))
+  pub view-elsewhere : (mail : List Copy) (j₂ c₂ : ℕ) → sameEntry j c j₂ c₂ ≡ false
+      → view j₂ c₂ (called B r a (s .gave) mail) ≡ with-mail (view j₂ c₂ s) (mail ++ posted j c r (out .message) (n B))
+  unfolding called after
+  view-elsewhere mail j₂ c₂ e =
+      λ i. record {
+        house = put-elsewhere (s .gave .books) r j c (out .entry) j₂ c₂ e i;
+        deliveries = put-elsewhere (s .gave .deliveries) r j c (push (out .delivery) (s .gave .deliveries r j c)) j₂ c₂ e i;
+        publications = put-elsewhere (s .gave .publications) r j c
+            (push (publication a (out .answer)) (s .gave .publications r j c)) j₂ c₂ e i;
+        mail = mail ++ posted j c r (out .message) (n B);
+      }
+
+  -- what the call shows of the entry that it names
+  pub record Named (j c : ℕ) : Type 0 where
+    pub sender : senderOf r a ≡ j
+    pub number : numberOf a ≡ c
+    pub done : Done (B .rules) j r a (s .gave .books r j c) out
+    pub booked : (m : Say) → out .message ≡ some m → T (inBook (B .rules) (B .numbers) j c)
+    pub seen : (mail : List Copy) → view j c (called B r a (s .gave) mail) ≡ acted B j c (view j c s) r a out mail
+
+  pub named : (j₂ c₂ : ℕ) → j ≡ j₂ → c ≡ c₂ → Named j₂ c₂
+  named j₂ c₂ e e₂ =
+      subst (λ (x : ℕ). Named x c₂) e
+      (subst (λ (y : ℕ). Named j y) e₂
+      (record {
+        sender = refl;
+        number = refl;
+        done = outcome-done (B .rules) (B .numbers) r a (s .gave .books r);
+        booked = outcome-booked (B .rules) (B .numbers) r a (s .gave .books r);
+        seen = view-here;
+      }))

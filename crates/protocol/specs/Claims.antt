@@ -9,7 +9,7 @@ use lib.Dec.{T}
 use lib.ListN.{length}
 use Rattle.card.specs.Card.{tolerated}
 use Rattle.protocol.specs.Entry.{Decl, Entry, Rules}
-use Rattle.protocol.specs.Book.{Book, sameEntry, Call, senderOf, numberOf, outcome, after}
+use Rattle.protocol.specs.Book.{Book, Call, senderOf, numberOf, outcome, after}
 use Rattle.protocol.specs.Run.{n, Wall, Copy, State, Step, right, h, start, run, at, opens, onIt, copies, readies, between}
 use Rattle.protocol.specs.Run.{consumedBetween, Drained}
 use Rattle.protocol.specs.Thresholds.{wallOf, AtMost, Tolerated}
@@ -17,7 +17,7 @@ use Rattle.protocol.specs.Thresholds.{wallOf, AtMost, Tolerated}
 -- An accepted publication or message changes the named entry alone. Two books that agree on one entry give the same answer, message
 -- and delivery to any call that names that entry, and end agreeing on it, whatever the other entries hold.
 pub record Alone (R : Rules) (numbers own : ℕ) (a : Call) : Type 0 where
-  pub others : (b : Book) (j c : ℕ) → sameEntry (senderOf own a) (numberOf a) j c ≡ false → after R numbers own a b j c ≡ b j c
+  pub others : (b : Book) (j c : ℕ) → ((j ≡ senderOf own a) × (c ≡ numberOf a) → ⊥) → after R numbers own a b j c ≡ b j c
   pub same : (b b₂ : Book) → b (senderOf own a) (numberOf a) ≡ b₂ (senderOf own a) (numberOf a)
       → outcome R numbers own a b ≡ outcome R numbers own a b₂
   pub agreeing : (b b₂ : Book) → b (senderOf own a) (numberOf a) ≡ b₂ (senderOf own a) (numberOf a)
@@ -52,11 +52,13 @@ module _ (B : Wall) (j c : ℕ) where
   -- with any number of wrong houses
   pub record Bounded (s : State) : Type 0 where
     -- In any order of calls the honest houses send at most n + 2hn messages on one entry,
-    pub bound : copies B j c s ≤ n B + 2 * (h B * n B)
+    pub bound : copies j c s ≤ n B + 2 * (h B * n B)
     -- and of these at most h + 2h^2 between honest houses.
     pub bound-between : between B j c s ≤ h B + 2 * (h B * h B)
     -- At most one delivery per entry at each single house.
     pub once : (r : ℕ) → length (s .gave .deliveries r j c) ≤ 1
+    -- At most one publication is accepted at each number.
+    pub published-once : length (s .gave .publications j j c) ≤ 1
     -- No honest house ever delivers an implausible declaration.
     pub plausible : (r : ℕ) (v : Decl) → Delivered s r v → T (B .rules .ok v)
     -- A copy that an honest house sent is accepted where it is consumed.
@@ -80,13 +82,13 @@ module _ (B : Wall) (j c : ℕ) where
     -- what an honest sender published is what each honest house delivered: none for none,
     pub equal : T (right B j) → (r : ℕ) → T (right B r) → s .gave .deliveries r j c ≡ s .gave .publications j j c
     -- and an entry an honest sender published cost exactly n + 2hn,
-    pub cost : T (right B j) → (v : Decl) → Published s v → copies B j c s ≡ n B + 2 * (h B * n B)
+    pub cost : T (right B j) → (v : Decl) → Published s v → copies j c s ≡ n B + 2 * (h B * n B)
     -- h + 2h^2 of them between honest houses;
     pub cost-between : T (right B j) → (v : Decl) → Published s v → between B j c s ≡ h B + 2 * (h B * h B)
     -- an entry that one honest house delivered is delivered by all,
     pub all : (q : ℕ) (v : Decl) → Delivered s q v → Everywhere s v
     -- at exactly hn READY messages.
-    pub all-readies : (q : ℕ) (v : Decl) → Delivered s q v → readies B j c s ≡ h B * n B
+    pub all-readies : (q : ℕ) (v : Decl) → Delivered s q v → readies j c s ≡ h B * n B
 
   -- in any order of calls; `Few` says that at most t houses are wrong
   pub record Season (Few : Type 0) (l : List Step) : Type 0 where

@@ -26,6 +26,10 @@ n B = B .rules .n
 abbrev pub right : Wall → ℕ → Bool
 right B p = ltb p (n B) && B .honest p
 
+-- a wrong house's number or a number not below n
+abbrev pub isWrong : Wall → ℕ → Bool
+isWrong B p = not (right B p)
+
 -- how many houses are honest
 abbrev pub h : Wall → ℕ
 h B = count (right B) (n B)
@@ -79,7 +83,7 @@ posted j c r none n = []
 posted j c r (some (say k v)) n = toAll j c r k v n
 
 -- the copy at a place of the mail, and the mail with that copy consumed
-abbrev pub at : List Copy → ℕ → Option Copy
+abbrev pub at : {A : Type 0} → List A → ℕ → Option A
 at [] i = none
 at (m ∷ l) zero = some m
 at (m ∷ l) (suc i) = at l i
@@ -96,10 +100,13 @@ consumedCopy m =
       consumed = true;
     }
 
+abbrev pub changeAt : {A : Type 0} → (A → A) → List A → ℕ → List A
+changeAt f [] i = []
+changeAt f (m ∷ l) zero = f m ∷ l
+changeAt f (m ∷ l) (suc i) = m ∷ changeAt f l i
+
 abbrev pub consumeAt : List Copy → ℕ → List Copy
-consumeAt [] i = []
-consumeAt (m ∷ l) zero = consumedCopy m ∷ l
-consumeAt (m ∷ l) (suc i) = m ∷ consumeAt l i
+consumeAt l i = changeAt consumedCopy l i
 
 abbrev pub push : Option Decl → List Decl → List Decl
 push none l = l
@@ -138,14 +145,14 @@ unfoldable pub step : Wall → Step → State → State
 step B (publish r c v) s = cond (right B r) (called B r (publishing c v) (s .gave) (s .mail)) s
 step B (consume i) s = consumes B i (at (s .mail) i) s
 step B (wrong p r k j c v) s =
-    cond (right B r && not (right B p)) (called B r (receiving p k j c v) (s .gave) (s .mail)) s
+    cond (right B r && isWrong B p) (called B r (receiving p k j c v) (s .gave) (s .mail)) s
 
 unfoldable pub run : Wall → List Step → State → State
 run B [] s = s
 run B (a ∷ l) s = run B l (step B a s)
 
 -- Sent messages are counted from the steps, copy by copy.
-abbrev pub tally : (Copy → Bool) → List Copy → ℕ
+abbrev pub tally : {A : Type 0} → (A → Bool) → List A → ℕ
 tally P [] = 0
 tally P (m ∷ l) = bit (P m) + tally P l
 
@@ -157,23 +164,23 @@ onIt j c m = sameEntry (m .sender) (m .number) j c
 abbrev pub copiesOf : ℕ → ℕ → (Copy → Bool) → List Copy → ℕ
 copiesOf j c P l = tally (λ m. onIt j c m && P m) l
 
-module _ (B : Wall) (j c : ℕ) where
-  -- between honest houses, a house's copy to itself included
-  abbrev pub isBetween : Copy → Bool
-  isBetween m = right B (m .from) && right B (m .to)
+-- all of the entry's copies, and its READY copies
+abbrev pub copies : ℕ → ℕ → State → ℕ
+copies j c s = copiesOf j c (λ m. true) (s .mail)
 
-  abbrev pub copies : State → ℕ
-  copies s = copiesOf j c (λ m. true) (s .mail)
+abbrev pub readies : ℕ → ℕ → State → ℕ
+readies j c s = copiesOf j c (λ m. isKind READY (m .kind)) (s .mail)
 
-  abbrev pub readies : State → ℕ
-  readies s = copiesOf j c (λ m. isKind READY (m .kind)) (s .mail)
+-- between honest houses, a house's copy to itself included
+abbrev pub isBetween : Wall → Copy → Bool
+isBetween B m = right B (m .from) && right B (m .to)
 
-  abbrev pub between : State → ℕ
-  between s = copiesOf j c isBetween (s .mail)
+abbrev pub between : Wall → ℕ → ℕ → State → ℕ
+between B j c s = copiesOf j c (isBetween B) (s .mail)
 
-  abbrev pub consumedBetween : State → ℕ
-  consumedBetween s = copiesOf j c (λ m. isBetween m && m .consumed) (s .mail)
+abbrev pub consumedBetween : Wall → ℕ → ℕ → State → ℕ
+consumedBetween B j c s = copiesOf j c (λ m. isBetween B m && m .consumed) (s .mail)
 
-  -- every copy of this entry between honest houses is consumed; other entries may be in flight
-  abbrev pub Drained : State → Type 0
-  Drained s = copiesOf j c (λ m. isBetween m && not (m .consumed)) (s .mail) ≡ 0
+-- every copy of this entry between honest houses is consumed; other entries may be in flight
+abbrev pub Drained : Wall → ℕ → ℕ → State → Type 0
+Drained B j c s = copiesOf j c (λ m. isBetween B m && not (m .consumed)) (s .mail) ≡ 0

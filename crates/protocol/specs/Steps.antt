@@ -141,11 +141,17 @@ recording none v = 0
 recording (some w) v = 7
 
 -- Receiving, on an entry of the book: 4 to 7 in order.
+unfoldable pub receiveAnswer : Rules → (sender house : ℕ) → Kind → Decl → Entry → ℕ
+receiveAnswer R j p k v e = must (ltb p (R .n)) 4 (must (R .ok v) 5 (must (may j k p) 6 (recording (heard k p e) v)))
+
 unfoldable pub receive : Rules → (sender house : ℕ) → Kind → Decl → Entry → Out
-receive R j p k v e =
-    settle (must (ltb p (R .n)) 4 (must (R .ok v) 5 (must (may j k p) 6 (recording (heard k p e) v))))
-    (takes R k p v e) e
+unfolding receiveAnswer
+receive R j p k v e = settle (receiveAnswer R j p k v e) (takes R k p v e) e
 
 -- Publishing, on an own entry of the book: 5, 8.
+unfoldable pub publishAnswer : Rules → Decl → Entry → ℕ
+publishAnswer R v e = must (R .ok v) 5 (must (isNone (e .published)) 8 0)
+
 unfoldable pub publish : Rules → Decl → Entry → Out
-publish R v e = settle (must (R .ok v) 5 (must (isNone (e .published)) 8 0)) (publishes v e) e
+unfolding publishAnswer
+publish R v e = settle (publishAnswer R v e) (publishes v e) e
