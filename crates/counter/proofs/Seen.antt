@@ -14,7 +14,8 @@ use Rattle.protocol.specs.Entry.{Decl, Kind, SEND, ECHO, READY, Entry, heard, h
 use Rattle.meaning.specs.Slot.{slotAt}
 use Rattle.meaning.specs.Layout.{headLength, slotPlace, perEntry, entrySlot, echoSlot, readySlot, readySentSlot, deliveredSlot}
 use Rattle.meaning.specs.Book.{nOf, numbersOf, ownOf, slotOf, slotIn, entryOf, look}
-use Rattle.counter.specs.Places.{placeIn, heardSlot, Has}
+use Rattle.meaning.proofs.Stores.{heardSlot}
+use Rattle.counter.specs.Places.{placeIn, Has}
 
 module _ (b : List ℕ) (j c : ℕ) (has : Has b j c) where
   -- the entry is in the book
@@ -22,7 +23,7 @@ module _ (b : List ℕ) (j c : ℕ) (has : Has b j c) where
   unfolding look
   look-in = rw (lt-ltb _ _ (has .sender), lt-ltb _ _ (has .number))
 
-  pub heard-seen : (k : Kind) (p : ℕ) → p < nOf b → heard k p (look b j c) ≡ slotAt b (placeIn b j c (heardSlot k (nOf b) p))
+  pub heard-seen : (k : Kind) (p : ℕ) → p < nOf b → heard k p (look b j c) ≡ slotAt b (placeIn b j c (heardSlot (nOf b) k p))
   unfolding entryOf slotIn slotOf
   heard-seen SEND p l = ap (λ (e : Entry). e .send) look-in
   heard-seen ECHO p l = ap (λ (e : Entry). e .echo p) look-in ∙ rw (lt-ltb _ _ l)
@@ -46,14 +47,14 @@ module _ (b : List ℕ) (j c : ℕ) (has : Has b j c) where
   place-along i p = omega arith
 
   -- the vouchers of a kind for v, counted over its row
-  votes-in : (k : Kind) → ((p : ℕ) → heardSlot k (nOf b) 0 + p ≡ heardSlot k (nOf b) p) → (v : Decl)
-      → count (λ p. holds (slotAt b (placeIn b j c (heardSlot k (nOf b) 0) + 21 * p)) v) (nOf b)
+  votes-in : (k : Kind) → ((p : ℕ) → heardSlot (nOf b) k 0 + p ≡ heardSlot (nOf b) k p) → (v : Decl)
+      → count (λ p. holds (slotAt b (placeIn b j c (heardSlot (nOf b) k 0) + 21 * p)) v) (nOf b)
       ≡ votes (λ p. heard k p (look b j c)) v (nOf b)
   votes-in k along v =
       count-same _ _ (nOf b)
       (λ p l.
       ap (λ (o : Option Decl). holds o v)
-      (ap (slotAt b) (place-along (heardSlot k (nOf b) 0) p ∙ ap (placeIn b j c) (along p)) ∙ sym (heard-seen k p l)))
+      (ap (slotAt b) (place-along (heardSlot (nOf b) k 0) p ∙ ap (placeIn b j c) (along p)) ∙ sym (heard-seen k p l)))
 
   pub echoes-seen : (v : Decl)
       → count (λ p. holds (slotAt b (placeIn b j c (echoSlot 0) + 21 * p)) v) (nOf b) ≡ votes (look b j c .echo) v (nOf b)

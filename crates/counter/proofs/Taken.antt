@@ -17,17 +17,17 @@ use Rattle.meaning.specs.Slot.{slotAt, putSlot}
 use Rattle.meaning.specs.Layout.{slotPlace, entrySlot, echoSlot, readySlot, readySentSlot, deliveredSlot}
 use Rattle.meaning.specs.Book.{nOf, numbersOf, look, meant}
 use Rattle.meaning.specs.Legal.{legal, IsDecl}
-use Rattle.meaning.proofs.Stores.{Stored, stored-entry, stored-heard}
+use Rattle.meaning.proofs.Stores.{Stored, heardSlot, stored-entry, stored-heard, stored-taken}
 use Rattle.counter.specs.declared.Marks.{Marks}
 use Rattle.counter.specs.Call.{rulesBy}
-use Rattle.counter.specs.Places.{placeIn, heardSlot, Has, slotFrom, votesFrom, marksAt}
+use Rattle.counter.specs.Places.{placeIn, Has, slotFrom, votesFrom, marksAt}
 use Rattle.counter.proofs.Seen.{place-along, sent-seen, delivered-seen, echoes-seen, readies-seen}
 
 -- ---- in a book that has the entry, slots from its first one on are the entry's
 
 module _ (b : List ℕ) (j c : ℕ) (has : Has b j c) (base : ℕ) (at : base ≡ placeIn b j c 0) where
   from : (i : ℕ) → base + 21 * i ≡ placeIn b j c i
-  from i = ap (λ (x : ℕ). x + 21 * i) at ∙ place-along b j c has 0 i
+  from i = let z : 0 + i ≡ i = omega arith in ap (λ (x : ℕ). x + 21 * i) at ∙ place-along b j c has 0 i ∙ ap (placeIn b j c) z
 
   sent-from : slotFrom b base (readySentSlot (nOf b)) ≡ look b j c .readySent
   sent-from = ap (slotAt b) (from (readySentSlot (nOf b))) ∙ sym (sent-seen b j c has)
@@ -60,3 +60,58 @@ module _ (b : List ℕ) (j c : ℕ) (has : Has b j c) (base : ℕ) (at : base �
         gives = isNone (sent-from i) && leb (countsOf (nOf b) .amplify) (votes i);
         delivers = isNone (delivered-from i) && leb (countsOf (nOf b) .deliver) (votes i);
       }
+
+-- ---- a voucher taken: recorded, and marked as the vouchers now say
+
+module _ (b : List ℕ) (h : legal b ≡ true) (bytes : Bytes b) (j c p : ℕ) (has : Has b j c) (hp : p < nOf b) (v : Decl) (dv : IsDecl v) where
+  abbrev R : Rules
+  R = rulesBy (meant b)
+
+  abbrev heard-in : Kind → List ℕ
+  heard-in k = putSlot b (placeIn b j c (heardSlot (nOf b) k p)) v
+
+  one : (k : Kind) → Stored b (heard-in k) j c (recorded k p v (look b j c))
+  one k = stored-heard b h bytes v dv (nOf b) (numbersOf b) refl refl j c (has .number) (has .sender) k p hp
+
+  has-one : (k : Kind) → Has (heard-in k) j c
+  has-one k =
+      record {
+        is-legal = one k .legal;
+        sender = omega (arith, one k .n, has .sender);
+        number = omega (arith, one k .numbers, has .number);
+      }
+
+  base-one : (k : Kind) → placeIn b j c 0 ≡ placeIn (heard-in k) j c 0
+  base-one k = sym (λ i. slotPlace (one k .n i) (entrySlot (one k .n i) (one k .numbers i) c j 0))
+
+  -- the step of a voucher, by its marks
+  abbrev taking : Kind → Marks → Out
+  taking k m =
+      record {
+        answer = 0;
+        entry = marked (m .gives) (m .delivers) v (recorded k p v (look b j c));
+        message = given (m .gives) (say READY v);
+        delivery = given (m .delivers) v;
+      }
+
+  pub echo-taken : taking ECHO (marksAt (heard-in ECHO) ECHO (placeIn b j c 0) v) ≡ takes R ECHO p v (look b j c)
+  unfolding takesEcho rulesBy rulesOf countsOf meant
+  echo-taken =
+      let e = stored-entry b j c (heard-in ECHO) (recorded ECHO p v (look b j c)) (one ECHO) in
+      let n = one ECHO .n in
+      ap (taking ECHO)
+      (marks-echo (heard-in ECHO) j c (has-one ECHO) (placeIn b j c 0) (base-one ECHO) v
+      ∙ (λ i. record { gives = reached (countsOf (n i) .quorum) (e i .readySent) (e i .echo) v (n i); delivers = false }))
+
+  pub ready-taken : taking READY (marksAt (heard-in READY) READY (placeIn b j c 0) v) ≡ takes R READY p v (look b j c)
+  unfolding takesReady rulesBy rulesOf countsOf meant
+  ready-taken =
+      let e = stored-entry b j c (heard-in READY) (recorded READY p v (look b j c)) (one READY) in
+      let n = one READY .n in
+      ap (taking READY)
+      (marks-ready (heard-in READY) j c (has-one READY) (placeIn b j c 0) (base-one READY) v
+      ∙ (λ i.
+      record {
+        gives = reached (countsOf (n i) .amplify) (e i .readySent) (e i .ready) v (n i);
+        delivers = reached (countsOf (n i) .deliver) (e i .delivered) (e i .ready) v (n i);
+      }))

@@ -10,7 +10,8 @@ use Rattle.card.specs.Card.{countsOf}
 use Rattle.card.specs.Count.{count}
 use Rattle.protocol.specs.Entry.{Decl, Kind, SEND, ECHO, READY, isNone, holds}
 use Rattle.meaning.specs.Slot.{slotAt}
-use Rattle.meaning.specs.Layout.{slotLength, slotPlace, entrySlot, sendSlot, echoSlot, readySlot, readySentSlot, deliveredSlot}
+use Rattle.meaning.specs.Layout.{slotLength, slotPlace, entrySlot, readySentSlot, deliveredSlot}
+use Rattle.meaning.proofs.Stores.{heardSlot}
 use Rattle.meaning.specs.Book.{nOf, numbersOf}
 use Rattle.meaning.specs.Legal.{legal}
 use Rattle.counter.specs.declared.Marks.{Marks}
@@ -18,12 +19,6 @@ use Rattle.counter.specs.declared.Marks.{Marks}
 -- where slot i of the entry of sender j and number c begins
 abbrev pub placeIn : List ℕ → (sender number i : ℕ) → ℕ
 placeIn b j c i = slotPlace (nOf b) (entrySlot (nOf b) (numbersOf b) c j i)
-
--- the slot of an entry that a message of the kind from house p is recorded in
-abbrev pub heardSlot : Kind → (n house : ℕ) → ℕ
-heardSlot SEND n p = sendSlot
-heardSlot ECHO n p = echoSlot p
-heardSlot READY n p = readySlot n p
 
 -- a legal book that has the entry of sender j and number c
 pub record Has (b : List ℕ) (j c : ℕ) : Type 0 where
@@ -45,11 +40,11 @@ marksAt b SEND base v = record { gives = false; delivers = false }
 marksAt b ECHO base v =
     record {
       gives = isNone (slotFrom b base (readySentSlot (nOf b)))
-          && leb (countsOf (nOf b) .quorum) (votesFrom b base (heardSlot ECHO (nOf b) 0) v);
+          && leb (countsOf (nOf b) .quorum) (votesFrom b base (heardSlot (nOf b) ECHO 0) v);
       delivers = false;
     }
 marksAt b READY base v =
-    let votes : ℕ = votesFrom b base (heardSlot READY (nOf b) 0) v in
+    let votes : ℕ = votesFrom b base (heardSlot (nOf b) READY 0) v in
     record {
       gives = isNone (slotFrom b base (readySentSlot (nOf b))) && leb (countsOf (nOf b) .amplify) votes;
       delivers = isNone (slotFrom b base (deliveredSlot (nOf b))) && leb (countsOf (nOf b) .deliver) votes;

@@ -11,7 +11,7 @@ ghost use Rattle.protocol.specs.Entry.{isNone};
 ghost use Rattle.protocol.specs.Steps.{given, recording};
 ghost use Rattle.meaning.specs.Slot.{slotAt, putSlot};
 ghost use Rattle.counter.specs.Call.{giving, orZeros, kindOf, wired};
-ghost use Rattle.counter.specs.Places.{heardSlot};
+ghost use Rattle.meaning.proofs.Stores.{heardSlot};
 use lot::Declaration;
 
 // What publishing and receiving give. An absent message or declaration is zeros.
@@ -103,7 +103,7 @@ fn accept(
 // The slot of an entry that a message of the kind from a house is recorded in.
 fn heard_slot(kind: u8, n: usize, house: usize) -> usize
     requires { ⌜ (n < 256) × (house < 256) ⌝ }
-    ensures { λ r. ⌜ (r ≡ heardSlot (kindOf kind) n house) × (r < 1024) ⌝ }
+    ensures { λ r. ⌜ (r ≡ heardSlot n (kindOf kind) house) × (r < 1024) ⌝ }
 {
     if kind == 1 {
         return 0;
