@@ -1,2 +1,7 @@
 pub mod Same
 pub mod Slots
+pub mod Places
+pub mod Legality
+pub mod Filling
+pub mod Blank
+pub mod Opening

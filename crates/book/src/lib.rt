@@ -1,12 +1,28 @@
 // The bytes of a book: slots, places, legality, length and opening.
 ghost use mathlib.Core.Path.{_≡_};
+ghost use mathlib.Core.Bool.{_&&_};
+ghost use mathlib.Core.List.{_∷_};
 ghost use Prim.Native.Nat.{_+_, _*_, _<_, _≤_};
-ghost use lib.ListN.{length};
+ghost use lib.Dec.{eqb};
+ghost use lib.ListN.{length, replicate};
 ghost use lib.Seq.{paste};
 ghost use Rattle.card.specs.Count.{count};
+ghost use Rattle.words.specs.Words.{be32};
+ghost use Rattle.sheet.specs.Kept.{sheetAt};
 ghost use Rattle.protocol.specs.Entry.{same, isSome, holds};
 ghost use Rattle.meaning.specs.Slot.{part, slotAt, slotOk, putSlot};
-ghost use Rattle.book.specs.Parts.{doubleAt};
+ghost use Rattle.meaning.specs.Layout.{numbersOk, headLength, perEntry, slotCount, lengthOf, slotPlace, entrySlot};
+ghost use Rattle.meaning.specs.Book.{nOf, numbersOf, ownOf, seasonOf, sheetPlace};
+ghost use Rattle.meaning.specs.Legal.{slotsOk, legal};
+ghost use Rattle.meaning.specs.Opening.{Opened, Length, allowed, opened, lengthAnswer};
+ghost use Rattle.book.specs.Parts.{doubleAt, sized, blank};
+use lot::Sheet;
+
+// Entry numbers S: 1 to 4 per sender.
+const MOST_NUMBERS: u32 = 4;
+
+// Where the sheet's 22 bytes stand.
+const SHEET: usize = 7;
 
 // ---- slots
 
@@ -96,4 +112,237 @@ pub fn put_slot(b: &mut [u8], at: usize, d: [u8; 20])
 {
     b[at] = 1;
     lay_at(b, at + 1, &d);
+}
+
+// ---- the header
+
+// Houses n.
+pub fn n_of(b: &[u8]) -> usize
+    requires { ⌜ 0 < length (now b) ⌝ }
+    ensures { λ r. ⌜ (r ≡ nOf (now (b .entry))) × (r < 256) ⌝ }
+{
+    words::wide(b[0]) as usize
+}
+
+// Entry numbers S.
+pub fn numbers_of(b: &[u8]) -> usize
+    requires { ⌜ 1 < length (now b) ⌝ }
+    ensures { λ r. ⌜ (r ≡ numbersOf (now (b .entry))) × (r < 256) ⌝ }
+{
+    words::wide(b[1]) as usize
+}
+
+// The own number.
+pub fn own_of(b: &[u8]) -> usize
+    requires { ⌜ 2 < length (now b) ⌝ }
+    ensures { λ r. ⌜ (r ≡ ownOf (now (b .entry))) × (r < 256) ⌝ }
+{
+    words::wide(b[2]) as usize
+}
+
+pub fn season_of(b: &[u8]) -> u32
+    requires { ⌜ 6 < length (now b) ⌝ }
+    ensures { λ r. ⌜ r ≡ seasonOf (now (b .entry)) ⌝ }
+{
+    words::word_at(b, 3)
+}
+
+pub fn sheet_of(b: &[u8]) -> Sheet
+    requires { ⌜ 28 < length (now b) ⌝ }
+    ensures { λ r. ⌜ r ≡ sheetAt (now (b .entry)) sheetPlace ⌝ }
+{
+    sheet::sheet_at(b, SHEET)
+}
+
+// ---- places
+
+// The header's bytes: n, S, own number, season, sheet.
+fn head_length(n: usize) -> usize
+    ensures { λ r. ⌜ (r ≡ headLength n) × (r < 256) ⌝ }
+{
+    29
+}
+
+// The slots of an entry.
+fn per_entry(n: usize) -> usize
+    requires { ⌜ n < 256 ⌝ }
+    ensures { λ r. ⌜ (r ≡ perEntry n) × (r < 1024) ⌝ }
+{
+    2 * n + 3
+}
+
+fn times(a: usize, b: usize) -> usize
+    requires { ⌜ (a < 256) × (b < 256) ⌝ }
+    ensures { λ r. ⌜ (r ≡ a * b) × (r < 65281) ⌝ }
+{
+    a * b
+}
+
+// The slots of so many entries.
+fn slots_of(entries: usize, n: usize) -> usize
+    requires { ⌜ (entries < 65536) × (n < 256) ⌝ }
+    ensures { λ r. ⌜ (r ≡ entries * perEntry n) × (r < 67108864) ⌝ }
+{
+    entries * per_entry(n)
+}
+
+// The slots of a book.
+pub fn slot_count(n: usize, s: usize) -> usize
+    requires { ⌜ (n < 256) × (s < 256) ⌝ }
+    ensures { λ r. ⌜ (r ≡ slotCount n s) × (r < 134217728) ⌝ }
+{
+    s + slots_of(times(s, n), n)
+}
+
+// Where slot k begins.
+pub fn slot_place(n: usize, k: usize) -> usize
+    requires { ⌜ k < 134217728 ⌝ }
+    ensures { λ r. ⌜ (r ≡ slotPlace n k) × (r < 4294967296) ⌝ }
+{
+    head_length(n) + 21 * k
+}
+
+// Slot i of the entry of number c and sender j, counted over the book.
+pub fn entry_slot(n: usize, s: usize, c: usize, j: usize, i: usize) -> usize
+    requires { ⌜ (n < 256) × (s < 256) × (c < 256) × (j < 256) × (i < 1024) ⌝ }
+    ensures { λ r. ⌜ (r ≡ entrySlot n s c j i) × (r < 134217728) ⌝ }
+{
+    s + slots_of(times(c, n) + j, n) + i
+}
+
+// A length that depends on n and S only.
+fn book_length(n: usize, s: usize) -> usize
+    requires { ⌜ (n < 256) × (s < 256) ⌝ }
+    ensures { λ r. ⌜ r ≡ lengthOf n s ⌝ }
+{
+    slot_place(n, slot_count(n, s))
+}
+
+// ---- which numbers are allowed, and the length
+
+fn is_numbers(s: u32) -> bool
+    ensures { λ r. ⌜ r ≡ numbersOk s ⌝ }
+{
+    1 <= s && s <= MOST_NUMBERS
+}
+
+// n, S and own number are allowed.
+fn is_allowed(n: u32, s: u32, own: u32) -> bool
+    ensures { λ r. ⌜ r ≡ allowed n s own ⌝ }
+{
+    if card::is_houses(n) {
+        if is_numbers(s) {
+            return own < n;
+        }
+    }
+    false
+}
+
+// Answer 0 and a book's length, or answer 9 and 0.
+pub struct LengthAnswer {
+    pub answer: u8,
+    pub length: u64,
+}
+
+pub fn length_of(n: u32, s: u32) -> LengthAnswer
+    ensures { λ r. ⌜ _≡_ {A = Length} (record { answer = r .answer; length = r .length }) (lengthAnswer n s) ⌝ }
+{
+    if card::is_houses(n) {
+        if is_numbers(s) {
+            let length = book_length(n as usize, s as usize) as u64;
+            return LengthAnswer { answer: 0, length };
+        }
+    }
+    LengthAnswer {
+        answer: 9,
+        length: 0,
+    }
+}
+
+// ---- legality
+
+// The first k slots have one byte form per meaning.
+fn are_slots_ok(b: &[u8], n: usize, k: usize) -> bool
+    requires { ⌜ (slotPlace n k ≤ length (now b)) × (k < 134217728) ⌝ }
+    ensures { λ r. ⌜ r ≡ slotsOk (now (b .entry)) n k ⌝ }
+{
+    for i in 0..k {
+        if !is_slot_ok(b, slot_place(n, i)) {
+            return false;
+        }
+    }
+    true
+}
+
+// n, S and own number are allowed, and there are as many bytes as n and S ask.
+fn is_sized(b: &[u8]) -> bool
+    ensures { λ r. ⌜ r ≡ sized (now (b .entry)) ⌝ }
+{
+    if 2 < b.len() {
+        let n = n_of(b);
+        let s = numbers_of(b);
+        if is_allowed(n as u32, s as u32, own_of(b) as u32) {
+            return b.len() == book_length(n, s);
+        }
+    }
+    false
+}
+
+// Whether the bytes are a legal book.
+pub fn is_legal(b: &[u8]) -> bool
+    ensures { λ r. ⌜ r ≡ legal (now (b .entry)) ⌝ }
+{
+    if is_sized(b) {
+        if sheet::is_sheet_at(b, SHEET) {
+            let n = n_of(b);
+            return are_slots_ok(b, n, slot_count(n, numbers_of(b)));
+        }
+    }
+    false
+}
+
+// ---- opening
+
+// Every byte 0.
+fn clear(b: &mut [u8])
+    ensures { λ _. ⌜ now (b .exit) ≡ replicate (length (now (b .entry))) 0 ⌝ }
+{
+    for i in 0..b.len() {
+        b[i] = 0;
+    }
+}
+
+// The bytes before the sheet: n, S, own number, season.
+fn numbers_in_bytes(n: u8, s: u8, own: u8, season: u32) -> [u8; 7]
+    ensures { λ r. ⌜ r ≡ n ∷ s ∷ own ∷ be32 season ⌝ }
+{
+    let q = words::quad_of(season);
+    [n, s, own, q.a, q.b, q.c, q.d]
+}
+
+// Writes the whole buffer: the header, and every slot empty.
+fn lay_blank(b: &mut [u8], n: u8, s: u8, own: u8, season: u32, sheet: &[u8])
+    requires { ⌜ (28 < length (now b)) × (length (now sheet) ≡ 22) ⌝ }
+    ensures { λ _. ⌜ now (b .exit) ≡ blank (length (now (b .entry))) n s own season (now (sheet .entry)) ⌝ }
+{
+    clear(b);
+    lay_at(b, 0, &numbers_in_bytes(n, s, own, season));
+    lay_at(b, SHEET, sheet);
+}
+
+// Opening: 9, 10, 11; else it writes the whole buffer.
+pub fn open_book(book: &mut [u8], n: u32, s: u32, own: u32, season: u32, sheet: &[u8]) -> u8
+    ensures { λ r. ⌜ _≡_ {A = Opened} (record { answer = r; book = now (book .exit) }) (opened (now (book .entry)) n s own season (now (sheet .entry))) ⌝ }
+{
+    if is_allowed(n, s, own) {
+        if sheet::is_sheet(sheet) {
+            if book.len() == book_length(n as usize, s as usize) {
+                lay_blank(book, n as u8, s as u8, own as u8, season, sheet);
+                return 0;
+            }
+            return 11;
+        }
+        return 10;
+    }
+    9
 }

@@ -1,0 +1,63 @@
+-- What is allowed is written in bytes; a blank buffer of the book's length is a fresh book; what opening answers.
+-- Assumes nothing.
+use Prim.Native.Nat.{ℕ, _+_, _*_, _-_, _<_}
+use mathlib.Core.Path.{_≡_, refl, sym, ap, _∙_}
+use mathlib.Core.Bool.{Bool, true, false, _&&_, and-eq-true-iff}
+use mathlib.Core.List.{List, _++_}
+use native.Mathlib.Omega.{arith}
+use lib.Dec.{eqb, ltb}
+use lib.ListN.{length, replicate}
+use borrow.Author.Tests.{ltb-true, eq-eqb, ne-eqb}
+use Rattle.card.specs.Card.{houses}
+use Rattle.card.proofs.Wall.{houses-byte}
+use Rattle.words.specs.Words.{Bytes, be32}
+use Rattle.lot.specs.declared.Sheet.{Sheet}
+use Rattle.sheet.specs.Kept.{sheetBytes, isSheet, sheetAt}
+use Rattle.sheet.proofs.OneForm.{bytes-of-sheet}
+use Rattle.meaning.specs.Layout.{numbersOk, headLength, slotCount, lengthOf}
+use Rattle.meaning.specs.Book.{head, write}
+use Rattle.meaning.specs.Opening.{freshBook, Opened, allowed, opened}
+use Rattle.book.specs.Parts.{blank}
+use Rattle.book.proofs.Legality.{numbers-byte}
+use Rattle.book.proofs.Blank.{fresh-bytes}
+
+module _ (n s own : ℕ) (r : Bool) (e : r ≡ allowed n s own) (t : r ≡ true) where
+  pub allowed-bytes : (n < 256) × (s < 256) × (own < 256)
+  unfolding allowed
+  allowed-bytes =
+      let p = and-eq-true-iff (houses n) (numbersOk s && ltb own n) .0 (sym e ∙ t) in
+      let q = and-eq-true-iff (numbersOk s) (ltb own n) .0 (p .1) in
+      let h = houses-byte n (p .0) in
+      let l = ltb-true own n (q .1) in
+      (h, numbers-byte s (q .0), omega arith)
+
+module _ (b : List ℕ) (n s own season : ℕ) (sheet : List ℕ) where
+  pub blank-fresh : Bytes sheet → isSheet sheet ≡ true → length b ≡ lengthOf n s
+      → blank (length b) n s own season sheet ≡ write (freshBook n s own season (sheetAt sheet 0))
+  unfolding blank head lengthOf
+  blank-fresh x h l =
+      let k : length b - headLength n ≡ 21 * slotCount n s = omega arith in
+      rw (k, fresh-bytes n s own season (sheetAt sheet 0), bytes-of-sheet sheet x h)
+
+  -- the answers of `open_book`, by what its parts answered
+  module _ (r : Bool) (e : r ≡ allowed n s own) where
+    pub opens-9 : r ≡ false → _≡_ {A = Opened} (record { answer = 9; book = b }) (opened b n s own season sheet)
+    unfolding opened
+    opens-9 f = rw (← e, f)
+
+    module _ (x : Bool) (t : r ≡ true) (q : x ≡ isSheet sheet) where
+      pub opens-10 : x ≡ false → _≡_ {A = Opened} (record { answer = 10; book = b }) (opened b n s own season sheet)
+      unfolding opened
+      opens-10 f = rw (← e, t, ← q, f)
+
+      module _ (l : ℕ) (u : x ≡ true) (k : l ≡ lengthOf n s) where
+        pub opens-11 : (length b ≡ l → ⊥) → _≡_ {A = Opened} (record { answer = 11; book = b }) (opened b n s own season sheet)
+        unfolding opened
+        opens-11 f = rw (← e, t, ← q, u, ← k, ne-eqb _ _ f)
+
+        pub opens-0 : (d : List ℕ) → Bytes sheet → length b ≡ l → d ≡ blank (length b) n s own season sheet
+            → _≡_ {A = Opened} (record { answer = 0; book = d }) (opened b n s own season sheet)
+        unfolding opened
+        opens-0 d y h w =
+            let z = w ∙ blank-fresh y (sym q ∙ u) (h ∙ k) in
+            rw (← e, t, ← q, u, eq-eqb _ _ (h ∙ k)) (λ i. record { answer = 0; book = z i })
