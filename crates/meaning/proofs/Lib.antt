@@ -8,3 +8,5 @@ pub mod Stores
 pub mod Rows
 pub mod Written
 pub mod OneForm
+pub mod Numbered
+pub mod Every
