@@ -15,7 +15,7 @@ use Rattle.protocol.specs.Book.{PerEntry, sameEntry, place}
 use Rattle.protocol.proofs.Basics.{upd-same, upd-other}
 use Rattle.meaning.specs.Layout.{perEntry, slotCount, entrySlot, sendSlot, echoSlot, readySlot, readySentSlot, deliveredSlot}
 use Rattle.meaning.specs.Book.{nOf, numbersOf, ownOf, slotOf, forHouses, look}
-use Rattle.meaning.proofs.Places.{entry-slot-past, same-entry-row, same-entry-slot}
+use Rattle.meaning.proofs.Places.{entry-slot-below, published-slot-below, entry-slot-past, same-entry-row, same-entry-slot}
 
 -- the entry of a row of slots, and of what was published
 abbrev pub entryFrom : ℕ → (ℕ → Option Decl) → Option Decl → Entry
@@ -139,6 +139,20 @@ module _ (n : ℕ) (row : ℕ → Option Decl) (o : Option Decl) (v : Decl) wher
       let ready = each (readySlot n) (deliveredSlot n) (λ q l e. omega arith) in
       let sent = one (readySentSlot n) (deliveredSlot n) (λ e. omega arith) in
       λ i. record { send = send i; echo = echo i; ready = ready i; readySent = sent i; delivered = here (deliveredSlot n) i; published = o }
+
+-- the entries of a book hang on its slots alone
+pub entries-same : (n s own : ℕ) (f g : ℕ → Option Decl) → ((k : ℕ) → k < slotCount n s → f k ≡ g k) → entriesIn n s own f ≡ entriesIn n s own g
+entries-same n s own f g h = fun-ext (λ j. fun-ext (λ c. go j c (ltb j n) (ltb c s) refl refl))
+  where
+    go : (j c : ℕ) (t u : Bool) → ltb j n ≡ t → ltb c s ≡ u → cond (t && u) (entryIn n s own f j c) fresh ≡ cond (t && u) (entryIn n s own g j c) fresh
+    go j c true true a b =
+        let hj = ltb-true j n a in
+        let hc = ltb-true c s b in
+        entry-same n (rowIn n s f j c) (rowIn n s g j c) (publishedIn own f j c) (publishedIn own g j c)
+        (λ i l. h (entrySlot n s c j i) (entry-slot-below n s c j i hc hj l))
+        (ap (λ (o : Option Decl). cond (eqb j own) o none) (h c (published-slot-below n s c hc)))
+    go j c true false a b = refl
+    go j c false u a b = refl
 
 -- ---- one entry of a book replaced
 

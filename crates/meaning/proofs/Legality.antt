@@ -1,6 +1,6 @@
 -- The test for a legal book, as facts: its parts, and its slots one by one.
 -- Assumes nothing.
-use Prim.Native.Nat.{ℕ, zero, suc, _<_}
+use Prim.Native.Nat.{ℕ, zero, suc, _+_, _≤_, _<_}
 use mathlib.Core.Path.{_≡_, refl}
 use mathlib.Core.Bool.{Bool, true, false, _&&_, and-eq-true-iff}
 use mathlib.Core.List.{List}
@@ -15,6 +15,7 @@ use Rattle.meaning.specs.Slot.{slotOk}
 use Rattle.meaning.specs.Layout.{numbersOk, slotCount, lengthOf, slotPlace}
 use Rattle.meaning.specs.Book.{nOf, numbersOf, ownOf, sheetPlace}
 use Rattle.meaning.specs.Legal.{slotsOk, legal, Legal}
+use Rattle.meaning.proofs.Places.{length-header, slot-within}
 
 module _ (b : List ℕ) where
   abbrev long : Bool
@@ -64,3 +65,11 @@ module _ (b : List ℕ) where
     unfolding slotsOk
     slots-all zero f = refl
     slots-all (suc m) f = rw (slots-all m (λ k l. f k (omega arith)), f m (omega arith))
+
+  -- the header and each slot lie within a legal book
+  module _ (l : Legal b) where
+    pub header-within : 29 ≤ length b
+    header-within = omega (arith, length-header (nOf b) (numbersOf b), l .long)
+
+    pub slot-within-book : (k : ℕ) → k < slotCount (nOf b) (numbersOf b) → slotPlace (nOf b) k + 21 ≤ length b
+    slot-within-book k h = omega (arith, slot-within (nOf b) (numbersOf b) k h, l .long)

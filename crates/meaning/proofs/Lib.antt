@@ -1,6 +1,6 @@
 pub mod Parts
-pub mod Legality
 pub mod Places
+pub mod Legality
 pub mod Slots
 pub mod Header
 pub mod Entries
@@ -8,3 +8,7 @@ pub mod Stores
 pub mod Rows
 pub mod Written
 pub mod OneForm
+pub mod Meant
+pub mod Numbered
+pub mod Every
+pub mod Opening

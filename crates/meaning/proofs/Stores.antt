@@ -20,8 +20,8 @@ use Rattle.meaning.specs.Layout.{perEntry, slotCount, lengthOf, slotPlac
 use Rattle.meaning.specs.Layout.{sendSlot, echoSlot, readySlot, readySentSlot, deliveredSlot}
 use Rattle.meaning.specs.Book.{nOf, numbersOf, ownOf, seasonOf, sheetPlace, slotOf, look}
 use Rattle.meaning.specs.Legal.{legal, Legal, IsDecl}
-use Rattle.meaning.proofs.Legality.{legal-facts, facts-legal, slots-at, slots-all}
-use Rattle.meaning.proofs.Places.{slot-within, slot-past-header, slots-apart, entry-slot-below, published-slot-below}
+use Rattle.meaning.proofs.Legality.{legal-facts, facts-legal, slots-at, slots-all, slot-within-book}
+use Rattle.meaning.proofs.Places.{slot-past-header, slots-apart, entry-slot-below, published-slot-below}
 use Rattle.meaning.proofs.Slots.{put-length, slot-put, ok-put, put-bytes, getD-elsewhere, slot-elsewhere, ok-elsewhere}
 use Rattle.meaning.proofs.Header.{same-n, same-numbers, same-own, same-season, same-sheet, same-sheet-legal}
 use Rattle.meaning.proofs.Entries.{entryFrom, rowIn, publishedIn, entryIn, entriesIn, look-is, same-entry, entries-in, entries-put, entries-published}
@@ -109,7 +109,7 @@ module _ (b : List ℕ) (h : legal b ≡ true) (bytes : Bytes b) (v : Decl) (d :
     after = putSlot b at v
 
     fits : at + 21 ≤ length b
-    fits = omega (arith, slot-within (nOf b) (numbersOf b) k hk, facts .long)
+    fits = slot-within-book b facts k hk
 
     header : (i : ℕ) → i < 29 → getD after i 0 ≡ getD b i 0
     header i l = getD-elsewhere b at v fits (d .long) i (inl (omega (arith, slot-past-header (nOf b) k)))

@@ -1,0 +1,149 @@
+-- For every meaning that a book may have there are legal bytes that mean exactly that.
+-- Assumes nothing.
+use Prim.Native.Nat.{ℕ, _+_, _*_, _≤_, _<_}
+use mathlib.Core.Path.{_≡_, refl, sym, ap, _∙_}
+use mathlib.Core.Bool.{Bool, true}
+use mathlib.Core.List.{List, _∷_, _++_}
+use mathlib.Core.Option.{Option}
+use native.Mathlib.Omega.{arith}
+use lib.ListN.{length, length-append}
+use Rattle.card.proofs.Wall.{houses-byte}
+use Rattle.words.specs.Words.{Bytes, be32}
+use Rattle.words.proofs.Bytes.{bytes-append, bytes-cons, be-bytes}
+use Rattle.words.proofs.Laws.{word-be}
+use Rattle.sheet.specs.Kept.{sheetBytes, sheetAt, sheetLegalAt, isSheet}
+use Rattle.sheet.proofs.OneForm.{sheet-of-bytes, legal-bytes, sheet-bytes}
+use Rattle.protocol.specs.Entry.{Decl}
+use Rattle.meaning.specs.Slot.{slotBytes, part, slotAt, slotOk}
+use Rattle.meaning.specs.Layout.{headLength, slotCount, lengthOf, slotPlace}
+use Rattle.meaning.specs.Book.{Meaning, nOf, numbersOf, ownOf, seasonOf, sheetPlace, slotOf, look, meant, head, rows, write}
+use Rattle.meaning.specs.Legal.{legal, Legal, IsBook}
+use Rattle.meaning.proofs.Parts.{part-after}
+use Rattle.meaning.proofs.Legality.{facts-legal, slots-all}
+use Rattle.meaning.proofs.Places.{numbers-byte}
+use Rattle.meaning.proofs.Slots.{slot-part, ok-part, slot-of-bytes, ok-of-bytes, slot-bytes-length, slot-bytes-bytes}
+use Rattle.meaning.proofs.Entries.{entriesIn, look-is, entries-same}
+use Rattle.meaning.proofs.Rows.{rows-length, part-rows, rows-bytes}
+use Rattle.meaning.proofs.Written.{meaningOf, write-slots}
+use Rattle.meaning.proofs.Numbered.{slotsOf, slots-are-slots, slots-entries}
+
+module _ (B : Meaning) (ok : IsBook B) where
+  abbrev top : List ℕ
+  top = head (B .n) (B .numbers) (B .own) (B .season) (B .sheet)
+
+  abbrev all : ℕ
+  all = slotCount (B .n) (B .numbers)
+
+  abbrev each : ℕ → List ℕ
+  each k = slotBytes (slotsOf B k)
+
+  each-long : (k : ℕ) → k < all → length (each k) ≡ 21
+  each-long k l = slot-bytes-length (slotsOf B k) (slots-are-slots B ok k)
+
+  pub written-slots : write B ≡ top ++ rows all each
+  written-slots =
+      (λ i. write (record { n = B .n; numbers = B .numbers; own = B .own; season = B .season; sheet = B .sheet; entries = sym (slots-entries B ok) i }))
+      ∙ write-slots (B .n) (B .numbers) (B .own) (B .season) (B .sheet) (slotsOf B) (ok .own)
+
+  pub written-length : length (write B) ≡ lengthOf (B .n) (B .numbers)
+  unfolding lengthOf headLength head sheetBytes
+  written-length = ap length written-slots ∙ length-append top (rows all each) ∙ omega (arith, rows-length 21 all each each-long)
+
+  slot-written : (k : ℕ) → k < all → part (write B) (slotPlace (B .n) k) 21 ≡ each k
+  unfolding slotPlace headLength head sheetBytes
+  slot-written k l =
+      ap (λ (b : List ℕ). part b (slotPlace (B .n) k) 21) written-slots
+      ∙ part-after top (rows all each) (slotPlace (B .n) k) (k * 21) 21 (omega arith)
+      ∙ part-rows 21 all each each-long k l
+
+  -- ---- the header
+
+  n-written : nOf (write B) ≡ B .n
+  unfolding write
+  n-written = refl
+
+  numbers-written : numbersOf (write B) ≡ B .numbers
+  unfolding write
+  numbers-written = refl
+
+  own-written : ownOf (write B) ≡ B .own
+  unfolding write
+  own-written = refl
+
+  season-written : seasonOf (write B) ≡ B .season
+  unfolding write
+  season-written = word-be (B .season)
+
+  sheet-written : sheetAt (write B) sheetPlace ≡ B .sheet
+  unfolding write sheetAt sheetBytes
+  sheet-written = sheet-of-bytes (B .sheet) (ok .moisture) (ok .conductivity)
+
+  sheet-legal-written : sheetLegalAt (write B) sheetPlace ≡ true
+  unfolding write sheetLegalAt isSheet sheetBytes
+  sheet-legal-written = legal-bytes (B .sheet) (ok .moisture) (ok .conductivity) ∙ ok .sheet
+
+  -- ---- legal
+
+  ok-written : (k : ℕ) → k < all → slotOk (write B) (slotPlace (B .n) k) ≡ true
+  ok-written k l =
+      ok-part (write B) (slotPlace (B .n) k) ∙ ap (λ (p : List ℕ). slotOk p 0) (slot-written k l) ∙ ok-of-bytes (slotsOf B k)
+
+  pub written-legal : legal (write B) ≡ true
+  written-legal =
+      facts-legal (write B)
+      (record {
+        n = rw n-written (ok .n);
+        numbers = rw numbers-written (ok .numbers);
+        own = rw (own-written, n-written) (ok .own);
+        long = rw (n-written, numbers-written) written-length;
+        sheet = sheet-legal-written;
+        slots = rw (n-written, numbers-written) (slots-all (write B) (B .n) all ok-written);
+      })
+
+  -- ---- and it means that
+
+  slot-meant : (k : ℕ) → k < all → slotOf (write B) k ≡ slotsOf B k
+  unfolding slotOf
+  slot-meant k l =
+      ap (λ (n : ℕ). slotAt (write B) (slotPlace n k)) n-written
+      ∙ slot-part (write B) (slotPlace (B .n) k)
+      ∙ ap (λ (p : List ℕ). slotAt p 0) (slot-written k l)
+      ∙ slot-of-bytes (slotsOf B k) (slots-are-slots B ok k)
+
+  look-written : look (write B) ≡ B .entries
+  look-written =
+      look-is (write B)
+      ∙ (λ i. entriesIn (n-written i) (numbers-written i) (own-written i) (slotOf (write B)))
+      ∙ entries-same (B .n) (B .numbers) (B .own) (slotOf (write B)) (slotsOf B) slot-meant
+      ∙ slots-entries B ok
+
+  pub written-meant : meant (write B) ≡ B
+  unfolding meant
+  written-meant =
+      λ i.
+      record {
+        n = n-written i;
+        numbers = numbers-written i;
+        own = own-written i;
+        season = season-written i;
+        sheet = sheet-written i;
+        entries = look-written i;
+      }
+
+  -- ---- and it is bytes
+
+  top-bytes : Bytes top
+  unfolding head
+  top-bytes =
+      let n = houses-byte (B .n) (ok .n) in
+      let rest = be32 (B .season) ++ sheetBytes (B .sheet) in
+      bytes-cons (B .n) (B .numbers ∷ B .own ∷ rest) n
+      (bytes-cons (B .numbers) (B .own ∷ rest) (numbers-byte (B .numbers) (ok .numbers))
+      (bytes-cons (B .own) rest (omega (arith, ok .own))
+      (bytes-append (be32 (B .season)) (sheetBytes (B .sheet)) (be-bytes (B .season) (ok .season))
+      (sheet-bytes (B .sheet) (ok .cap) (ok .moisture) (ok .conductivity)))))
+
+  pub written-bytes : Bytes (write B)
+  written-bytes =
+      rw written-slots
+      (bytes-append top (rows all each) top-bytes (rows-bytes all each (λ k l. slot-bytes-bytes (slotsOf B k) (slots-are-slots B ok k))))

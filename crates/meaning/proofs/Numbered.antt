@@ -1,0 +1,137 @@
+-- The slots of a meaning, numbered as they stand in the book: read as entries again, they are the meaning's.
+-- Assumes nothing.
+use Prim.Native.Nat.{ℕ, zero, suc, _+_, _*_, _-_, _/_, _%_, _≤_, _<_}
+use mathlib.Core.Path.{_≡_, refl, sym, ap, ap₂, _∙_, fun-ext}
+use mathlib.Core.Bool.{Bool, true, false, cond, _&&_}
+use mathlib.Core.Option.{Option, none, some}
+use native.Mathlib.Nat.{add-zero, mul-add-div-right, mul-add-mod-self-right, div-eq-of-lt, mod-eq-of-lt}
+use native.Mathlib.Omega.{arith}
+use lib.Dec.{eqb, ltb}
+use borrow.Author.Tests.{eqb-true, eqb-false, ltb-true, ltb-false, lt-ltb, le-ltb}
+use Rattle.protocol.specs.Entry.{Decl, Entry, fresh}
+use Rattle.meaning.specs.Layout.{perEntry, entrySlot, echoSlot, readySlot, readySentSlot, deliveredSlot}
+use Rattle.meaning.specs.Book.{Meaning, forHouses}
+use Rattle.meaning.specs.Legal.{IsSlot, IsEntry, IsBook}
+use Rattle.meaning.proofs.Entries.{entryFrom, rowIn, publishedIn, entryIn, entriesIn, entry-same}
+
+-- slot i of an entry's row
+abbrev inRow : ℕ → Entry → ℕ → Option Decl
+inRow n e i =
+    cond (ltb i 1) (e .send)
+    (cond (ltb i (1 + n)) (e .echo (i - 1))
+    (cond (ltb i (1 + 2 * n)) (e .ready (i - (1 + n))) (cond (ltb i (2 + 2 * n)) (e .readySent) (e .delivered))))
+
+-- slot k of the book
+unfoldable pub slotsOf : Meaning → ℕ → Option Decl
+slotsOf B k =
+    let n = B .n in
+    let past = k - B .numbers in
+    let row = past / perEntry n in
+    cond (ltb k (B .numbers)) (B .entries (B .own) k .published) (inRow n (B .entries (row % n) (row / n)) (past % perEntry n))
+
+pick : (x y : Option Decl) (t : Bool) → IsSlot x → IsSlot y → IsSlot (cond t x y)
+pick x y true a b = a
+pick x y false a b = b
+
+-- ---- a row
+
+module _ (n : ℕ) (e : Entry) where
+  echo-at : (p : ℕ) → p < n → inRow n e (echoSlot p) ≡ e .echo p
+  echo-at p l =
+      let x : 1 + p - 1 ≡ p = omega arith in
+      rw (le-ltb (1 + p) 1 (omega arith), lt-ltb (1 + p) (1 + n) (omega arith), x)
+
+  ready-at : (p : ℕ) → p < n → inRow n e (readySlot n p) ≡ e .ready p
+  ready-at p l =
+      let i = 1 + n + p in
+      let x : 1 + n + p - (1 + n) ≡ p = omega arith in
+      rw (le-ltb i 1 (omega arith), le-ltb i (1 + n) (omega arith), lt-ltb i (1 + 2 * n) (omega arith), x)
+
+  sent-at : inRow n e (readySentSlot n) ≡ e .readySent
+  sent-at =
+      let i = 1 + 2 * n in
+      rw (le-ltb i 1 (omega arith), le-ltb i (1 + n) (omega arith), le-ltb i i (omega arith), lt-ltb i (2 + 2 * n) (omega arith))
+
+  delivered-at : inRow n e (deliveredSlot n) ≡ e .delivered
+  delivered-at =
+      let i = 2 + 2 * n in
+      rw (le-ltb i 1 (omega arith), le-ltb i (1 + n) (omega arith), le-ltb i (1 + 2 * n) (omega arith), le-ltb i i (omega arith))
+
+  houses-are : (f g : ℕ → Option Decl) → ((p : ℕ) → p < n → f p ≡ g p) → ((p : ℕ) → n ≤ p → g p ≡ none) → forHouses n f ≡ g
+  houses-are f g h past = fun-ext (λ p. go p (ltb p n) refl)
+    where
+      go : (p : ℕ) (t : Bool) → ltb p n ≡ t → cond t (f p) none ≡ g p
+      go p true q = h p (ltb-true p n q)
+      go p false q = sym (past p (ltb-false p n q))
+
+  row-entry : IsEntry n e → entryFrom n (inRow n e) (e .published) ≡ e
+  row-entry ok =
+      let echo = houses-are (λ p. inRow n e (echoSlot p)) (e .echo) echo-at (ok .echo-past) in
+      let ready = houses-are (λ p. inRow n e (readySlot n p)) (e .ready) ready-at (ok .ready-past) in
+      λ i. record { send = e .send; echo = echo i; ready = ready i; readySent = sent-at i; delivered = delivered-at i; published = e .published }
+
+  row-is-slot : IsEntry n e → (i : ℕ) → IsSlot (inRow n e i)
+  row-is-slot ok i =
+      pick (e .send) echoes (ltb i 1) (ok .send)
+      (pick (e .echo (i - 1)) readies (ltb i (1 + n)) (ok .echo (i - 1))
+      (pick (e .ready (i - (1 + n))) marks (ltb i (1 + 2 * n)) (ok .ready (i - (1 + n)))
+      (pick (e .readySent) (e .delivered) (ltb i (2 + 2 * n)) (ok .readySent) (ok .delivered))))
+    where
+      marks : Option Decl
+      marks = cond (ltb i (2 + 2 * n)) (e .readySent) (e .delivered)
+
+      readies : Option Decl
+      readies = cond (ltb i (1 + 2 * n)) (e .ready (i - (1 + n))) marks
+
+      echoes : Option Decl
+      echoes = cond (ltb i (1 + n)) (e .echo (i - 1)) readies
+
+-- ---- the book
+
+div-row : (m r i : ℕ) → i < m → (r * m + i) / m ≡ r
+div-row m r i l = mul-add-div-right (omega arith) r i ∙ ap (λ (x : ℕ). r + x) (div-eq-of-lt l) ∙ add-zero r
+
+mod-row : (m r i : ℕ) → i < m → (r * m + i) % m ≡ i
+mod-row m r i l = mul-add-mod-self-right r m i ∙ mod-eq-of-lt l
+
+module _ (B : Meaning) where
+  published-at : (c : ℕ) → c < B .numbers → slotsOf B c ≡ B .entries (B .own) c .published
+  unfolding slotsOf
+  published-at c l = rw (lt-ltb c (B .numbers) l)
+
+  entry-slot-at : (c j i : ℕ) → j < B .n → i < perEntry (B .n) → slotsOf B (entrySlot (B .n) (B .numbers) c j i) ≡ inRow (B .n) (B .entries j c) i
+  unfolding slotsOf entrySlot
+  entry-slot-at c j i hj hi =
+      let m = perEntry (B .n) in
+      let s = B .numbers in
+      let row = c * B .n + j in
+      let past : s + row * m + i - s ≡ row * m + i = omega arith in
+      rw (le-ltb (s + row * m + i) s (omega arith), past, div-row m row i hi, mod-row m row i hi, div-row (B .n) c j hj, mod-row (B .n) c j hj)
+
+  module _ (ok : IsBook B) where
+    pub slots-are-slots : (k : ℕ) → IsSlot (slotsOf B k)
+    unfolding slotsOf
+    slots-are-slots k =
+        let n = B .n in
+        let past = k - B .numbers in
+        let row = past / perEntry n in
+        let e = B .entries (row % n) (row / n) in
+        pick (B .entries (B .own) k .published) (inRow n e (past % perEntry n)) (ltb k (B .numbers))
+        (ok .entries (B .own) k .published) (row-is-slot n e (ok .entries (row % n) (row / n)) (past % perEntry n))
+
+    pub slots-entries : entriesIn (B .n) (B .numbers) (B .own) (slotsOf B) ≡ B .entries
+    slots-entries = fun-ext (λ j. fun-ext (λ c. go j c (ltb j (B .n)) (ltb c (B .numbers)) refl refl))
+      where
+        published : (j c : ℕ) → c < B .numbers → (t : Bool) → eqb j (B .own) ≡ t → cond t (slotsOf B c) none ≡ B .entries j c .published
+        published j c l true e = published-at c l ∙ ap (λ (x : ℕ). B .entries x c .published) (sym (eqb-true j (B .own) e))
+        published j c l false e = sym (ok .others j c (eqb-false j (B .own) e))
+
+        go : (j c : ℕ) (t u : Bool) → ltb j (B .n) ≡ t → ltb c (B .numbers) ≡ u
+            → cond (t && u) (entryIn (B .n) (B .numbers) (B .own) (slotsOf B) j c) fresh ≡ B .entries j c
+        go j c true true a b =
+            entry-same (B .n) (rowIn (B .n) (B .numbers) (slotsOf B) j c) (inRow (B .n) (B .entries j c))
+            (publishedIn (B .own) (slotsOf B) j c) (B .entries j c .published)
+            (λ i l. entry-slot-at c j i (ltb-true j (B .n) a) l) (published j c (ltb-true c (B .numbers) b) (eqb j (B .own)) refl)
+            ∙ row-entry (B .n) (B .entries j c) (ok .entries j c)
+        go j c true false a b = sym (ok .past-number j c (ltb-false c (B .numbers) b))
+        go j c false u a b = sym (ok .past-sender j c (ltb-false j (B .n) a))
