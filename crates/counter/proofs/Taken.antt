@@ -67,7 +67,7 @@ module _ (b : List ℕ) (h : legal b ≡ true) (bytes : Bytes b) (j c p : ℕ) (
   abbrev R : Rules
   R = rulesBy (meant b)
 
-  abbrev heard-in : Kind → List ℕ
+  abbrev pub heard-in : Kind → List ℕ
   heard-in k = putSlot b (placeIn b j c (heardSlot (nOf b) k p)) v
 
   one : (k : Kind) → Stored b (heard-in k) j c (recorded k p v (look b j c))
@@ -85,7 +85,7 @@ module _ (b : List ℕ) (h : legal b ≡ true) (bytes : Bytes b) (j c p : ℕ) (
   base-one k = sym (λ i. slotPlace (one k .n i) (entrySlot (one k .n i) (one k .numbers i) c j 0))
 
   -- the step of a voucher, by its marks
-  abbrev taking : Kind → Marks → Out
+  abbrev pub taking : Kind → Marks → Out
   taking k m =
       record {
         answer = 0;

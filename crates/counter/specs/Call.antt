@@ -25,6 +25,9 @@ pub record Result : Type 0 where
   pub given : Outcome
   pub book : List ℕ
 
+abbrev pub result : Outcome → List ℕ → Result
+result o b = record { given = o; book = b }
+
 abbrev pub isThere : {A : Type 0} → Option A → Bool
 isThere none = false
 isThere (some x) = true

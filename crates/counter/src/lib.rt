@@ -12,6 +12,7 @@ ghost use Rattle.protocol.specs.Steps.{given, recording};
 ghost use Rattle.meaning.specs.Slot.{slotAt, putSlot};
 ghost use Rattle.counter.specs.Call.{giving, orZeros, kindOf, wired};
 ghost use Rattle.meaning.proofs.Stores.{heardSlot};
+ghost use Rattle.counter.specs.Places.{Has, Within, Begins, marksAt};
 use lot::Declaration;
 
 // What publishing and receiving give. An absent message or declaration is zeros.
@@ -103,7 +104,7 @@ fn accept(
 // The slot of an entry that a message of the kind from a house is recorded in.
 fn heard_slot(kind: u8, n: usize, house: usize) -> usize
     requires { ⌜ (n < 256) × (house < 256) ⌝ }
-    ensures { λ r. ⌜ (r ≡ heardSlot n (kindOf kind) house) × (r < 1024) ⌝ }
+    ensures { λ r. ⌜ (r ≡ heardSlot n (kindOf kind) house) × (r ≤ 1 + n + house) ⌝ }
 {
     if kind == 1 {
         return 0;
@@ -143,5 +144,38 @@ fn mark(book: &mut [u8], at: usize, yes: bool, d: [u8; 20])
 {
     if yes {
         book::put_slot(book, at, d);
+    }
+}
+
+// ---- an accepted message
+
+// Where the entry of a sender and a number begins.
+fn entry_at(book: &[u8], sender: usize, number: usize) -> usize
+    requires { ⌜ Has (now book) sender number ⌝ }
+    ensures { λ r. ⌜ Begins (now (book .entry)) sender number r ⌝ }
+{
+    let n = book::n_of(book);
+    let s = book::numbers_of(book);
+    book::slot_place(n, book::entry_slot(n, s, number, sender, 0))
+}
+
+// Whether the vouchers of this kind for d now make a READY, and deliver.
+fn marks_of(book: &[u8], kind: u8, base: usize, d: [u8; 20]) -> Marks
+    requires { ⌜ Within (now book) base × (kind ≡ 1 → ⊥) ⌝ }
+    ensures { λ r. ⌜ r ≡ marksAt (now (book .entry)) (kindOf kind) base d ⌝ }
+{
+    let n = book::n_of(book);
+    let counts = card::counts_of(n);
+    let sent = base + 21 * (1 + 2 * n);
+    let votes = book::count_same(book, base + 21 * heard_slot(kind, n, 0), n, d);
+    if kind == 2 {
+        return Marks {
+            gives: is_reached(book, sent, counts.quorum, votes),
+            delivers: false,
+        };
+    }
+    Marks {
+        gives: is_reached(book, sent, counts.amplify, votes),
+        delivers: is_reached(book, sent + 21, counts.deliver, votes),
     }
 }
