@@ -1,7 +1,7 @@
 -- What the code leaves and gives for an accepted message is the protocol's step, entered in the book.
 -- Assumes nothing.
 use Prim.Native.Nat.{ℕ, _+_, _*_, _<_}
-use mathlib.Core.Path.{_≡_, refl, sym, ap, ap₂, _∙_}
+use mathlib.Core.Path.{_≡_, refl, sym, ap, ap₂, _∙_, subst}
 use mathlib.Core.Bool.{Bool, true, false, cond}
 use mathlib.Core.List.{List}
 use mathlib.Core.Option.{Option, none, some}
@@ -22,10 +22,11 @@ use Rattle.meaning.proofs.OneForm.{stored-bytes}
 use Rattle.counter.specs.declared.Marks.{Marks}
 use Rattle.counter.specs.declared.Outcome.{Outcome}
 use Rattle.counter.specs.Call.{Result, result, giving, kindNumber, kindOf, wired, letter, letters, withEntry, entered, rulesBy}
-use Rattle.counter.specs.Places.{placeIn, Has, Begins, marksAt}
+use Rattle.counter.specs.Places.{placeIn, Has, Within, Begins, marksAt}
 use Rattle.counter.proofs.Seen.{place-along}
+use Rattle.counter.proofs.Room.{begins}
 use Rattle.counter.proofs.Marking.{not-send}
-use Rattle.counter.proofs.Taken.{taking, heard-in, echo-taken, ready-taken}
+use Rattle.counter.proofs.Taken.{taking, heard-in, has-one, base-one, echo-taken, ready-taken}
 
 -- the message that a step gives is the writer's
 pub letter-wired : (season j c : ℕ) (g : Bool) (k : Kind) (d : Declaration)
@@ -87,12 +88,9 @@ module _ (b : List ℕ) (h : legal b ≡ true) (bytes : Bytes b) (j c p : ℕ) (
   taken ECHO f = echo-taken b h bytes j c p has hp v dv
   taken READY f = ready-taken b h bytes j c p has hp v dv
 
-  -- as the code has it
-  module _ (kind base n season slot : ℕ) (w b₁ b₂ b₃ : List ℕ) (m : Marks) (o : Outcome) (en : n ≡ nOf b) (at : Begins b j c base)
-      (es : season ≡ seasonOf b) (ew : w ≡ v) (eh : slot ≡ heardSlot n (kindOf kind) p) (e₁ : b₁ ≡ putSlot b (base + 21 * slot) w)
-      (em : m ≡ marksAt b₁ (kindOf kind) base w) (e₂ : b₂ ≡ cond (m .gives) (putSlot b₁ (base + 21 * (1 + 2 * n)) w) b₁)
-      (e₃ : b₃ ≡ cond (m .delivers) (putSlot b₂ (base + 21 * (1 + 2 * n) + 21) w) b₂)
-      (eo : o ≡ giving 0 (given (m .gives) (wired 3 season j c d)) (given (m .delivers) v)) where
+  -- as the code has it: the message recorded,
+  module _ (kind base n slot : ℕ) (w b₁ : List ℕ) (en : n ≡ nOf b) (at : Begins b j c base) (ew : w ≡ v)
+      (eh : slot ≡ heardSlot n (kindOf kind) p) (e₁ : b₁ ≡ putSlot b (base + 21 * slot) w) where
     abbrev k : Kind
     k = kindOf kind
 
@@ -104,23 +102,36 @@ module _ (b : List ℕ) (h : legal b ≡ true) (bytes : Bytes b) (j c p : ℕ) (
         let at-slot = ap (λ (x : ℕ). base + 21 * x) (eh ∙ ap (λ (x : ℕ). heardSlot x k p) en) ∙ from (heardSlot (nOf b) k p) in
         e₁ ∙ (λ i. putSlot b (at-slot i) (ew i))
 
-    marks : m ≡ marksAt (heard-in b h bytes j c p has hp v dv k) k (placeIn b j c 0) v
-    marks = em ∙ (λ i. marksAt (first i) k (at .is i) (ew i))
+    pub heard-within : Within b₁ base
+    heard-within =
+        let a = heard-in b h bytes j c p has hp v dv k in
+        let is = at .is ∙ base-one b h bytes j c p has hp v dv k in
+        let here = begins a j c (nOf a) (numbersOf a) (entrySlot (nOf a) (numbersOf a) c j 0) base (has-one b h bytes j c p has hp v dv k)
+        refl refl refl is (at .within .small) in
+        subst (λ (x : List ℕ). Within x base) (sym first) (here .within)
 
-    second : b₂ ≡ b₂′ k m marks
-    second =
-        let at-slot = ap (λ (x : ℕ). base + 21 * (1 + 2 * x)) en ∙ from (readySentSlot (nOf b)) in
-        e₂ ∙ (λ i. cond (m .gives) (putSlot (first i) (at-slot i) (ew i)) (first i))
+    -- and marked
+    module _ (season : ℕ) (b₂ b₃ : List ℕ) (m : Marks) (o : Outcome) (es : season ≡ seasonOf b) (em : m ≡ marksAt b₁ (kindOf kind) base w)
+        (e₂ : b₂ ≡ cond (m .gives) (putSlot b₁ (base + 21 * (1 + 2 * n)) w) b₁)
+        (e₃ : b₃ ≡ cond (m .delivers) (putSlot b₂ (base + 21 * (1 + 2 * n) + 21) w) b₂)
+        (eo : o ≡ giving 0 (given (m .gives) (wired 3 season j c d)) (given (m .delivers) v)) where
+      marks : m ≡ marksAt (heard-in b h bytes j c p has hp v dv k) k (placeIn b j c 0) v
+      marks = em ∙ (λ i. marksAt (first i) k (at .is i) (ew i))
 
-    third : b₃ ≡ b₃′ k m marks
-    third =
-        let next : base + 21 * (1 + 2 * nOf b) + 21 ≡ base + 21 * (2 + 2 * nOf b) = omega arith in
-        let at-slot = ap (λ (x : ℕ). base + 21 * (1 + 2 * x) + 21) en ∙ next ∙ from (deliveredSlot (nOf b)) in
-        e₃ ∙ (λ i. cond (m .delivers) (putSlot (second i) (at-slot i) (ew i)) (second i))
+      second : b₂ ≡ b₂′ k m marks
+      second =
+          let at-slot = ap (λ (x : ℕ). base + 21 * (1 + 2 * x)) en ∙ from (readySentSlot (nOf b)) in
+          e₂ ∙ (λ i. cond (m .gives) (putSlot (first i) (at-slot i) (ew i)) (first i))
 
-    pub voucher-taken : (kind ≡ 1 → ⊥) → result o b₃ ≡ entered b j c (takes (rulesBy (meant b)) k p v (look b j c))
-    voucher-taken f =
-        let message = ap (λ (x : ℕ). given (m .gives) (wired 3 x j c d)) es ∙ letter-wired (seasonOf b) j c (m .gives) READY d in
-        ap₂ result (eo ∙ ap (λ (x : Option (List ℕ)). giving 0 x (given (m .delivers) v)) message) third
-        ∙ voucher-entered k m marks
-        ∙ ap (entered b j c) (ap (taking b h bytes j c p has hp v dv k) marks ∙ taken k (not-send kind f))
+      third : b₃ ≡ b₃′ k m marks
+      third =
+          let next : base + 21 * (1 + 2 * nOf b) + 21 ≡ base + 21 * (2 + 2 * nOf b) = omega arith in
+          let at-slot = ap (λ (x : ℕ). base + 21 * (1 + 2 * x) + 21) en ∙ next ∙ from (deliveredSlot (nOf b)) in
+          e₃ ∙ (λ i. cond (m .delivers) (putSlot (second i) (at-slot i) (ew i)) (second i))
+
+      pub voucher-taken : (kind ≡ 1 → ⊥) → result o b₃ ≡ entered b j c (takes (rulesBy (meant b)) k p v (look b j c))
+      voucher-taken f =
+          let message = ap (λ (x : ℕ). given (m .gives) (wired 3 x j c d)) es ∙ letter-wired (seasonOf b) j c (m .gives) READY d in
+          ap₂ result (eo ∙ ap (λ (x : Option (List ℕ)). giving 0 x (given (m .delivers) v)) message) third
+          ∙ voucher-entered k m marks
+          ∙ ap (entered b j c) (ap (taking b h bytes j c p has hp v dv k) marks ∙ taken k (not-send kind f))

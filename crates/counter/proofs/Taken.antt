@@ -73,7 +73,7 @@ module _ (b : List ℕ) (h : legal b ≡ true) (bytes : Bytes b) (j c p : ℕ) (
   one : (k : Kind) → Stored b (heard-in k) j c (recorded k p v (look b j c))
   one k = stored-heard b h bytes v dv (nOf b) (numbersOf b) refl refl j c (has .number) (has .sender) k p hp
 
-  has-one : (k : Kind) → Has (heard-in k) j c
+  pub has-one : (k : Kind) → Has (heard-in k) j c
   has-one k =
       record {
         is-legal = one k .legal;
@@ -81,7 +81,7 @@ module _ (b : List ℕ) (h : legal b ≡ true) (bytes : Bytes b) (j c p : ℕ) (
         number = omega (arith, one k .numbers, has .number);
       }
 
-  base-one : (k : Kind) → placeIn b j c 0 ≡ placeIn (heard-in k) j c 0
+  pub base-one : (k : Kind) → placeIn b j c 0 ≡ placeIn (heard-in k) j c 0
   base-one k = sym (λ i. slotPlace (one k .n i) (entrySlot (one k .n i) (one k .numbers i) c j 0))
 
   -- the step of a voucher, by its marks

@@ -13,10 +13,10 @@ use Rattle.lot.specs.Declaration.{declarationAt, bytesOf}
 use Rattle.lot.specs.Sheet.{plausible}
 use Rattle.message.specs.Message.{Five, wire, readOf}
 use Rattle.protocol.specs.Entry.{Decl, Kind, SEND, ECHO, READY, Entry, Rules}
-use Rattle.protocol.specs.Steps.{Say, say, Out}
+use Rattle.protocol.specs.Steps.{Say, say, Out, takes}
 use Rattle.protocol.specs.Book.{Call, publishing, receiving, senderOf, numberOf, outcome, place}
 use Rattle.protocol.specs.Thresholds.{rulesOf}
-use Rattle.meaning.specs.Book.{Meaning, meant, write, ownOf, seasonOf}
+use Rattle.meaning.specs.Book.{Meaning, meant, look, write, ownOf, seasonOf}
 use Rattle.meaning.specs.Legal.{legal}
 use Rattle.counter.specs.declared.Outcome.{Outcome}
 
@@ -107,6 +107,11 @@ entered b j c o =
       given = giving (o .answer) (letters (seasonOf b) j c (o .message)) (o .delivery);
       book = write (withEntry (meant b) j c (o .entry));
     }
+
+-- an accepted message of the kind from house p, on the entry of sender j and number c
+unfoldable pub taken : List ℕ → (house : ℕ) → Kind → (sender number : ℕ) → Decl → Result
+unfolding entered rulesBy
+taken b p k j c v = entered b j c (takes (rulesBy (meant b)) k p v (look b j c))
 
 -- a step's outcome at the bytes
 abbrev pub carried : List ℕ → (sender number : ℕ) → Out → Result

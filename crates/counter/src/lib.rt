@@ -7,10 +7,12 @@ ghost use lib.Dec.{leb};
 ghost use lib.ListN.{length};
 ghost use Rattle.lot.specs.Declaration.{bytesOf};
 ghost use Rattle.message.specs.Message.{isKind};
-ghost use Rattle.protocol.specs.Entry.{isNone};
+ghost use Rattle.protocol.specs.Entry.{SEND, isNone};
 ghost use Rattle.protocol.specs.Steps.{given, recording};
 ghost use Rattle.meaning.specs.Slot.{slotAt, putSlot};
-ghost use Rattle.counter.specs.Call.{giving, orZeros, kindOf, wired};
+ghost use Rattle.meaning.specs.Book.{nOf};
+ghost use Rattle.meaning.specs.Legal.{IsDecl};
+ghost use Rattle.counter.specs.Call.{result, giving, orZeros, kindOf, wired, taken};
 ghost use Rattle.meaning.proofs.Stores.{heardSlot};
 ghost use Rattle.counter.specs.Places.{Has, Within, Begins, marksAt};
 use lot::Declaration;
@@ -178,4 +180,39 @@ fn marks_of(book: &[u8], kind: u8, base: usize, d: [u8; 20]) -> Marks
         gives: is_reached(book, sent, counts.amplify, votes),
         delivers: is_reached(book, sent + 21, counts.deliver, votes),
     }
+}
+
+// An accepted SEND is recorded and gives an ECHO of it.
+fn take_send(book: &mut [u8], sender: u8, number: u8, d: Declaration) -> Outcome
+    requires { ⌜ Has (now book) sender number × IsDecl (bytesOf d) ⌝ }
+    ensures { λ r. ⌜ result r (now (book .exit)) ≡ taken (now (book .entry)) sender SEND sender number (bytesOf d) ⌝ }
+{
+    let base = entry_at(book, sender as usize, number as usize);
+    let season = book::season_of(book);
+    book::put_slot(book, base, lot::bytes_of(d));
+    accept(true, 2, season, sender, number, false, d)
+}
+
+// An accepted ECHO or READY is recorded, and marked as its vouchers now say.
+fn take_voucher(
+    book: &mut [u8],
+    house: usize,
+    kind: u8,
+    sender: u8,
+    number: u8,
+    d: Declaration,
+) -> Outcome
+    requires { ⌜ Has (now book) sender number × (house < nOf (now book)) × IsDecl (bytesOf d) × (kind ≡ 1 → ⊥) ⌝ }
+    ensures { λ r. ⌜ result r (now (book .exit)) ≡ taken (now (book .entry)) house (kindOf kind) sender number (bytesOf d) ⌝ }
+{
+    let n = book::n_of(book);
+    let base = entry_at(book, sender as usize, number as usize);
+    let season = book::season_of(book);
+    let v = lot::bytes_of(d);
+    book::put_slot(book, base + 21 * heard_slot(kind, n, house), v);
+    let m = marks_of(book, kind, base, v);
+    let sent = base + 21 * (1 + 2 * n);
+    mark(book, sent, m.gives, v);
+    mark(book, sent + 21, m.delivers, v);
+    accept(m.gives, 3, season, sender, number, m.delivers, d)
 }
