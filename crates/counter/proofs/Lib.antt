@@ -6,3 +6,4 @@ pub mod Taken
 pub mod Room
 pub mod Marking
 pub mod Entered
+pub mod Declarations
