@@ -23,7 +23,7 @@ use Rattle.counter.specs.declared.Marks.{Marks}
 use Rattle.counter.specs.declared.Outcome.{Outcome}
 use Rattle.counter.specs.Call.{Result, result, giving, kindNumber, kindOf, wired, letter, letters, withEntry, entered, rulesBy}
 use Rattle.counter.specs.Places.{placeIn, Has, Within, Begins, marksAt}
-use Rattle.counter.proofs.Seen.{place-along}
+use Rattle.counter.proofs.Seen.{from-base}
 use Rattle.counter.proofs.Room.{begins}
 use Rattle.counter.proofs.Marking.{not-send}
 use Rattle.counter.proofs.Taken.{taking, heard-in, has-one, base-one, echo-taken, ready-taken}
@@ -95,7 +95,7 @@ module _ (b : List ℕ) (h : legal b ≡ true) (bytes : Bytes b) (j c p : ℕ) (
     k = kindOf kind
 
     from : (i : ℕ) → base + 21 * i ≡ placeIn b j c i
-    from i = let z : 0 + i ≡ i = omega arith in ap (λ (x : ℕ). x + 21 * i) (at .is) ∙ place-along b j c has 0 i ∙ ap (placeIn b j c) z
+    from = from-base b j c has base (at .is)
 
     first : b₁ ≡ heard-in b h bytes j c p has hp v dv k
     first =

@@ -7,3 +7,4 @@ pub mod Room
 pub mod Marking
 pub mod Entered
 pub mod Declarations
+pub mod Checking

@@ -42,9 +42,14 @@ module _ (b : List ℕ) (j c : ℕ) (has : Has b j c) where
   published-seen e = ap (λ (e : Entry). e .published) look-in ∙ rw (eq-eqb j (ownOf b) e)
 
   -- the slots of a row follow one another
-  pub place-along : (i p : ℕ) → placeIn b j c i + 21 * p ≡ placeIn b j c (i + p)
+  place-along : (i p : ℕ) → placeIn b j c i + 21 * p ≡ placeIn b j c (i + p)
   unfolding slotPlace entrySlot
   place-along i p = omega arith
+
+  pub from-base : (base : ℕ) → base ≡ placeIn b j c 0 → (i : ℕ) → base + 21 * i ≡ placeIn b j c i
+  from-base base at i =
+      let z : 0 + i ≡ i = omega arith in
+      ap (λ (x : ℕ). x + 21 * i) at ∙ place-along 0 i ∙ ap (placeIn b j c) z
 
   -- the vouchers of a kind for v, counted over its row
   votes-in : (k : Kind) → ((p : ℕ) → heardSlot (nOf b) k 0 + p ≡ heardSlot (nOf b) k p) → (v : Decl)

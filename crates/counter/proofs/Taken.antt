@@ -21,22 +21,19 @@ use Rattle.meaning.proofs.Stores.{Stored, heardSlot, stored-entry, stored-heard
 use Rattle.counter.specs.declared.Marks.{Marks}
 use Rattle.counter.specs.Call.{rulesBy}
 use Rattle.counter.specs.Places.{placeIn, Has, slotFrom, votesFrom, marksAt}
-use Rattle.counter.proofs.Seen.{place-along, sent-seen, delivered-seen, echoes-seen, readies-seen}
+use Rattle.counter.proofs.Seen.{from-base, sent-seen, delivered-seen, echoes-seen, readies-seen}
 
 -- ---- in a book that has the entry, slots from its first one on are the entry's
 
 module _ (b : List ℕ) (j c : ℕ) (has : Has b j c) (base : ℕ) (at : base ≡ placeIn b j c 0) where
-  from : (i : ℕ) → base + 21 * i ≡ placeIn b j c i
-  from i = let z : 0 + i ≡ i = omega arith in ap (λ (x : ℕ). x + 21 * i) at ∙ place-along b j c has 0 i ∙ ap (placeIn b j c) z
-
   sent-from : slotFrom b base (readySentSlot (nOf b)) ≡ look b j c .readySent
-  sent-from = ap (slotAt b) (from (readySentSlot (nOf b))) ∙ sym (sent-seen b j c has)
+  sent-from = ap (slotAt b) (from-base b j c has base at (readySentSlot (nOf b))) ∙ sym (sent-seen b j c has)
 
   delivered-from : slotFrom b base (deliveredSlot (nOf b)) ≡ look b j c .delivered
-  delivered-from = ap (slotAt b) (from (deliveredSlot (nOf b))) ∙ sym (delivered-seen b j c has)
+  delivered-from = ap (slotAt b) (from-base b j c has base at (deliveredSlot (nOf b))) ∙ sym (delivered-seen b j c has)
 
   row-from : (i : ℕ) (v : Decl) → votesFrom b base i v ≡ count (λ p. holds (slotAt b (placeIn b j c i + 21 * p)) v) (nOf b)
-  row-from i v = ap (λ (x : ℕ). count (λ p. holds (slotAt b (x + 21 * p)) v) (nOf b)) (from i)
+  row-from i v = ap (λ (x : ℕ). count (λ p. holds (slotAt b (x + 21 * p)) v) (nOf b)) (from-base b j c has base at i)
 
   marks-echo : (v : Decl) → marksAt b ECHO base v
       ≡ record { gives = reached (countsOf (nOf b) .quorum) (look b j c .readySent) (look b j c .echo) v (nOf b); delivers = false }

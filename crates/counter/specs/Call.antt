@@ -11,12 +11,13 @@ use Rattle.lot.specs.declared.Declaration.{Declaration}
 use Rattle.lot.specs.declared.Sheet.{Sheet}
 use Rattle.lot.specs.Declaration.{declarationAt, bytesOf}
 use Rattle.lot.specs.Sheet.{plausible}
+use Rattle.sheet.specs.Kept.{sheetAt}
 use Rattle.message.specs.Message.{Five, wire, readOf}
-use Rattle.protocol.specs.Entry.{Decl, Kind, SEND, ECHO, READY, Entry, Rules}
-use Rattle.protocol.specs.Steps.{Say, say, Out, takes}
+use Rattle.protocol.specs.Entry.{Decl, Kind, SEND, ECHO, READY, Entry, Rules, heard}
+use Rattle.protocol.specs.Steps.{Say, say, Out, must, may, recording, takes}
 use Rattle.protocol.specs.Book.{Call, publishing, receiving, senderOf, numberOf, outcome, place}
 use Rattle.protocol.specs.Thresholds.{rulesOf}
-use Rattle.meaning.specs.Book.{Meaning, meant, look, write, ownOf, seasonOf}
+use Rattle.meaning.specs.Book.{Meaning, meant, look, write, ownOf, seasonOf, sheetPlace}
 use Rattle.meaning.specs.Legal.{legal}
 use Rattle.counter.specs.declared.Outcome.{Outcome}
 
@@ -112,6 +113,13 @@ entered b j c o =
 unfoldable pub taken : List ℕ → (house : ℕ) → Kind → (sender number : ℕ) → Decl → Result
 unfolding entered rulesBy
 taken b p k j c v = entered b j c (takes (rulesBy (meant b)) k p v (look b j c))
+
+-- the answers of receiving, past those before them: 6, then recording's; and 5 before these
+abbrev pub fromAnswer : List ℕ → (house : ℕ) → Kind → (sender number : ℕ) → Decl → ℕ
+fromAnswer b p k j c v = must (may j k p) 6 (recording (heard k p (look b j c)) v)
+
+abbrev pub lotAnswer : List ℕ → (house : ℕ) → Kind → (sender number : ℕ) → Decl → ℕ
+lotAnswer b p k j c v = must (okBy (sheetAt b sheetPlace) v) 5 (fromAnswer b p k j c v)
 
 -- a step's outcome at the bytes
 abbrev pub carried : List ℕ → (sender number : ℕ) → Out → Result

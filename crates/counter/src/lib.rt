@@ -7,12 +7,13 @@ ghost use lib.Dec.{leb};
 ghost use lib.ListN.{length};
 ghost use Rattle.lot.specs.Declaration.{bytesOf};
 ghost use Rattle.message.specs.Message.{isKind};
-ghost use Rattle.protocol.specs.Entry.{SEND, isNone};
+ghost use Rattle.protocol.specs.Entry.{SEND, heard, isNone};
 ghost use Rattle.protocol.specs.Steps.{given, recording};
+ghost use Rattle.protocol.specs.Book.{receiving};
 ghost use Rattle.meaning.specs.Slot.{slotAt, putSlot};
-ghost use Rattle.meaning.specs.Book.{nOf};
-ghost use Rattle.meaning.specs.Legal.{IsDecl};
-ghost use Rattle.counter.specs.Call.{result, giving, orZeros, kindOf, wired, taken};
+ghost use Rattle.meaning.specs.Book.{nOf, look};
+ghost use Rattle.meaning.specs.Legal.{legal, IsDecl};
+ghost use Rattle.counter.specs.Call.{result, giving, orZeros, kindOf, wired, taken, fromAnswer, lotAnswer, stepOf};
 ghost use Rattle.meaning.proofs.Stores.{heardSlot};
 ghost use Rattle.counter.specs.Places.{Has, Within, Begins, marksAt};
 use lot::Declaration;
@@ -215,4 +216,74 @@ fn take_voucher(
     mark(book, sent, m.gives, v);
     mark(book, sent + 21, m.delivers, v);
     accept(m.gives, 3, season, sender, number, m.delivers, d)
+}
+
+// ---- the order of answers
+
+// 7, or 0.
+fn check_slot(book: &[u8], house: usize, kind: u8, sender: usize, number: usize, v: [u8; 20]) -> u8
+    requires { ⌜ Has (now book) sender number × (house < nOf (now book)) ⌝ }
+    ensures { λ r. ⌜ r ≡ recording (heard (kindOf kind) house (look (now (book .entry)) sender number)) v ⌝ }
+{
+    let base = entry_at(book, sender, number);
+    record_answer(
+        book,
+        base + 21 * heard_slot(kind, book::n_of(book), house),
+        v,
+    )
+}
+
+// 6, then 7, else 0.
+fn check_from(book: &[u8], house: usize, kind: u8, sender: usize, number: usize, v: [u8; 20]) -> u8
+    requires { ⌜ Has (now book) sender number × (house < nOf (now book)) ⌝ }
+    ensures { λ r. ⌜ r ≡ fromAnswer (now (book .entry)) house (kindOf kind) sender number v ⌝ }
+{
+    if kind == 1 {
+        if house == sender {
+            return check_slot(book, house, kind, sender, number, v);
+        }
+        return 6;
+    }
+    check_slot(book, house, kind, sender, number, v)
+}
+
+// 5, then 6, then 7, else 0.
+fn check_lot(
+    book: &[u8],
+    house: usize,
+    kind: u8,
+    sender: usize,
+    number: usize,
+    d: Declaration,
+) -> u8
+    requires { ⌜ Has (now book) sender number × (house < nOf (now book)) × IsDecl (bytesOf d) ⌝ }
+    ensures { λ r. ⌜ r ≡ lotAnswer (now (book .entry)) house (kindOf kind) sender number (bytesOf d) ⌝ }
+{
+    if lot::is_plausible(book::sheet_of(book), d) {
+        return check_from(book, house, kind, sender, number, lot::bytes_of(d));
+    }
+    5
+}
+
+// 4, then 5, 6 and 7, else 0.
+fn check_message(book: &[u8], house: u32, kind: u8, sender: u8, number: u8, d: Declaration) -> u8
+    requires { ⌜ (legal (now book) ≡ true) × IsDecl (bytesOf d) ⌝ }
+    ensures { λ r. ⌜ r ≡ stepOf (now (book .entry)) (receiving house (kindOf kind) sender number (bytesOf d)) .answer ⌝ }
+{
+    let n = book::n_of(book);
+    if (sender as usize) < n {
+        if (number as usize) < book::numbers_of(book) {
+            if (house as usize) < n {
+                return check_lot(
+                    book,
+                    house as usize,
+                    kind,
+                    sender as usize,
+                    number as usize,
+                    d,
+                );
+            }
+        }
+    }
+    4
 }
