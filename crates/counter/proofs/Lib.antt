@@ -8,3 +8,5 @@ pub mod Marking
 pub mod Entered
 pub mod Declarations
 pub mod Checking
+pub mod Carried
+pub mod Received

@@ -76,9 +76,12 @@ kindNumber SEND = 1
 kindNumber ECHO = 2
 kindNumber READY = 3
 
--- the writer's 36 bytes
+-- the five things, and the writer's 36 bytes of them
+abbrev pub fiveOf : (kind season sender number : ℕ) → Declaration → Five
+fiveOf kind season j c d = record { kind = kind; season = season; sender = j; number = c; declaration = d }
+
 abbrev pub wired : (kind season sender number : ℕ) → Declaration → List ℕ
-wired kind season j c d = wire (record { kind = kind; season = season; sender = j; number = c; declaration = d })
+wired kind season j c d = wire (fiveOf kind season j c d)
 
 -- Each message given is the writer's 36 bytes, with the book's season and that entry's sender and number.
 unfoldable pub letter : (season sender number : ℕ) → Say → List ℕ

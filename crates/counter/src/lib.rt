@@ -14,9 +14,11 @@ ghost use Rattle.meaning.specs.Slot.{slotAt, putSlot};
 ghost use Rattle.meaning.specs.Book.{nOf, look};
 ghost use Rattle.meaning.specs.Legal.{legal, IsDecl};
 ghost use Rattle.counter.specs.Call.{result, giving, orZeros, kindOf, wired, taken, fromAnswer, lotAnswer, stepOf};
+ghost use Rattle.counter.specs.Call.{fiveOf, called, heardFrom, received};
 ghost use Rattle.meaning.proofs.Stores.{heardSlot};
 ghost use Rattle.counter.specs.Places.{Has, Within, Begins, marksAt};
 use lot::Declaration;
+use message::Reading;
 
 // What publishing and receiving give. An absent message or declaration is zeros.
 pub struct Outcome {
@@ -286,4 +288,78 @@ fn check_message(book: &[u8], house: u32, kind: u8, sender: u8, number: u8, d: D
         }
     }
     4
+}
+
+// ---- receiving
+
+// A message on a legal book, of the book's season: its answer, and its step where that is 0.
+fn answer_message(
+    book: &mut [u8],
+    house: u32,
+    kind: u8,
+    sender: u8,
+    number: u8,
+    d: Declaration,
+) -> Outcome
+    requires { ⌜ (legal (now book) ≡ true) × IsDecl (bytesOf d) ⌝ }
+    ensures { λ r. ⌜ result r (now (book .exit)) ≡ called (now (book .entry)) (receiving house (kindOf kind) sender number (bytesOf d)) ⌝ }
+{
+    let answer = check_message(book, house, kind, sender, number, d);
+    if answer == 0 {
+        if kind == 1 {
+            return take_send(book, sender, number, d);
+        }
+        return take_voucher(book, house as usize, kind, sender, number, d);
+    }
+    refuse(answer)
+}
+
+// A well-formed message on a legal book, the step behind the legality test: 3 to 7 in order.
+fn hear(
+    book: &mut [u8],
+    house: u32,
+    kind: u8,
+    season: u32,
+    sender: u8,
+    number: u8,
+    d: Declaration,
+) -> Outcome
+    requires { ⌜ (legal (now book) ≡ true) × IsDecl (bytesOf d) ⌝ }
+    ensures { λ r. ⌜ result r (now (book .exit)) ≡ heardFrom (now (book .entry)) house (some (fiveOf kind season sender number d)) ⌝ }
+{
+    if season == book::season_of(book) {
+        return answer_message(book, house, kind, sender, number, d);
+    }
+    refuse(3)
+}
+
+// Receiving: 1 to 7 in order.
+pub fn receive(book: &mut [u8], house: u32, message: &[u8]) -> Outcome
+    ensures { λ r. ⌜ result r (now (book .exit)) ≡ received (now (book .entry)) house (now (message .entry)) ⌝ }
+{
+    if book::is_legal(book) {
+        let Reading::Message {
+            kind,
+            season,
+            sender,
+            number,
+            lot,
+            colonies,
+            kilograms,
+            moisture,
+            conductivity,
+        } = message::read_message(message)
+        else {
+            return refuse(2);
+        };
+        let d = Declaration {
+            lot,
+            colonies,
+            kilograms,
+            moisture,
+            conductivity,
+        };
+        return hear(book, house, kind, season, sender, number, d);
+    }
+    refuse(1)
 }
