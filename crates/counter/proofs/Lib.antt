@@ -10,3 +10,4 @@ pub mod Declarations
 pub mod Checking
 pub mod Carried
 pub mod Received
+pub mod Published

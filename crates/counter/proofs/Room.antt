@@ -10,7 +10,7 @@ use Rattle.meaning.specs.Layout.{perEntry, slotPlace, entrySlot, lengthOf}
 use Rattle.meaning.specs.Book.{nOf, numbersOf, ownOf}
 use Rattle.meaning.specs.Legal.{legal, Legal}
 use Rattle.meaning.proofs.Legality.{legal-facts}
-use Rattle.meaning.proofs.Places.{length-header, slot-within, entry-slot-below, published-slot-below}
+use Rattle.meaning.proofs.Places.{numbers-byte, length-header, slot-within, entry-slot-below, published-slot-below}
 use Rattle.counter.specs.Places.{placeIn, Has, Within, Begins}
 
 pub header-room : (b : List ℕ) → legal b ≡ true → 29 ≤ length b
@@ -46,3 +46,7 @@ begins b j c n s k r has en es ek er small =
 pub published-room : (b : List ℕ) (c : ℕ) → legal b ≡ true → c < numbersOf b → slotPlace (nOf b) c + 21 ≤ length b
 published-room b c h l =
     omega (arith, slot-within (nOf b) (numbersOf b) c (published-slot-below (nOf b) (numbersOf b) c l), legal-facts b h .long)
+
+-- entry numbers are written in one byte
+pub numbers-small : (b : List ℕ) → legal b ≡ true → numbersOf b < 256
+numbers-small b h = numbers-byte (numbersOf b) (legal-facts b h .numbers)

@@ -14,7 +14,7 @@ use Rattle.lot.specs.Sheet.{plausible}
 use Rattle.sheet.specs.Kept.{sheetAt}
 use Rattle.message.specs.Message.{Five, wire, readOf}
 use Rattle.protocol.specs.Entry.{Decl, Kind, SEND, ECHO, READY, Entry, Rules, heard}
-use Rattle.protocol.specs.Steps.{Say, say, Out, must, may, recording, takes}
+use Rattle.protocol.specs.Steps.{Say, say, Out, publishes, must, may, recording, takes}
 use Rattle.protocol.specs.Book.{Call, publishing, receiving, senderOf, numberOf, outcome, place}
 use Rattle.protocol.specs.Thresholds.{rulesOf}
 use Rattle.meaning.specs.Book.{Meaning, meant, look, write, ownOf, seasonOf, sheetPlace}
@@ -116,6 +116,11 @@ entered b j c o =
 unfoldable pub taken : List ℕ → (house : ℕ) → Kind → (sender number : ℕ) → Decl → Result
 unfolding entered rulesBy
 taken b p k j c v = entered b j c (takes (rulesBy (meant b)) k p v (look b j c))
+
+-- an accepted publication at number c
+unfoldable pub publishedAt : List ℕ → (number : ℕ) → Decl → Result
+unfolding entered
+publishedAt b c v = entered b (ownOf b) c (publishes v (look b (ownOf b) c))
 
 -- the answers of receiving, past those before them: 6, then recording's; and 5 before these
 abbrev pub fromAnswer : List ℕ → (house : ℕ) → Kind → (sender number : ℕ) → Decl → ℕ

@@ -9,12 +9,12 @@ ghost use Rattle.lot.specs.Declaration.{bytesOf};
 ghost use Rattle.message.specs.Message.{isKind};
 ghost use Rattle.protocol.specs.Entry.{SEND, heard, isNone};
 ghost use Rattle.protocol.specs.Steps.{given, recording};
-ghost use Rattle.protocol.specs.Book.{receiving};
+ghost use Rattle.protocol.specs.Book.{publishing, receiving};
 ghost use Rattle.meaning.specs.Slot.{slotAt, putSlot};
-ghost use Rattle.meaning.specs.Book.{nOf, look};
+ghost use Rattle.meaning.specs.Book.{nOf, numbersOf, look};
 ghost use Rattle.meaning.specs.Legal.{legal, IsDecl};
 ghost use Rattle.counter.specs.Call.{result, giving, orZeros, kindOf, wired, taken, fromAnswer, lotAnswer, stepOf};
-ghost use Rattle.counter.specs.Call.{fiveOf, called, heardFrom, received};
+ghost use Rattle.counter.specs.Call.{fiveOf, called, heardFrom, received, publishedAt, published};
 ghost use Rattle.meaning.proofs.Stores.{heardSlot};
 ghost use Rattle.counter.specs.Places.{Has, Within, Begins, marksAt};
 use lot::Declaration;
@@ -362,4 +362,65 @@ pub fn receive(book: &mut [u8], house: u32, message: &[u8]) -> Outcome
         return hear(book, house, kind, season, sender, number, d);
     }
     refuse(1)
+}
+
+// ---- publishing
+
+// 4, then 5, then 8, else 0.
+fn check_publication(book: &[u8], number: u32, d: Declaration) -> u8
+    requires { ⌜ (legal (now book) ≡ true) × IsDecl (bytesOf d) ⌝ }
+    ensures { λ r. ⌜ r ≡ stepOf (now (book .entry)) (publishing number (bytesOf d)) .answer ⌝ }
+{
+    if (number as usize) < book::numbers_of(book) {
+        if lot::is_plausible(book::sheet_of(book), d) {
+            if book::is_full(book, book::slot_place(book::n_of(book), number as usize)) {
+                return 8;
+            }
+            return 0;
+        }
+        return 5;
+    }
+    4
+}
+
+// Publishing marks the own entry and gives a SEND.
+fn enter_publication(book: &mut [u8], number: u32, d: Declaration) -> Outcome
+    requires { ⌜ (legal (now book) ≡ true) × (number < numbersOf (now book)) × IsDecl (bytesOf d) ⌝ }
+    ensures { λ r. ⌜ result r (now (book .exit)) ≡ publishedAt (now (book .entry)) number (bytesOf d) ⌝ }
+{
+    let own = book::own_of(book);
+    let season = book::season_of(book);
+    let at = book::slot_place(book::n_of(book), number as usize);
+    book::put_slot(book, at, lot::bytes_of(d));
+    accept(true, 1, season, own as u8, number as u8, false, d)
+}
+
+// A publication on a legal book: 4, 5, 8.
+fn publish_legal(book: &mut [u8], number: u32, d: Declaration) -> Outcome
+    requires { ⌜ (legal (now book) ≡ true) × IsDecl (bytesOf d) ⌝ }
+    ensures { λ r. ⌜ result r (now (book .exit)) ≡ called (now (book .entry)) (publishing number (bytesOf d)) ⌝ }
+{
+    let answer = check_publication(book, number, d);
+    if answer == 0 {
+        return enter_publication(book, number, d);
+    }
+    refuse(answer)
+}
+
+// Publishing a slice of 20 bytes.
+fn publish_slice(book: &mut [u8], number: u32, declaration: &[u8]) -> Outcome
+    requires { ⌜ length (now declaration) ≡ 20 ⌝ }
+    ensures { λ r. ⌜ result r (now (book .exit)) ≡ published (now (book .entry)) number (now (declaration .entry)) ⌝ }
+{
+    if book::is_legal(book) {
+        return publish_legal(book, number, lot::declaration_at(declaration, 0));
+    }
+    refuse(1)
+}
+
+// Publishing: 1, 4, 5, 8.
+pub fn publish(book: &mut [u8], number: u32, declaration: &[u8; 20]) -> Outcome
+    ensures { λ r. ⌜ result r (now (book .exit)) ≡ published (now (book .entry)) number (now (declaration .entry)) ⌝ }
+{
+    publish_slice(book, number, declaration)
 }
