@@ -11,3 +11,4 @@ pub mod Checking
 pub mod Carried
 pub mod Received
 pub mod Published
+pub mod Searching

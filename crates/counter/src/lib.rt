@@ -17,6 +17,7 @@ ghost use Rattle.counter.specs.Call.{result, giving, orZeros, kindOf, wi
 ghost use Rattle.counter.specs.Call.{fiveOf, called, heardFrom, received, publishedAt, published};
 ghost use Rattle.meaning.proofs.Stores.{heardSlot};
 ghost use Rattle.counter.specs.Places.{Has, Within, Begins, marksAt};
+ghost use Rattle.counter.specs.Search.{waits, earliest, placeOf, waiting};
 use lot::Declaration;
 use message::Reading;
 
@@ -423,4 +424,70 @@ pub fn publish(book: &mut [u8], number: u32, declaration: &[u8; 20]) -> Outcome
     ensures { λ r. ⌜ result r (now (book .exit)) ≡ published (now (book .entry)) number (now (declaration .entry)) ⌝ }
 {
     publish_slice(book, number, declaration)
+}
+
+// ---- the earliest waiting entry
+
+// The number and the sender of an entry, or a plain none.
+pub enum Found {
+    At(usize, usize),
+    Nothing,
+}
+
+// With a SEND heard and nothing delivered.
+fn waits_at(book: &[u8], sender: usize, number: usize) -> bool
+    requires { ⌜ Has (now book) sender number ⌝ }
+    ensures { λ r. ⌜ r ≡ waits (now (book .entry)) sender number ⌝ }
+{
+    let base = entry_at(book, sender, number);
+    if book::is_full(book, base) {
+        return !book::is_full(book, base + 21 * (2 + 2 * book::n_of(book)));
+    }
+    false
+}
+
+// Lowest number first and then lowest sender.
+fn search(book: &[u8], n: usize, s: usize) -> Found
+    requires { ⌜ (legal (now book) ≡ true) × (n ≡ nOf (now book)) × (s ≡ numbersOf (now book)) ⌝ }
+    ensures { λ r. ⌜ placeOf r ≡ earliest (now (book .entry)) ⌝ }
+{
+    let mut found = Found::Nothing;
+    'search: for number in 0..s {
+        for sender in 0..n {
+            if waits_at(book, sender, number) {
+                found = Found::At(number, sender);
+                break 'search;
+            }
+        }
+    }
+    found
+}
+
+// The earliest waiting entry, or a plain none, or answer 1.
+pub fn earliest_waiting(book: &[u8]) -> Waiting
+    ensures { λ r. ⌜ r ≡ waiting (now (book .entry)) ⌝ }
+{
+    if book::is_legal(book) {
+        let Found::At(number, sender) = search(book, book::n_of(book), book::numbers_of(book))
+        else {
+            return Waiting {
+                answer: 0,
+                waits: false,
+                number: 0,
+                sender: 0,
+            };
+        };
+        return Waiting {
+            answer: 0,
+            waits: true,
+            number: number as u8,
+            sender: sender as u8,
+        };
+    }
+    Waiting {
+        answer: 1,
+        waits: false,
+        number: 0,
+        sender: 0,
+    }
 }
