@@ -12,3 +12,4 @@ pub mod Meant
 pub mod Numbered
 pub mod Every
 pub mod Opening
+pub mod Example
