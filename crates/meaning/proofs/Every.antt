@@ -1,7 +1,8 @@
--- For every meaning that a book may have there are legal bytes that mean exactly that.
+-- For every meaning that a book may have there are legal bytes that mean exactly that; and legal bytes are no others.
 -- Assumes nothing.
 use Prim.Native.Nat.{ℕ, _*_, _<_}
 use mathlib.Core.Path.{_≡_, refl, sym, ap, _∙_}
+use mathlib.Core.Logic.{_↔_}
 use mathlib.Core.Bool.{true}
 use mathlib.Core.List.{List, _∷_, _++_}
 use native.Mathlib.Omega.{arith}
@@ -24,6 +25,8 @@ use Rattle.meaning.proofs.Places.{numbers-byte}
 use Rattle.meaning.proofs.Slots.{slot-part, ok-part, slot-of-bytes, ok-of-bytes, slot-bytes-length, slot-bytes-bytes}
 use Rattle.meaning.proofs.Entries.{entriesIn, look-is, entries-same}
 use Rattle.meaning.proofs.Rows.{rows-length, part-rows, rows-bytes}
+use Rattle.meaning.proofs.OneForm.{written}
+use Rattle.meaning.proofs.Meant.{meant-is-book}
 use Rattle.meaning.proofs.Written.{withEntries, write-slots}
 use Rattle.meaning.proofs.Numbered.{slotsOf, slots-are-slots, slots-entries}
 
@@ -147,3 +150,8 @@ module _ (B : Meaning) (ok : IsBook B) where
   written-bytes =
       rw written-slots
       (bytes-append top (rows all each) top-bytes (rows-bytes all each (λ k l. slot-bytes-bytes (slotsOf B k) (slots-are-slots B ok k))))
+
+-- legal means just that: the bytes of some meaning that a book may have
+pub legal-exactly : (b : List ℕ) → Bytes b → (legal b ≡ true) ↔ ((B : Meaning) × IsBook B × (b ≡ write B))
+legal-exactly b bytes =
+    (λ h. (meant b, meant-is-book b h bytes, sym (written b h bytes)), λ m. rw (m .2) (written-legal (m .0) (m .1)))
