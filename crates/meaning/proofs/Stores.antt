@@ -203,11 +203,11 @@ module _ (b : List ℕ) (h : legal b ≡ true) (bytes : Bytes b) (v : Decl) (d :
 
   -- ---- the stores that calls make, with the book's n and S as the caller has them
 
-  module _ (n s : ℕ) (en : nOf b ≡ n) (es : numbersOf b ≡ s) (j c : ℕ) (hc : c < s) where
-    pub stored-published : j ≡ ownOf b → Stored b (putSlot b (slotPlace n c) v) j c (publishes v (look b j c) .entry)
-    stored-published e = subst₂ InPublished en es in-published j c e hc
+  module _ (n s : ℕ) (en : nOf b ≡ n) (es : numbersOf b ≡ s) (j c : ℕ) where
+    pub stored-published : j ≡ ownOf b → c < s → Stored b (putSlot b (slotPlace n c) v) j c (publishes v (look b j c) .entry)
+    stored-published e hc = subst₂ InPublished en es in-published j c e hc
 
-    module _ (hj : j < n) where
+    module _ (hj : j < n) (hc : c < s) where
       stored-in : (i : ℕ) (f : Entry → Entry) → i < perEntry n
           → ((row : ℕ → Option Decl) (o : Option Decl) → entryFrom n (upd row i (some v)) o ≡ f (entryFrom n row o))
           → Stored b (putSlot b (slotPlace n (entrySlot n s c j i)) v) j c (f (look b j c))
@@ -237,7 +237,7 @@ module _ (b : List ℕ) (h : legal b ≡ true) (bytes : Bytes b) (v : Decl) (d :
 -- ---- a message's stores: recorded, the READY sent marked or not, the delivered marked or not
 
 module _ (b : List ℕ) (h : legal b ≡ true) (bytes : Bytes b) (v : Decl) (d : IsDecl v) (n s : ℕ) (en : nOf b ≡ n) (es : numbersOf b ≡ s)
-    (j c : ℕ) (hc : c < s) (hj : j < n) (k : Kind) (p : ℕ) (hp : p < n) (r t : Bool) where
+    (j c : ℕ) (hj : j < n) (hc : c < s) (k : Kind) (p : ℕ) (hp : p < n) (r t : Bool) where
   abbrev b₁ : List ℕ
   b₁ = putSlot b (slotPlace n (entrySlot n s c j (heardSlot n k p))) v
 
@@ -249,8 +249,8 @@ module _ (b : List ℕ) (h : legal b ≡ true) (bytes : Bytes b) (v : Decl) (d :
 
   pub stored-taken : Stored b b₃ j c (marked r t v (recorded k p v (look b j c)))
   stored-taken =
-      let one = stored-heard b h bytes v d n s en es j c hc hj k p hp in
-      let two = stored-ready-sent b₁ (one .legal) (one .bytes) v d n s (one .n ∙ en) (one .numbers ∙ es) j c hc hj r in
+      let one = stored-heard b h bytes v d n s en es j c hj hc k p hp in
+      let two = stored-ready-sent b₁ (one .legal) (one .bytes) v d n s (one .n ∙ en) (one .numbers ∙ es) j c hj hc r in
       let both = stored-then b j c (marked r false v) b₁ b₂ (recorded k p v (look b j c)) one two in
-      let three = stored-delivered b₂ (both .legal) (both .bytes) v d n s (both .n ∙ en) (both .numbers ∙ es) j c hc hj t in
+      let three = stored-delivered b₂ (both .legal) (both .bytes) v d n s (both .n ∙ en) (both .numbers ∙ es) j c hj hc t in
       stored-then b j c (marked false t v) b₂ b₃ (marked r false v (recorded k p v (look b j c))) both three
