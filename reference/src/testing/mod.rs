@@ -1,0 +1,1 @@
+//! Checks of any library that has the eight calls.
