@@ -1,4 +1,14 @@
-//! The bytes of a book: its header, then what this house published, then its entries, slot by slot.
+//! The bytes of a book: one form for each meaning, and a length that depends on n and S only.
+//!
+//! | bytes | what |
+//! |-|-|
+//! | 1, 1, 1, 4 | n, S, own number, season |
+//! | 22 | the sheet: cap (4), and for moisture and conductivity a gate: kind (1), low (4), high (4) |
+//! | 21 S | a slot for what this house published, by number |
+//! | 21 (2n+3) Sn | the entries, number first and then sender |
+//!
+//! An entry is 2n+3 slots: SEND, ECHO from each house, READY from each house, READY sent, delivered.
+//! Numbers are big-endian.
 
 use crate::answer::{ACCEPTED, NOT_ALLOWED, OTHER_LENGTH, SHEET_NOT_LEGAL};
 use crate::card::{MOST_HOUSES, MOST_NUMBERS};

@@ -9,6 +9,11 @@ fn refusals_change_and_carry_nothing() {
 }
 
 #[test]
+fn noise_is_refused() {
+    refusals::noise(&mut Reference, 2031, 20_000);
+}
+
+#[test]
 fn openings_write_all_or_nothing() {
     refusals::openings(&mut Reference, 2027, 4_000);
 }

@@ -19,15 +19,19 @@ struct Receiving {
 type Error<T> = (u8, &'static str, fn(&mut T));
 
 /// The errors of receiving. Where two touch the same field, they make both errors in this order.
-const RECEIVING: [Error<Receiving>; 11] = [
+const RECEIVING: [Error<Receiving>; 15] = [
     (7, "ECHO again", |r| (r.kind, r.house) = (2, 0)),
     (7, "READY again", |r| (r.kind, r.house) = (3, 3)),
     (7, "SEND again", |r| (r.kind, r.house) = (1, 2)),
     (6, "not the sender", |r| (r.kind, r.house) = (1, 3)),
     (5, "kilograms", |r| r.kilograms = 801),
     (4, "house", |r| r.house = 4),
+    (4, "house, beyond a byte", |r| r.house = 257),
+    (4, "house, the largest", |r| r.house = u32::MAX),
     (4, "sender", |r| r.sender = 4),
+    (4, "sender, the largest", |r| r.sender = 255),
     (4, "number", |r| r.number = 2),
+    (4, "number, the largest", |r| r.number = 255),
     (3, "season", |r| r.season = SEASON - 1),
     (2, "cut", |r| r.cut = true),
     (1, "book", |r| r.damaged = true),

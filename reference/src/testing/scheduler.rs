@@ -120,9 +120,11 @@ fn some_houses(random: &mut Random, n: u8, count: usize) -> Vec<usize> {
     houses
 }
 
-/// So many seasons of n houses with at most t wrong; and with more, for what holds with any number.
-pub fn seasons(library: &mut impl Library, seed: u64, n: u8, s: u8, count: u64) {
+/// So many seasons of n houses with at most t wrong; and with more, for what holds with any number. Gives
+/// how many deliveries there were on entries of wrong senders, so that one can see that they took part.
+pub fn seasons(library: &mut impl Library, seed: u64, n: u8, s: u8, count: u64) -> usize {
     let t = super::rows::CARD[usize::from(n) - 1].0;
+    let mut of_wrong = 0;
     for round in 0..count {
         let mut random = Random::new(seed + round);
         let wrong = match random.below(4) {
@@ -131,9 +133,11 @@ pub fn seasons(library: &mut impl Library, seed: u64, n: u8, s: u8, count: u64) 
             _ => t,
         };
         let wrong = some_houses(&mut random, n, wrong);
-        let rules = Rules::new(n, s, &wrong);
-        run(library, &mut random, rules).check();
+        let mut season = run(library, &mut random, Rules::new(n, s, &wrong));
+        season.check();
+        of_wrong += season.deliveries_of_wrong();
     }
+    of_wrong
 }
 
 /// Of so many seasons with two wrong houses of four, on how many entries two honest houses disagree. What

@@ -348,6 +348,16 @@ impl<'l, L: Library> Season<'l, L> {
         apart.map(|(entry, _)| entry).collect()
     }
 
+    /// How many deliveries there were on the entries of wrong senders.
+    pub fn deliveries_of_wrong(&self) -> usize {
+        let entries = self.seen.iter().enumerate();
+        let of_wrong =
+            entries.filter(|(entry, _)| self.rules.wrong[entry % self.rules.wrong.len()]);
+        of_wrong
+            .map(|(_, seen)| seen.delivered.iter().flatten().count())
+            .sum()
+    }
+
     /// All faults: what the steps showed, and with at most t wrong houses agreement, authenticity and,
     /// once nothing is pending, delivery and the counts of copies.
     pub fn findings(&mut self) -> Vec<Finding> {
