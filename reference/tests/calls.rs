@@ -1,6 +1,6 @@
 //! Single calls on all kinds of books and messages.
 
-use reference::testing::{books, refusals, trips};
+use reference::testing::{books, openings, refusals, trips};
 use reference::Reference;
 
 #[test]
@@ -10,12 +10,17 @@ fn refusals_change_and_carry_nothing() {
 
 #[test]
 fn noise_is_refused() {
-    refusals::noise(&mut Reference, 2031, 20_000);
+    books::noise(&mut Reference, 2031, 20_000);
+}
+
+#[test]
+fn lengths_of_books() {
+    openings::lengths(&mut Reference);
 }
 
 #[test]
 fn openings_write_all_or_nothing() {
-    refusals::openings(&mut Reference, 2027, 4_000);
+    openings::openings(&mut Reference, 2027, 4_000);
 }
 
 #[test]

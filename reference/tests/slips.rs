@@ -1,9 +1,10 @@
 //! Libraries with a slip each, to see that the checks see it.
 
 use reference::testing::both::Both;
+use reference::testing::claims::Fault;
 use reference::testing::random::Random;
 use reference::testing::scheduler;
-use reference::testing::season::{Fault, Rules};
+use reference::testing::season::Rules;
 use reference::{Declaration, Library, Message, Outcome, ReadAnswer, Reference, Waiting, Written};
 
 #[derive(Clone, Copy, Debug, PartialEq)]

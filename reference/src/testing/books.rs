@@ -1,6 +1,8 @@
 //! Which bytes are a legal book, and the earliest waiting entry of any legal book.
 
-use super::forms::{fresh_book, honey, message, open_sheet, random_book, random_pool, SEASON};
+use super::forms::{
+    fresh_book, honey, message, open_sheet, random_book, random_declaration, random_pool, SEASON,
+};
 use super::random::Random;
 use crate::Library;
 
@@ -106,4 +108,48 @@ pub fn waiting(library: &mut impl Library, seed: u64, books: usize) {
         found[0] > 0 && found[1] > 0,
         "too few books to tell: {found:?}"
     );
+}
+
+/// Bytes with no form at all, or with the head of a book and no form after it, in every place that takes
+/// bytes: no call may fail to answer, and no buffer changes at a refusal.
+pub fn noise(library: &mut impl Library, seed: u64, calls: usize) {
+    let mut random = Random::new(seed);
+    for _ in 0..calls {
+        let lengths = [0, 1, 28, 29, 30, 50, 155, 1_000].map(|most| random.below(most + 1));
+        let length = random.pick(&lengths);
+        let mut book = random.bytes(length);
+        let head = [1 + random.below(3) as u8, 1, 0];
+        if random.chance(1, 2) && book.len() >= head.len() {
+            book[..head.len()].copy_from_slice(&head);
+        }
+        spoil(&mut book, 11);
+        let before = book.clone();
+        let length = random.below(65);
+        let mut bytes = random.bytes(length);
+        spoil(&mut bytes, 4);
+        let declaration = random_declaration(&mut random);
+        let answers = [
+            library
+                .publish(&mut book, random.word(), &declaration)
+                .answer,
+            library.receive(&mut book, random.word(), &bytes).answer,
+            library.waiting(&book).answer,
+        ];
+        assert_eq!(answers, [1; 3], "noise is no legal book");
+        let opened = library.open(&mut book, 4, random.word(), 0, random.word(), &bytes);
+        assert!(opened != 0 && book == before, "noise is no legal sheet");
+        assert_eq!(
+            library.judge(&bytes, &declaration),
+            10,
+            "noise is no legal sheet"
+        );
+        assert_eq!(library.read(&bytes).answer, 2, "noise is malformed");
+    }
+}
+
+/// Makes sure that noise is noise: no kind of a gate and no tag is above 127.
+fn spoil(bytes: &mut [u8], place: usize) {
+    if let Some(byte) = bytes.get_mut(place) {
+        *byte |= 0x80;
+    }
 }

@@ -103,6 +103,14 @@ pub fn fresh_book(n: u8, s: u8, own: u8, season: u32, sheet: &[u8; SHEET]) -> Ve
     book
 }
 
+/// A number below `bound`, or at times one that is not.
+pub fn random_number(random: &mut Random, bound: u8) -> u32 {
+    match random.below(8) {
+        0 => random.pick(&[u32::from(bound), 255, 256, u32::MAX, 1 << 31]),
+        _ => random.below(usize::from(bound)) as u32,
+    }
+}
+
 /// Bits of a reading: an edge, a usual one, or any.
 pub fn random_reading(random: &mut Random) -> u32 {
     match random.below(4) {

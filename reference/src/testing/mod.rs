@@ -3,7 +3,9 @@
 
 pub mod books;
 pub mod both;
+pub mod claims;
 pub mod forms;
+pub mod openings;
 pub mod pairs;
 pub mod random;
 pub mod readings;

@@ -1,7 +1,7 @@
 //! Calls of all kinds on any legal book: a refusal changes and carries nothing, an accepted call changes
 //! the named entry alone, and what other entries hold makes no difference.
 
-use super::forms::{message, random_book, random_declaration, random_pool};
+use super::forms::{message, random_book, random_declaration, random_number, random_pool};
 use super::random::Random;
 use crate::{Declaration, Library, Outcome};
 use std::ops::Range;
@@ -58,14 +58,7 @@ impl Named {
     }
 }
 
-/// A number below `bound`, or at times one that is not.
-fn random_number(random: &mut Random, bound: u8) -> u32 {
-    match random.below(8) {
-        0 => random.pick(&[u32::from(bound), 255, 256, u32::MAX, 1 << 31]),
-        _ => random.below(usize::from(bound)) as u32,
-    }
-}
-
+/// A publishing, or a receiving of a message that is often right.
 fn random_call(random: &mut Random, book: &[u8], pool: &[Declaration]) -> Call {
     let (n, s) = (book[0].max(1), book[1].max(1));
     let declaration = match random.below(6) {
@@ -233,100 +226,4 @@ pub fn calls(library: &mut impl Library, seed: u64, books: usize) {
         seen && given > 0 && delivered > 0,
         "too few calls to tell: {answers:?}"
     );
-}
-
-/// Openings of all kinds: what is refused leaves the buffer, what is accepted writes all of it.
-pub fn openings(library: &mut impl Library, seed: u64, openings: usize) {
-    let mut random = Random::new(seed);
-    let mut answers = [0usize; 12];
-    for _ in 0..openings {
-        let n = 1 + random_number(&mut random, 16);
-        let s = 1 + random_number(&mut random, 4);
-        let own = random_number(&mut random, n.clamp(1, 16) as u8);
-        let season = random.word();
-        let mut sheet = super::forms::random_sheet(&mut random).to_vec();
-        match random.below(8) {
-            0 => sheet = random.bytes(22),
-            1 => sheet.truncate(random.below(22)),
-            2 => sheet[random.below(2) * 9 + 4] = random.byte(),
-            _ => (),
-        }
-        let (allowed, length) = library.length(n, s);
-        let expected = (1..=16).contains(&n) && (1..=4).contains(&s);
-        assert_eq!(
-            allowed,
-            if expected { 0 } else { 9 },
-            "length of {n} and {s}"
-        );
-        assert!(
-            length <= 49_152 && (expected || length == 0),
-            "length of {n} and {s}"
-        );
-        let buffer = match random.below(8) {
-            0 => random.below(50_000),
-            1 => length.saturating_sub(1),
-            2 => length + 1,
-            _ => length,
-        };
-        let mut book = random.bytes(buffer);
-        let before = book.clone();
-        let answer = library.open(&mut book, n, s, own, season, &sheet);
-        answers[usize::from(answer)] += 1;
-        if answer == 0 {
-            let sheet = sheet
-                .as_slice()
-                .try_into()
-                .expect("a legal sheet has 22 bytes");
-            let fresh = super::forms::fresh_book(n as u8, s as u8, own as u8, season, sheet);
-            assert!(book == fresh, "opening writes the whole buffer");
-        } else {
-            assert!(book == before, "opening is refused by {answer} and writes");
-        }
-    }
-    let seen = [0, 9, 10, 11].iter().all(|&answer| answers[answer] > 0);
-    assert!(seen, "too few openings to tell: {answers:?}");
-}
-
-/// Bytes with no form at all, or with the head of a book and no form after it, in every place that takes
-/// bytes: no call may fail to answer, and no buffer changes at a refusal.
-pub fn noise(library: &mut impl Library, seed: u64, calls: usize) {
-    let mut random = Random::new(seed);
-    for _ in 0..calls {
-        let lengths = [0, 1, 28, 29, 30, 50, 155, 1_000].map(|most| random.below(most + 1));
-        let length = random.pick(&lengths);
-        let mut book = random.bytes(length);
-        let head = [1 + random.below(3) as u8, 1, 0];
-        if random.chance(1, 2) && book.len() >= head.len() {
-            book[..head.len()].copy_from_slice(&head);
-        }
-        spoil(&mut book, 11);
-        let before = book.clone();
-        let length = random.below(65);
-        let mut bytes = random.bytes(length);
-        spoil(&mut bytes, 4);
-        let declaration = random_declaration(&mut random);
-        let answers = [
-            library
-                .publish(&mut book, random.word(), &declaration)
-                .answer,
-            library.receive(&mut book, random.word(), &bytes).answer,
-            library.waiting(&book).answer,
-        ];
-        assert_eq!(answers, [1; 3], "noise is no legal book");
-        let opened = library.open(&mut book, 4, random.word(), 0, random.word(), &bytes);
-        assert!(opened != 0 && book == before, "noise is no legal sheet");
-        assert_eq!(
-            library.judge(&bytes, &declaration),
-            10,
-            "noise is no legal sheet"
-        );
-        assert_eq!(library.read(&bytes).answer, 2, "noise is malformed");
-    }
-}
-
-/// Makes sure that noise is noise: no kind of a gate and no tag is above 127.
-fn spoil(bytes: &mut [u8], place: usize) {
-    if let Some(byte) = bytes.get_mut(place) {
-        *byte |= 0x80;
-    }
 }

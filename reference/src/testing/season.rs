@@ -1,8 +1,9 @@
-//! A season: honest houses that make the calls, wrong houses that hand in any bytes, and the claims of
-//! document 01 held to what was seen from outside. No book is looked into.
+//! A season: honest houses that make the calls, and wrong houses that hand in any bytes. What is seen of
+//! it from outside is kept; no book is looked into.
 
+use super::claims::{Fault, Finding, Seen};
 use super::forms::{sheet, SEASON};
-use crate::{Counts, Declaration, Gate, Kind, Library, Message, Outcome, SHEET};
+use crate::{Declaration, Gate, Kind, Library, Message, Outcome, SHEET};
 use std::collections::VecDeque;
 
 /// How a season is set up.
@@ -55,66 +56,15 @@ pub struct Sent {
     entry: usize,
 }
 
-/// What a season may be found to have done wrong.
-#[derive(Clone, Copy, Debug, PartialEq, Eq)]
-pub enum Fault {
-    /// More copies than document 01 bounds: n of SEND, hn of ECHO, hn of READY on one entry.
-    TooManyCopies,
-    /// An honest house's copy was not accepted.
-    HonestCopyRefused,
-    /// A refusal changed the book, or carried a message or a delivery.
-    UncleanRefusal,
-    /// A call gave what no step of document 01 gives.
-    NoSuchStep,
-    /// A house delivered twice on one entry.
-    DeliveredTwice,
-    /// A house delivered an implausible declaration.
-    Implausible,
-    /// The earliest waiting entry is another.
-    Waiting,
-    /// Two honest houses delivered different declarations on one entry.
-    Disagreement,
-    /// A delivery on an honest sender's entry of what it had not published.
-    NotPublished,
-    /// Drained, and an honest house had not delivered what it has to.
-    NotDelivered,
-    /// Drained, and the copies were not as many as they have to be.
-    OtherCount,
-}
-
-/// A fault, and where it was seen.
-#[derive(Clone, Debug)]
-pub struct Finding {
-    /// What was wrong.
-    pub fault: Fault,
-    /// At which entry or house.
-    pub place: String,
-}
-
-/// What was seen of one entry.
-#[derive(Clone, Default)]
-struct Seen {
-    /// The accepted publication.
-    published: Option<Declaration>,
-    /// For each house, whether it accepted a SEND.
-    heard: Vec<bool>,
-    /// For each house, what it delivered first.
-    delivered: Vec<Option<Declaration>>,
-    /// Copies of SEND, ECHO and READY that honest houses sent.
-    copies: [usize; 3],
-    /// Copies between honest houses that were consumed.
-    consumed: usize,
-}
-
 /// A season under way.
 pub struct Season<'l, L> {
-    library: &'l mut L,
-    rules: Rules,
-    books: Vec<Vec<u8>>,
+    pub(super) library: &'l mut L,
+    pub(super) rules: Rules,
+    pub(super) books: Vec<Vec<u8>>,
     copies: Vec<Sent>,
     pending: VecDeque<usize>,
-    seen: Vec<Seen>,
-    findings: Vec<Finding>,
+    pub(super) seen: Vec<Seen>,
+    pub(super) findings: Vec<Finding>,
 }
 
 impl<'l, L: Library> Season<'l, L> {
@@ -208,6 +158,9 @@ impl<'l, L: Library> Season<'l, L> {
             );
             self.find(Fault::HonestCopyRefused, place);
         }
+        if self.is_overdue(copy.entry) {
+            self.find(Fault::NotDelivered, format!("entry {} in time", copy.entry));
+        }
         answer
     }
 
@@ -217,8 +170,7 @@ impl<'l, L: Library> Season<'l, L> {
             .rules
             .wrong
             .get(under as usize)
-            .copied()
-            .unwrap_or(true);
+            .is_none_or(|wrong| *wrong);
         assert!(wrong, "nobody speaks under the number of an honest house");
         self.receive(house, under, bytes)
     }
@@ -335,111 +287,5 @@ impl<'l, L: Library> Season<'l, L> {
 
     fn find(&mut self, fault: Fault, place: String) {
         self.findings.push(Finding { fault, place });
-    }
-
-    /// The entries on which two honest houses delivered different declarations.
-    pub fn disagreements(&self) -> Vec<usize> {
-        let entries = self.seen.iter().enumerate();
-        let apart = entries.filter(|(_, seen)| {
-            let mut deliveries = seen.delivered.iter().flatten();
-            let first = deliveries.next();
-            deliveries.any(|other| Some(other) != first)
-        });
-        apart.map(|(entry, _)| entry).collect()
-    }
-
-    /// How many deliveries there were on the entries of wrong senders.
-    pub fn deliveries_of_wrong(&self) -> usize {
-        let entries = self.seen.iter().enumerate();
-        let of_wrong =
-            entries.filter(|(entry, _)| self.rules.wrong[entry % self.rules.wrong.len()]);
-        of_wrong
-            .map(|(_, seen)| seen.delivered.iter().flatten().count())
-            .sum()
-    }
-
-    /// All faults: what the steps showed, and with at most t wrong houses agreement, authenticity and,
-    /// once nothing is pending, delivery and the counts of copies.
-    pub fn findings(&mut self) -> Vec<Finding> {
-        let mut all = self.findings.clone();
-        for house in self.rules.honest() {
-            let waits = |seen: &&Seen| seen.heard[house] && seen.delivered[house].is_none();
-            let expected = self.seen.iter().position(|seen| waits(&seen));
-            let waiting = self.library.waiting(&self.books[house]);
-            let n = usize::from(self.rules.n);
-            let named = waiting
-                .entry
-                .map(|e| usize::from(e.number) * n + usize::from(e.sender));
-            if (waiting.answer, named) != (0, expected) {
-                let place = format!("{waiting:?} at house {house}");
-                all.push(Finding {
-                    fault: Fault::Waiting,
-                    place,
-                });
-            }
-        }
-        let wrong = self.rules.wrong.iter().filter(|&&wrong| wrong).count();
-        if wrong <= Counts::of(usize::from(self.rules.n)).tolerated {
-            let mut faults: Vec<(usize, Fault)> = vec![];
-            let apart = self.disagreements().into_iter();
-            faults.extend(apart.map(|entry| (entry, Fault::Disagreement)));
-            for entry in 0..self.seen.len() {
-                faults.extend(self.entry_faults(entry).map(|fault| (entry, fault)));
-            }
-            all.extend(faults.into_iter().map(|(entry, fault)| Finding {
-                fault,
-                place: format!("entry {entry}"),
-            }));
-        }
-        all
-    }
-
-    /// What is wrong with one entry, with at most t wrong houses.
-    fn entry_faults(&self, entry: usize) -> impl Iterator<Item = Fault> {
-        let (n, honest) = (usize::from(self.rules.n), self.rules.honest());
-        let h = honest.len();
-        let seen = &self.seen[entry];
-        let delivered: Vec<_> = honest.iter().map(|&house| seen.delivered[house]).collect();
-        let some = delivered.iter().any(Option::is_some);
-        let all = delivered.iter().all(Option::is_some);
-        let drained = self.pending.is_empty();
-        let honest_sender = !self.rules.wrong[entry % n];
-        let published = seen.published.is_some();
-        let mut foreign = delivered
-            .iter()
-            .flatten()
-            .filter(|v| seen.published != Some(**v));
-        let whole = seen.copies == [n, h * n, h * n] && seen.consumed == h + 2 * h * h;
-        [
-            (
-                honest_sender && foreign.next().is_some(),
-                Fault::NotPublished,
-            ),
-            (
-                drained && honest_sender && published && !all,
-                Fault::NotDelivered,
-            ),
-            (
-                drained && honest_sender && published && !whole,
-                Fault::OtherCount,
-            ),
-            (
-                honest_sender && !published && seen.copies != [0; 3],
-                Fault::OtherCount,
-            ),
-            (drained && some && !all, Fault::NotDelivered),
-            (
-                drained && some && seen.copies[2] != h * n,
-                Fault::OtherCount,
-            ),
-        ]
-        .into_iter()
-        .filter_map(|(wrong, fault)| wrong.then_some(fault))
-    }
-
-    /// Panics where there is a fault.
-    pub fn check(&mut self) {
-        let findings = self.findings();
-        assert!(findings.is_empty(), "{:?}: {findings:#?}", self.rules);
     }
 }
