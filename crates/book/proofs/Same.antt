@@ -1,12 +1,12 @@
 -- Twenty bytes are the same exactly when their words are.
 -- Assumes nothing.
-use Prim.Native.Nat.{ℕ, _+_, _*_, _^_, _<_, _≤_}
+use Prim.Native.Nat.{ℕ, zero, suc, _+_, _*_, _^_, _<_, _≤_}
 use mathlib.Core.Path.{_≡_, refl, sym, ap, _∙_}
 use mathlib.Core.Bool.{Bool, true, false}
 use mathlib.Core.List.{List}
 use native.Mathlib.Omega.{arith}
 use lib.Dec.{T, eqb}
-use lib.ListN.{length, getD, take, drop, length-take, length-drop, List·getD-eq-default}
+use lib.ListN.{length, getD, replicate, length-take, length-drop, List·getD-eq-default}
 use native.Mathlib.Decide.{decLt}
 use lib.Seq.{getD-take, getD-drop}
 use borrow.Author.Tests.{eqb-true, eqb-false}
@@ -123,3 +123,9 @@ module _ (b d : List ℕ) (at : ℕ) (h : at + 20 ≤ length b) (l : length d �
       go true e = sym (all-same e1 e2 (sym p ∙ eqb-true r r′ e ∙ q))
       go false e =
           sym (numbers-differ b d at h (λ u. eqb-false r r′ e (p ∙ ap (λ (v : Declaration). v .conductivity) u ∙ sym q)))
+
+-- zeros are bytes
+pub zero-bytes : (n : ℕ) → Bytes (replicate n 0)
+zero-bytes zero i = omega arith
+zero-bytes (suc n) zero = omega arith
+zero-bytes (suc n) (suc i) = zero-bytes n i

@@ -47,6 +47,19 @@ fn is_same_at(b: &[u8], at: usize, d: &[u8]) -> bool
     false
 }
 
+// Whether the 20 bytes at `at` are zero.
+fn is_zero_at(b: &[u8], at: usize) -> bool
+    requires { ⌜ at + 20 ≤ length (now b) ⌝ }
+    ensures { λ r. ⌜ r ≡ same (part (now (b .entry)) at 20) (replicate 20 0) ⌝ }
+{
+    if double_at(b, at) == 0 {
+        if double_at(b, at + 8) == 0 {
+            return words::word_at(b, at + 16) == 0;
+        }
+    }
+    false
+}
+
 // Whether the slot at `at` holds something.
 pub fn is_full(b: &[u8], at: usize) -> bool
     requires { ⌜ at < length (now b) ⌝ }
@@ -90,7 +103,7 @@ fn is_slot_ok(b: &[u8], at: usize) -> bool
         return true;
     }
     if p == 0 {
-        return is_same_at(b, at + 1, &[0; 20]);
+        return is_zero_at(b, at + 1);
     }
     false
 }
