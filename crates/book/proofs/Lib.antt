@@ -5,3 +5,4 @@ pub mod Legality
 pub mod Filling
 pub mod Blank
 pub mod Opening
+pub mod Settled
