@@ -1,5 +1,6 @@
 pub mod Same
 pub mod Slots
+pub mod Sizes
 pub mod Places
 pub mod Legality
 pub mod Filling

@@ -1,11 +1,11 @@
 -- Twenty bytes are the same exactly when their words are.
 -- Assumes nothing.
-use Prim.Native.Nat.{ℕ, zero, suc, _+_, _*_, _^_, _<_, _≤_}
+use Prim.Native.Nat.{ℕ, zero, suc, _+_, _<_, _≤_}
 use mathlib.Core.Path.{_≡_, refl, sym, ap, _∙_}
 use mathlib.Core.Bool.{Bool, true, false}
 use mathlib.Core.List.{List}
 use native.Mathlib.Omega.{arith}
-use lib.Dec.{T, eqb}
+use lib.Dec.{eqb}
 use lib.ListN.{length, getD, replicate, length-take, length-drop, List·getD-eq-default}
 use native.Mathlib.Decide.{decLt}
 use lib.Seq.{getD-take, getD-drop}
@@ -103,7 +103,8 @@ module _ (b d : List ℕ) (at : ℕ) (h : at + 20 ≤ length b) (l : length d �
       let q = wordAt-small d y (j + 4) in
       (omega arith, omega arith)
 
-  all-same : doubleAt b at ≡ doubleAt d 0 → doubleAt b (at + 8) ≡ doubleAt d 8 → wordAt b (at + 16) ≡ wordAt d 16 → same (part b at 20) d ≡ true
+  all-same : doubleAt b at ≡ doubleAt d 0 → doubleAt b (at + 8) ≡ doubleAt d 8 → wordAt b (at + 16) ≡ wordAt d 16
+      → same (part b at 20) d ≡ true
   unfolding declarationAt
   all-same e1 e2 e3 =
       let p = double-parts at 0 e1 in
@@ -114,8 +115,8 @@ module _ (b d : List ℕ) (at : ℕ) (h : at + 20 ≤ length b) (l : length d �
       (part-numbers b at h
       ∙ (λ i. record { lot = p .0 i; colonies = p .1 i; kilograms = q .0 i; moisture = m i; conductivity = e3 i })))
 
-  pub third-decides : (r r′ : ℕ) → doubleAt b at ≡ doubleAt d 0 → doubleAt b (at + 8) ≡ doubleAt d 8 → r ≡ wordAt b (at + 16) → r′ ≡ wordAt d 16
-      → eqb r r′ ≡ same (part b at 20) d
+  pub third-decides : (r r′ : ℕ) → doubleAt b at ≡ doubleAt d 0 → doubleAt b (at + 8) ≡ doubleAt d 8
+      → r ≡ wordAt b (at + 16) → r′ ≡ wordAt d 16 → eqb r r′ ≡ same (part b at 20) d
   unfolding declarationAt
   third-decides r r′ e1 e2 p q = go (eqb r r′) refl
     where

@@ -6,7 +6,7 @@ use borrow.Fn.World.{ArgsD, ResD}
 use borrow.Fn.Kinds.{endedOf}
 use denote.Triple.Clauses.{AtExit}
 use denote.Ref.{now}
-use Rattle.meaning.specs.Opening.{Opened, Length}
+use Rattle.meaning.specs.Opening.{Opened}
 use Rattle.book.proofs.length_of
 use Rattle.book.proofs.length_of.Reads as length-reads
 use Rattle.book.proofs.length_of.Kinds as length-kinds

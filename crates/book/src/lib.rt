@@ -3,9 +3,9 @@ ghost use mathlib.Core.Path.{_≡_};
 ghost use mathlib.Core.Bool.{_&&_};
 ghost use mathlib.Core.List.{_∷_};
 ghost use Prim.Native.Nat.{_+_, _*_, _<_, _≤_};
-ghost use lib.Dec.{eqb};
 ghost use lib.ListN.{length, replicate};
 ghost use lib.Seq.{paste};
+ghost use Rattle.card.specs.Card.{houses};
 ghost use Rattle.card.specs.Count.{count};
 ghost use Rattle.words.specs.Words.{be32};
 ghost use Rattle.sheet.specs.Kept.{sheetAt};
@@ -239,14 +239,22 @@ fn is_numbers(s: u32) -> bool
     1 <= s && s <= MOST_NUMBERS
 }
 
+// n and S are allowed.
+fn is_size(n: u32, s: u32) -> bool
+    ensures { λ r. ⌜ r ≡ houses n && numbersOk s ⌝ }
+{
+    if card::is_houses(n) {
+        return is_numbers(s);
+    }
+    false
+}
+
 // n, S and own number are allowed.
 fn is_allowed(n: u32, s: u32, own: u32) -> bool
     ensures { λ r. ⌜ r ≡ allowed n s own ⌝ }
 {
-    if card::is_houses(n) {
-        if is_numbers(s) {
-            return own < n;
-        }
+    if is_size(n, s) {
+        return own < n;
     }
     false
 }
@@ -260,11 +268,9 @@ pub struct LengthAnswer {
 pub fn length_of(n: u32, s: u32) -> LengthAnswer
     ensures { λ r. ⌜ _≡_ {A = Length} (record { answer = r .answer; length = r .length }) (lengthAnswer n s) ⌝ }
 {
-    if card::is_houses(n) {
-        if is_numbers(s) {
-            let length = book_length(n as usize, s as usize) as u64;
-            return LengthAnswer { answer: 0, length };
-        }
+    if is_size(n, s) {
+        let length = book_length(n as usize, s as usize) as u64;
+        return LengthAnswer { answer: 0, length };
     }
     LengthAnswer {
         answer: 9,
@@ -345,7 +351,8 @@ fn lay_blank(b: &mut [u8], n: u8, s: u8, own: u8, season: u32, sheet: &[u8])
 
 // Opening: 9, 10, 11; else it writes the whole buffer.
 pub fn open_book(book: &mut [u8], n: u32, s: u32, own: u32, season: u32, sheet: &[u8]) -> u8
-    ensures { λ r. ⌜ _≡_ {A = Opened} (record { answer = r; book = now (book .exit) }) (opened (now (book .entry)) n s own season (now (sheet .entry))) ⌝ }
+    ensures { λ r. ⌜ _≡_ {A = Opened} (record { answer = r; book = now (book .exit) })
+        (opened (now (book .entry)) n s own season (now (sheet .entry))) ⌝ }
 {
     if is_allowed(n, s, own) {
         if sheet::is_sheet(sheet) {

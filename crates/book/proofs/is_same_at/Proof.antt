@@ -1,6 +1,6 @@
 -- `book::is_same_at` meets its contract.
 -- Assumes nothing.
-use mathlib.Core.Path.{_≡_, sym, _∙_}
+use mathlib.Core.Path.{sym, _∙_}
 use Rattle.book.proofs.Same.{first-differs, second-differs, third-decides}
 use borrow.Author.Needs.{needs}
 use Rattle.book.proofs.is_same_at.Statement.{statement}
@@ -32,12 +32,12 @@ word-at-requires-2 c κs = search needs
 
 returns : tie.Need-returns
 returns c =
-    let k = c .before .before .before .before .before .before .before in
-    let s = k .before in
-    let a = s .before .before .args in
-    let e1 = sym (k .double-at .ensures) ∙ c .before .before .before .before .before .if1 .taken ∙ c .before .before .before .before .before .before .double-at2 .ensures in
-    let e2 = sym (c .before .before .before .before .double-at3 .ensures) ∙ c .before .before .if2 .taken ∙ c .before .before .before .double-at4 .ensures in
-    third-decides (a .b .now) (a .d .now) (a .at) (search needs) (search needs) (λ i. s .before .shared-slice-known .given i .fits)
+    let f = c .before .before in
+    let k = f .before .before .before in
+    let s = k .before .before .before in
+    let e1 = sym (k .before .before .double-at .ensures) ∙ k .if1 .taken ∙ k .before .double-at2 .ensures in
+    let e2 = sym (f .before .before .double-at3 .ensures) ∙ f .if2 .taken ∙ f .before .double-at4 .ensures in
+    third-decides _ _ _ (s .before .before .pre .0) (s .before .before .pre .1) (λ i. s .before .shared-slice-known .given i .fits)
     (λ i. s .shared-slice-known2 .given i .fits) _ _ e1 e2 (c .before .word-at .ensures) (c .word-at2 .ensures)
 
 returns-2 : tie.Need-returns-2

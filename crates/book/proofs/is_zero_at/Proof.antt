@@ -32,7 +32,9 @@ returns c =
     _ 0 e1 e2 (c .word-at .ensures) refl
 
 returns-2 : tie.Need-returns-2
-returns-2 c = second-differs _ (replicate 20 0) _ (c .before .before .before .before .before .pre) _ 0 (c .before .double-at2 .ensures) refl (c .if2 .left)
+returns-2 c =
+    let s = c .before .before .before .before .before in
+    second-differs _ (replicate 20 0) _ (s .pre) _ 0 (c .before .double-at2 .ensures) refl (c .if2 .left)
 
 returns-3 : tie.Need-returns-3
 returns-3 c = first-differs _ (replicate 20 0) _ (c .before .before .before .pre) _ 0 (c .before .double-at .ensures) refl (c .if1 .left)

@@ -1,6 +1,6 @@
 -- `book::slot_count` meets its contract.
 -- Assumes nothing.
-use Rattle.meaning.specs.Layout.{slotCount, perEntry}
+use Rattle.meaning.specs.Layout.{slotCount}
 use borrow.Author.Needs.{needs}
 use Rattle.book.proofs.slot_count.Statement.{statement}
 use Rattle.book.proofs.slot_count.Tie as tie
