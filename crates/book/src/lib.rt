@@ -15,7 +15,7 @@ ghost use Rattle.meaning.specs.Layout.{numbersOk, headLength, perEntry, slotCou
 ghost use Rattle.meaning.specs.Book.{nOf, numbersOf, ownOf, seasonOf, sheetPlace};
 ghost use Rattle.meaning.specs.Legal.{slotsOk, legal};
 ghost use Rattle.meaning.specs.Opening.{Opened, Length, allowed, opened, lengthAnswer};
-ghost use Rattle.book.specs.Parts.{doubleAt, sized, blank};
+ghost use Rattle.book.specs.Parts.{twoWordsAt, sized, blank};
 use lot::Sheet;
 
 // Entry numbers S: 1 to 4 per sender.
@@ -26,10 +26,10 @@ const SHEET: usize = 7;
 
 // ---- slots
 
-// The number whose eight bytes stand at i.
-fn double_at(s: &[u8], i: usize) -> u64
+// The number whose eight bytes stand at i: two words, which compile to one load.
+fn two_words_at(s: &[u8], i: usize) -> u64
     requires { ⌜ i + 7 < length (now s) ⌝ }
-    ensures { λ r. ⌜ r ≡ doubleAt (now (s .entry)) i ⌝ }
+    ensures { λ r. ⌜ r ≡ twoWordsAt (now (s .entry)) i ⌝ }
 {
     (words::word_at(s, i) as u64) * 4294967296 + (words::word_at(s, i + 4) as u64)
 }
@@ -39,8 +39,8 @@ fn is_same_at(b: &[u8], at: usize, d: &[u8]) -> bool
     requires { ⌜ (at + 20 ≤ length (now b)) × (length (now d) ≡ 20) ⌝ }
     ensures { λ r. ⌜ r ≡ same (part (now (b .entry)) at 20) (now (d .entry)) ⌝ }
 {
-    if double_at(b, at) == double_at(d, 0) {
-        if double_at(b, at + 8) == double_at(d, 8) {
+    if two_words_at(b, at) == two_words_at(d, 0) {
+        if two_words_at(b, at + 8) == two_words_at(d, 8) {
             return words::word_at(b, at + 16) == words::word_at(d, 16);
         }
     }
@@ -52,8 +52,8 @@ fn is_zero_at(b: &[u8], at: usize) -> bool
     requires { ⌜ at + 20 ≤ length (now b) ⌝ }
     ensures { λ r. ⌜ r ≡ same (part (now (b .entry)) at 20) (replicate 20 0) ⌝ }
 {
-    if double_at(b, at) == 0 {
-        if double_at(b, at + 8) == 0 {
+    if two_words_at(b, at) == 0 {
+        if two_words_at(b, at + 8) == 0 {
             return words::word_at(b, at + 16) == 0;
         }
     }
@@ -153,6 +153,7 @@ pub fn own_of(b: &[u8]) -> usize
     words::wide(b[2]) as usize
 }
 
+// The season.
 pub fn season_of(b: &[u8]) -> u32
     requires { ⌜ 6 < length (now b) ⌝ }
     ensures { λ r. ⌜ r ≡ seasonOf (now (b .entry)) ⌝ }
@@ -160,6 +161,7 @@ pub fn season_of(b: &[u8]) -> u32
     words::word_at(b, 3)
 }
 
+// The sheet.
 pub fn sheet_of(b: &[u8]) -> Sheet
     requires { ⌜ 28 < length (now b) ⌝ }
     ensures { λ r. ⌜ r ≡ sheetAt (now (b .entry)) sheetPlace ⌝ }
@@ -184,11 +186,12 @@ fn per_entry(n: usize) -> usize
     2 * n + 3
 }
 
-fn times(a: usize, b: usize) -> usize
-    requires { ⌜ (a < 256) × (b < 256) ⌝ }
-    ensures { λ r. ⌜ (r ≡ a * b) × (r < 65281) ⌝ }
+// The entries of so many numbers, one for each sender.
+fn entries_of(numbers: usize, n: usize) -> usize
+    requires { ⌜ (numbers < 256) × (n < 256) ⌝ }
+    ensures { λ r. ⌜ (r ≡ numbers * n) × (r ≤ 65025) ⌝ }
 {
-    a * b
+    numbers * n
 }
 
 // The slots of so many entries.
@@ -204,7 +207,7 @@ pub fn slot_count(n: usize, s: usize) -> usize
     requires { ⌜ (n < 256) × (s < 256) ⌝ }
     ensures { λ r. ⌜ (r ≡ slotCount n s) × (r < 134217728) ⌝ }
 {
-    s + slots_of(times(s, n), n)
+    s + slots_of(entries_of(s, n), n)
 }
 
 // Where slot k begins.
@@ -220,10 +223,10 @@ pub fn entry_slot(n: usize, s: usize, c: usize, j: usize, i: usize) -> usize
     requires { ⌜ (n < 256) × (s < 256) × (c < 256) × (j < 256) × (i < 1024) ⌝ }
     ensures { λ r. ⌜ (r ≡ entrySlot n s c j i) × (r < 134217728) ⌝ }
 {
-    s + slots_of(times(c, n) + j, n) + i
+    s + slots_of(entries_of(c, n) + j, n) + i
 }
 
-// A length that depends on n and S only.
+// The bytes of a book.
 fn book_length(n: usize, s: usize) -> usize
     requires { ⌜ (n < 256) × (s < 256) ⌝ }
     ensures { λ r. ⌜ r ≡ lengthOf n s ⌝ }
@@ -233,6 +236,7 @@ fn book_length(n: usize, s: usize) -> usize
 
 // ---- which numbers are allowed, and the length
 
+// S is 1 to 4.
 fn is_numbers(s: u32) -> bool
     ensures { λ r. ⌜ r ≡ numbersOk s ⌝ }
 {
@@ -265,6 +269,7 @@ pub struct LengthAnswer {
     pub length: u64,
 }
 
+// The public answer for a length that depends on n and S only.
 pub fn length_of(n: u32, s: u32) -> LengthAnswer
     ensures { λ r. ⌜ _≡_ {A = Length} (record { answer = r .answer; length = r .length }) (lengthAnswer n s) ⌝ }
 {
@@ -332,7 +337,7 @@ fn clear(b: &mut [u8])
 }
 
 // The bytes before the sheet: n, S, own number, season.
-fn numbers_in_bytes(n: u8, s: u8, own: u8, season: u32) -> [u8; 7]
+fn before_sheet(n: u8, s: u8, own: u8, season: u32) -> [u8; 7]
     ensures { λ r. ⌜ r ≡ n ∷ s ∷ own ∷ be32 season ⌝ }
 {
     let q = words::quad_of(season);
@@ -345,7 +350,7 @@ fn lay_blank(b: &mut [u8], n: u8, s: u8, own: u8, season: u32, sheet: &[u8])
     ensures { λ _. ⌜ now (b .exit) ≡ blank (length (now (b .entry))) n s own season (now (sheet .entry)) ⌝ }
 {
     clear(b);
-    lay_at(b, 0, &numbers_in_bytes(n, s, own, season));
+    lay_at(b, 0, &before_sheet(n, s, own, season));
     lay_at(b, SHEET, sheet);
 }
 
