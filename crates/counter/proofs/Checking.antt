@@ -19,7 +19,7 @@ use Rattle.protocol.specs.Thresholds.{rulesOf}
 use Rattle.meaning.specs.Slot.{slotAt}
 use Rattle.meaning.specs.Book.{nOf, numbersOf, ownOf, look, meant, sheetPlace}
 use Rattle.meaning.specs.Legal.{IsDecl}
-use Rattle.meaning.proofs.Stores.{heardSlot}
+use Rattle.meaning.specs.Layout.{heardSlot}
 use Rattle.counter.specs.Call.{kindOf, okBy, rulesBy, fromAnswer, lotAnswer, stepOf}
 use Rattle.counter.specs.Places.{placeIn, Has, Begins}
 use Rattle.counter.proofs.Answers.{no-sender, no-number, no-house, answer-is}

@@ -14,10 +14,10 @@ use Rattle.lot.proofs.Declared.{numbers-of-bytes}
 use Rattle.protocol.specs.Entry.{Decl, Kind, SEND, ECHO, READY, Entry}
 use Rattle.protocol.specs.Steps.{Out, Say, say, given, recorded, marked, publishes, takesSend, takes}
 use Rattle.meaning.specs.Slot.{putSlot}
-use Rattle.meaning.specs.Layout.{slotPlace, entrySlot, readySentSlot, deliveredSlot}
+use Rattle.meaning.specs.Layout.{heardSlot, slotPlace, entrySlot, readySentSlot, deliveredSlot}
 use Rattle.meaning.specs.Book.{nOf, numbersOf, ownOf, seasonOf, look, meant, write}
 use Rattle.meaning.specs.Legal.{legal, IsDecl}
-use Rattle.meaning.proofs.Stores.{Stored, heardSlot, stored-heard, stored-published, stored-taken}
+use Rattle.meaning.proofs.Stores.{Stored, stored-heard, stored-published, stored-taken}
 use Rattle.meaning.proofs.OneForm.{stored-bytes}
 use Rattle.counter.specs.declared.Marks.{Marks}
 use Rattle.counter.specs.declared.Outcome.{Outcome}
@@ -53,7 +53,7 @@ module _ (b : List ℕ) (h : legal b ≡ true) (bytes : Bytes b) (j c p : ℕ) (
       → result o b₁ ≡ entered b j c (takes (rulesBy (meant b)) SEND p v (look b j c))
   unfolding takesSend
   send-entered base season b₁ o at es e₁ eo =
-      let s = stored-heard b h bytes v dv (nOf b) (numbersOf b) refl refl j c (has .number) (has .sender) SEND p hp in
+      let s = stored-heard b h bytes v dv (nOf b) (numbersOf b) refl refl j c (has .sender) (has .number) SEND p hp in
       let m = ap (λ (x : ℕ). given true (wired 2 x j c d)) es ∙ letter-wired (seasonOf b) j c true ECHO d in
       ap₂ result (eo ∙ ap (λ (x : Option (List ℕ)). giving 0 x none) m) (e₁ ∙ ap (λ (x : ℕ). putSlot b x v) (at .is))
       ∙ entered-is b j c (takesSend p v (look b j c)) (putSlot b (placeIn b j c 0) v) s
@@ -79,7 +79,7 @@ module _ (b : List ℕ) (h : legal b ≡ true) (bytes : Bytes b) (j c p : ℕ) (
         ≡ entered b j c (taking b h bytes j c p has hp v dv k m)
     voucher-entered =
         entered-is b j c (taking b h bytes j c p has hp v dv k m) b₃′
-        (stored-taken b h bytes v dv (nOf b) (numbersOf b) refl refl j c (has .number) (has .sender) k p hp (m .gives) (m .delivers))
+        (stored-taken b h bytes v dv (nOf b) (numbersOf b) refl refl j c (has .sender) (has .number) k p hp (m .gives) (m .delivers))
 
   taken : (k : Kind) → (k ≡ SEND → ⊥)
       → taking b h bytes j c p has hp v dv k (marksAt (heard-in b h bytes j c p has hp v dv k) k (placeIn b j c 0) v)

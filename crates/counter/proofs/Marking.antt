@@ -14,7 +14,7 @@ use Rattle.card.specs.Count.{count}
 use Rattle.protocol.specs.Entry.{Decl, Kind, SEND, ECHO, READY, isNone, holds}
 use Rattle.meaning.specs.Slot.{slotAt}
 use Rattle.meaning.specs.Book.{nOf}
-use Rattle.meaning.proofs.Stores.{heardSlot}
+use Rattle.meaning.specs.Layout.{heardSlot}
 use Rattle.counter.specs.declared.Marks.{Marks}
 use Rattle.counter.specs.Call.{kindNumber, kindOf}
 use Rattle.counter.specs.Places.{votesFrom, marksAt}

@@ -99,7 +99,7 @@ pub publication-entered : (b : List ℕ) → legal b ≡ true → Bytes b → (c
 unfolding publishedAt publishes
 publication-entered b h bytes c l d dv n at own season w b₁ o en ea eo es ew e₁ eq =
     let v = bytesOf d in
-    let s = stored-published b h bytes v dv (nOf b) (numbersOf b) refl refl (ownOf b) c l refl in
+    let s = stored-published b h bytes v dv (nOf b) (numbersOf b) refl refl (ownOf b) c refl l in
     let m = ap₂ (λ (x y : ℕ). given true (wired 1 x y c d)) es eo ∙ letter-wired (seasonOf b) (ownOf b) c true SEND d in
     let place = ea ∙ ap (λ (x : ℕ). slotPlace x c) en in
     ap₂ result (eq ∙ ap (λ (x : Option (List ℕ)). giving 0 x none) m) (e₁ ∙ (λ i. putSlot b (place i) (ew i)))

@@ -14,10 +14,10 @@ use Rattle.protocol.specs.Entry.{Decl, Kind, SEND, ECHO, READY, Entry, Rules, i
 use Rattle.protocol.specs.Steps.{Out, Say, say, given, recorded, marked, reached, takesSend, takesEcho, takesReady, takes}
 use Rattle.protocol.specs.Thresholds.{rulesOf}
 use Rattle.meaning.specs.Slot.{slotAt, putSlot}
-use Rattle.meaning.specs.Layout.{slotPlace, entrySlot, echoSlot, readySlot, readySentSlot, deliveredSlot}
+use Rattle.meaning.specs.Layout.{heardSlot, slotPlace, entrySlot, echoSlot, readySlot, readySentSlot, deliveredSlot}
 use Rattle.meaning.specs.Book.{nOf, numbersOf, look, meant}
 use Rattle.meaning.specs.Legal.{legal, IsDecl}
-use Rattle.meaning.proofs.Stores.{Stored, heardSlot, stored-entry, stored-heard, stored-taken}
+use Rattle.meaning.proofs.Stores.{Stored, stored-entry, stored-heard, stored-taken}
 use Rattle.counter.specs.declared.Marks.{Marks}
 use Rattle.counter.specs.Call.{rulesBy}
 use Rattle.counter.specs.Places.{placeIn, Has, slotFrom, votesFrom, marksAt}
@@ -68,7 +68,7 @@ module _ (b : List ℕ) (h : legal b ≡ true) (bytes : Bytes b) (j c p : ℕ) (
   heard-in k = putSlot b (placeIn b j c (heardSlot (nOf b) k p)) v
 
   one : (k : Kind) → Stored b (heard-in k) j c (recorded k p v (look b j c))
-  one k = stored-heard b h bytes v dv (nOf b) (numbersOf b) refl refl j c (has .number) (has .sender) k p hp
+  one k = stored-heard b h bytes v dv (nOf b) (numbersOf b) refl refl j c (has .sender) (has .number) k p hp
 
   pub has-one : (k : Kind) → Has (heard-in k) j c
   has-one k =

@@ -12,7 +12,7 @@ use Rattle.card.specs.Count.{count}
 use Rattle.protocol.specs.Entry.{Decl, Kind, SEND, ECHO, READY, isNone, holds}
 use Rattle.meaning.specs.Slot.{slotAt}
 use Rattle.meaning.specs.Layout.{slotLength, slotPlace, perEntry, entrySlot, readySentSlot, deliveredSlot}
-use Rattle.meaning.proofs.Stores.{heardSlot}
+use Rattle.meaning.specs.Layout.{heardSlot}
 use Rattle.meaning.specs.Book.{nOf, numbersOf}
 use Rattle.meaning.specs.Legal.{legal}
 use Rattle.counter.specs.declared.Marks.{Marks}

@@ -15,7 +15,7 @@ ghost use Rattle.meaning.specs.Book.{nOf, numbersOf, look};
 ghost use Rattle.meaning.specs.Legal.{legal, IsDecl};
 ghost use Rattle.counter.specs.Call.{result, giving, orZeros, kindOf, wired, taken, fromAnswer, lotAnswer, stepOf};
 ghost use Rattle.counter.specs.Call.{fiveOf, called, heardFrom, received, publishedAt, published};
-ghost use Rattle.meaning.proofs.Stores.{heardSlot};
+ghost use Rattle.meaning.specs.Layout.{heardSlot};
 ghost use Rattle.counter.specs.Places.{Has, Within, Begins, marksAt};
 ghost use Rattle.counter.specs.Search.{waits, earliest, placeOf, waiting};
 use lot::Declaration;

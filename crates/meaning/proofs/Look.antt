@@ -15,7 +15,7 @@ use Rattle.meaning.specs.Slot.{slotAt}
 use Rattle.meaning.specs.Layout.{slotPlace, entrySlot, readySentSlot, deliveredSlot}
 use Rattle.meaning.specs.Book.{nOf, numbersOf, ownOf, slotOf, look}
 use Rattle.meaning.proofs.Entries.{entryFrom, entries-in}
-use Rattle.meaning.proofs.Stores.{heardSlot}
+use Rattle.meaning.specs.Layout.{heardSlot}
 
 -- slot k of the book, with n houses
 abbrev slotNo : List ℕ → ℕ → ℕ → Option Decl

@@ -17,7 +17,7 @@ use Rattle.protocol.specs.Steps.{recorded, marked, publishes}
 use Rattle.protocol.specs.Book.{PerEntry, sameEntry, place}
 use Rattle.meaning.specs.Slot.{slotAt, slotOk, putSlot}
 use Rattle.meaning.specs.Layout.{perEntry, slotCount, slotPlace, entrySlot}
-use Rattle.meaning.specs.Layout.{sendSlot, echoSlot, readySlot, readySentSlot, deliveredSlot}
+use Rattle.meaning.specs.Layout.{sendSlot, echoSlot, readySlot, readySentSlot, deliveredSlot, heardSlot}
 use Rattle.meaning.specs.Book.{nOf, numbersOf, ownOf, seasonOf, sheetPlace, slotOf, look}
 use Rattle.meaning.specs.Legal.{legal, Legal, IsDecl}
 use Rattle.meaning.proofs.Legality.{legal-facts, facts-legal, slots-at, slots-all, slot-within-book}
@@ -38,12 +38,6 @@ pub record Stored (b a : List ℕ) (j c : ℕ) (e : Entry) : Type 0 where
   pub season : seasonOf a ≡ seasonOf b
   pub sheet : sheetAt a sheetPlace ≡ sheetAt b sheetPlace
   pub entries : look a ≡ place (look b) j c e
-
--- the slot of an entry in which a message of the kind from house p is recorded
-abbrev pub heardSlot : ℕ → Kind → ℕ → ℕ
-heardSlot n SEND p = sendSlot
-heardSlot n ECHO p = echoSlot p
-heardSlot n READY p = readySlot n p
 
 -- ---- one store after another
 
