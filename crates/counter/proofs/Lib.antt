@@ -12,3 +12,4 @@ pub mod Carried
 pub mod Received
 pub mod Published
 pub mod Searching
+pub mod Settled
