@@ -17,7 +17,7 @@ use Rattle.book.specs.Parts.{blank}
 use Rattle.book.proofs.Blank.{fresh-bytes}
 
 module _ (b : List ℕ) (n s own season : ℕ) (sheet : List ℕ) where
-  pub blank-fresh : Bytes sheet → isSheet sheet ≡ true → length b ≡ lengthOf n s
+  blank-fresh : Bytes sheet → isSheet sheet ≡ true → length b ≡ lengthOf n s
       → blank (length b) n s own season sheet ≡ write (freshBook n s own season (sheetAt sheet 0))
   unfolding blank head lengthOf
   blank-fresh x h l =

@@ -1,4 +1,4 @@
--- Every slot of an entry lies within its book.
+-- For those who call: every slot of an entry lies within its book.
 -- Assumes nothing.
 use Prim.Native.Nat.{ℕ, suc, _+_, _*_, _<_, _≤_}
 use native.Mathlib.Nat.{mul-le-mul-right, suc-mul, add-mul}
