@@ -3,3 +3,6 @@ pub mod Answers
 pub mod Seen
 pub mod Fullness
 pub mod Taken
+pub mod Fits
+pub mod Keeps
+pub mod Between
