@@ -10,6 +10,7 @@ use native.Mathlib.Omega.{arith}
 use lib.Dec.{T, eqb, ltb}
 use borrow.Author.Tests.{eqb-true, eqb-false, ltb-true}
 use Rattle.words.specs.Words.{Bytes}
+use Rattle.lot.specs.declared.Sheet.{Sheet}
 use Rattle.lot.specs.Sheet.{plausible}
 use Rattle.lot.specs.Declaration.{declarationAt}
 use Rattle.sheet.specs.Kept.{sheetAt}
@@ -35,10 +36,10 @@ use Rattle.counter.specs.Call.{published, asked, heardFrom, received}
 use Rattle.counter.specs.Calls.{Calling, publish, receive, search, answered}
 use Rattle.counter.proofs.Fits.{is-decl, Fits, outcome-fits, outcome-in-book, outcome-refused}
 
--- what a book's rules take for plausible is 20 bytes
-pub plausible-decl : (B : Meaning) (v : Decl) → T (rulesBy B .ok v) → IsDecl v
-unfolding rulesBy rulesOf okBy
-plausible-decl B v t = is-decl v (true-of (isDecl v) (and-l (isDecl v) (plausible (B .sheet) (declarationAt v 0)) t))
+-- what is plausible by a sheet is 20 bytes
+pub plausible-decl : (s : Sheet) (v : Decl) → T (okBy s v) → IsDecl v
+unfolding okBy
+plausible-decl s v t = is-decl v (true-of (isDecl v) (and-l (isDecl v) (plausible s (declarationAt v 0)) t))
 
 place-all : {A : Type 0} (Φ : ℕ → ℕ → A → Type 0) (f : PerEntry A) (j c : ℕ) (x : A) → Φ j c x → ((j₂ c₂ : ℕ) → Φ j₂ c₂ (f j₂ c₂))
     → (j₂ c₂ : ℕ) → Φ j₂ c₂ (place f j c x j₂ c₂)
@@ -89,7 +90,7 @@ module _ (b : List ℕ) (h : legal b ≡ true) (bytes : Bytes b) where
     unfolding stepOf meant rulesBy rulesOf
     fits =
         let I = meant-is-book b h bytes in
-        outcome-fits (rulesBy (meant b)) (numbersOf b) (ownOf b) (look b) a (plausible-decl (meant b))
+        outcome-fits (rulesBy (meant b)) (numbersOf b) (ownOf b) (look b) a (plausible-decl (sheetAt b sheetPlace))
         (record { entry = I .entries j c; others = I .others j c })
 
     -- what the step of an accepted call leaves is what a book may mean

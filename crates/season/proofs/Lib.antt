@@ -1,0 +1,4 @@
+pub mod Mail
+pub mod Calls
+pub mod Steps
+pub mod Season
