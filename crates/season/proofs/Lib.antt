@@ -2,3 +2,4 @@ pub mod Mail
 pub mod Calls
 pub mod Steps
 pub mod Season
+pub mod Example

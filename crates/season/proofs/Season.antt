@@ -140,7 +140,7 @@ module _ (H : Houses) (O : Open H) (l : List Step) (j c : ℕ) (hj : j < H .n) w
               copy-answered H s z M m x S t
               ∙ P .accepted i x f (entry-refl (x .sender) (x .number)) (rw (← S .to) t) (sym (S .consumed) ∙ u)
 
-  agreed : Few H j c → Agreed H j c s
+  agreed : Few H → Agreed H j c s
   unfolding wallOf rulesOf
   agreed few =
       let P = claimed j c .agreed few in
@@ -150,7 +150,7 @@ module _ (H : Houses) (O : Open H) (l : List Step) (j c : ℕ) (hj : j < H .n) w
         by-count = λ g v e n r t. delivered-from r v (P .by-count g v (published-to v e) (sym (consumed-counted H s z M j c) ∙ n) r t);
       }
 
-  complete : Few H j c → Drained H j c s → Complete H j c s
+  complete : Few H → Drained H j c s → Complete H j c s
   unfolding wallOf rulesOf
   complete few drained =
       let P = claimed j c .complete few (sym (left-counted H s z M j c) ∙ drained) in

@@ -15,6 +15,10 @@ use Rattle.counter.specs.Call.{received}
 use Rattle.season.specs.Run.{Houses, isHonest, isWrong, h, Open, Copy, State, Step, start, run, copies, readies, between}
 use Rattle.season.specs.Run.{consumedBetween, Drained}
 
+-- at most t of them wrong, t the number 01 tolerates
+abbrev pub Few : Houses → Type 0
+Few H = count (isWrong H) (H .n) ≤ tolerated (H .n)
+
 module _ (H : Houses) (j c : ℕ) where
   -- house r delivered v on this entry, and nothing else
   abbrev pub Delivered : State → ℕ → List ℕ → Type 0
@@ -67,15 +71,11 @@ module _ (H : Houses) (j c : ℕ) where
     -- at exactly hn READY messages.
     pub all-readies : (q : ℕ) (v : List ℕ) → T (isHonest H q) → Delivered s q v → readies j c s ≡ h H * H .n
 
-  -- at most t of them wrong, t the number 01 tolerates
-  abbrev pub Few : Type 0
-  Few = count (isWrong H) (H .n) ≤ tolerated (H .n)
-
   -- in any order of calls
   pub record Season (l : List Step) : Type 0 where
     pub bounded : Bounded (run H l (start H))
-    pub agreed : Few → Agreed (run H l (start H))
-    pub complete : Few → Drained H j c (run H l (start H)) → Complete (run H l (start H))
+    pub agreed : Few H → Agreed (run H l (start H))
+    pub complete : Few H → Drained H j c (run H l (start H)) → Complete (run H l (start H))
 
 -- of every run of houses that opened their books, and every entry of the book
 abbrev pub Claims : Type 0

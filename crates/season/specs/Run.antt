@@ -1,5 +1,7 @@
 -- A run of n houses at the bytes: each honest book is a byte list, each step a call of the counter, in any order; and what is counted of
--- it, copy by copy. Assumes nothing.
+-- it, copy by copy. Of `protocol` it takes words for functions and lists only: `upd f p x` is f with x at p, `at` the element at a place,
+-- `changeAt` the list with that element changed, `noted` one more on the list of a house, sender and number, `tally` how many pass a test.
+-- Assumes nothing.
 use Prim.Native.Nat.{ℕ, zero, suc, _^_, _<_}
 use mathlib.Core.Path.{_≡_}
 use mathlib.Core.Bool.{Bool, true, false, not, cond, _&&_}
@@ -130,7 +132,7 @@ ended H r e o x g mail =
 -- ---- the steps
 
 -- An honest house publishes (accepted or not); consumes, once, a copy an honest house sent to it; or receives any bytes under a wrong
--- house's number or a number not below n.
+-- house's number or a number not below n. A declaration and a message may be any list of numbers here, all bytes among them.
 pub data Step : Type 0 where
   publish : (house number : ℕ) → (declaration : List ℕ) → Step
   consume : (copy : ℕ) → Step
