@@ -1,7 +1,7 @@
 -- A step of a run at the bytes is a step of the protocol's run or leaves it; so every run at the bytes means a run of the protocol.
 -- Assumes nothing.
 use Prim.Native.Nat.{ℕ}
-use mathlib.Core.Path.{_≡_, refl, sym, ap, _∙_}
+use mathlib.Core.Path.{_≡_, refl, sym, ap, subst, _∙_}
 use mathlib.Core.Logic.{_⊎_, inl, inr, ⊎-elim}
 use mathlib.Core.Bool.{Bool, true, false, not, cond, _&&_}
 use mathlib.Core.List.{List, [], _∷_}
@@ -14,7 +14,7 @@ use Rattle.meaning.specs.Book.{Meaning, seasonOf, look, meant}
 use Rattle.meaning.specs.Legal.{legal}
 use Rattle.meaning.proofs.Opening.{opened-legal, opened-bytes, opened-meant}
 use Rattle.protocol.specs.Entry.{Decl, fresh}
-use Rattle.protocol.specs.Book.{publishing, receiving}
+use Rattle.protocol.specs.Book.{Call, publishing, receiving}
 use Rattle.protocol.specs.Run.{at, changeAt}
 use Rattle.protocol.specs.Run as protocol
 use Rattle.protocol.specs.Thresholds.{wallOf, rulesOf}
@@ -99,11 +99,18 @@ module _ (H : Houses) where
     consumes-means i none (some x) S = absurd S
     consumes-means i (some m) none S = absurd S
     consumes-means i (some m) (some x) S =
-        rw (S .to, S .from, S .consumed)
+        rw (S .to, S .consumed)
         (if-means (isHonest H (x .to) && not (x .consumed)) s _ z _ M
-        (λ t. consume-means (x .to) (s .gave) (z .gave) (M .gave) (and-l (isHonest H (x .to)) (not (x .consumed)) (T-of t))
-        (changeAt consumedCopy (s .mail) i) (protocol.consumeAt (z .mail) i) (mails-consumed (H .season) (s .mail) (z .mail) (M .mail) i)
-        (x .from) m x S))
+        (λ t. subst (λ (p : ℕ). Means H (receives H (x .to) (m .from) (m .message) (s .gave) mail)
+        (protocol.called (wall H) (x .to) (receiving p (x .kind) (x .sender) (x .number) (x .decl)) (z .gave) mail₂)) (S .from)
+        (consume-means (x .to) (s .gave) (z .gave) (M .gave) (and-l (isHonest H (x .to)) (not (x .consumed)) (T-of t)) mail mail₂
+        (mails-consumed (H .season) (s .mail) (z .mail) (M .mail) i) (m .from) m x S)))
+      where
+        mail : List Copy
+        mail = changeAt consumedCopy (s .mail) i
+
+        mail₂ : List protocol.Copy
+        mail₂ = protocol.consumeAt (z .mail) i
 
     step-means : (a : Step) → Means H (step H a s) z ⊎ ((x : protocol.Step) × Means H (step H a s) (protocol.step (wall H) x z))
     unfolding step publishes protocol.step wallOf rulesOf
@@ -117,17 +124,22 @@ module _ (H : Houses) where
         inr (protocol.consume i, consumes-means i (at (s .mail) i) (at (z .mail) i) (mails-at (H .season) (s .mail) (z .mail) (M .mail) i))
     step-means (wrong p r message) = go (isHonest H r && isWrong H p) refl
       where
+        after : State
+        after = receives H r p message (s .gave) (s .mail)
+
         Ends : Bool → Type 0
-        Ends t =
-            Means H (cond t (receives H r p message (s .gave) (s .mail)) s) z
-            ⊎ ((x : protocol.Step) × Means H (cond t (receives H r p message (s .gave) (s .mail)) s) (protocol.step (wall H) x z))
+        Ends t = Means H (cond t after s) z ⊎ ((x : protocol.Step) × Means H (cond t after s) (protocol.step (wall H) x z))
 
         go : (t : Bool) → (isHonest H r && isWrong H p) ≡ t → Ends t
         go false e = inl M
         go true e =
             ⊎-elim inl
             (λ x. let m = x .0 in
-            inr (protocol.wrong p r (kindOf (m .kind)) (m .sender) (m .number) (bytesOf (m .declaration)), rw e (x .1)))
+            let call : Call = asked p m in
+            inr (
+              protocol.wrong p r (kindOf (m .kind)) (m .sender) (m .number) (bytesOf (m .declaration)),
+              subst (λ (t : Bool). Means H after (cond t (protocol.called (wall H) r call (z .gave) (z .mail)) z)) (sym e) (x .1),
+            ))
             (wrong-means r (s .gave) (z .gave) (M .gave) (and-l (isHonest H r) (isWrong H p) (T-of e)) (s .mail) (z .mail) (M .mail)
             p message)
 

@@ -13,7 +13,6 @@ use Rattle.words.specs.Words.{Bytes}
 use Rattle.message.specs.Message.{Five, readOf}
 use Rattle.meaning.specs.Opening.{Opened, opened}
 use Rattle.protocol.specs.Entry.{upd}
-use Rattle.protocol.specs.Book.{PerEntry}
 use Rattle.protocol.specs.Run.{at, changeAt, noted, tally}
 use Rattle.counter.specs.declared.Outcome.{Outcome}
 use Rattle.counter.specs.Call.{Result, published, received}
@@ -62,7 +61,7 @@ pub record Copy : Type 0 where
 
 -- for each house, and each sender and number, a list of declarations' bytes
 abbrev pub Noted : Type 0
-Noted = ℕ → PerEntry (List (List ℕ))
+Noted = (house sender number : ℕ) → List (List ℕ)
 
 -- what calls gave: the books, the deliveries made, the publications accepted
 pub record Given : Type 0 where
