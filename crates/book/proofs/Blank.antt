@@ -39,7 +39,8 @@ entry-zeros n =
     let e : 21 + (n * 21 + (n * 21 + 42)) ≡ 21 * (2 * n + 3) = omega arith in
     join 21 (n * 21 + (n * 21 + 42)) empty-slot echoes ∙ ap zeros e
 
-pub fresh-bytes : (n s own season : ℕ) (sheet : Sheet) → write (freshBook n s own season sheet) ≡ head n s own season sheet ++ zeros (21 * slotCount n s)
+pub fresh-bytes : (n s own season : ℕ) (sheet : Sheet)
+    → write (freshBook n s own season sheet) ≡ head n s own season sheet ++ zeros (21 * slotCount n s)
 unfolding write slotCount
 fresh-bytes n s own season sheet =
     let p = perEntry n in

@@ -1,11 +1,11 @@
 -- A buffer that is cleared, and then laid over with a header, is blank.
 -- Assumes nothing.
-use Prim.Native.Nat.{ℕ, suc, _+_, _-_, _<_, _≤_}
-use mathlib.Core.Path.{_≡_, refl, sym, ap, ap₂, _∙_}
-use mathlib.Core.List.{List, _∷_, _++_, append-nil}
+use Prim.Native.Nat.{ℕ, _+_, _-_, _<_, _≤_}
+use mathlib.Core.Path.{_≡_, sym, ap₂, _∙_}
+use mathlib.Core.List.{List, _∷_, append-nil}
 use native.Mathlib.Omega.{arith}
 use native.Mathlib.Numerals.{add-one}
-use lib.ListN.{length, getD, take, drop, set, replicate, length-drop, length-replicate, getD-replicate, drop-of-length-le}
+use lib.ListN.{length, drop, set, replicate, length-drop, length-replicate, getD-replicate, drop-of-length-le}
 use lib.Seq.{paste, paste-suc, take-all, drop-drop, getD-drop, ext-getD}
 use Rattle.words.specs.Words.{be32}
 use Rattle.meaning.specs.Layout.{headLength}

@@ -1,29 +1,24 @@
 -- Legality, part by part: the numbers and the length, the sheet, the slots.
 -- Assumes nothing.
-use Prim.Native.Nat.{ℕ, zero, suc, _+_, _*_, _<_, _≤_}
+use Prim.Native.Nat.{ℕ, zero, suc, _+_, _<_, _≤_}
 use mathlib.Core.Path.{_≡_, refl, sym, ap, ap₂, _∙_}
 use mathlib.Core.Bool.{Bool, true, false, not, _&&_, and-eq-true-iff}
 use mathlib.Core.List.{List}
 use native.Mathlib.Decide.{decLt}
 use native.Mathlib.Omega.{arith}
 use native.Mathlib.Numerals.{add-one}
-use lib.Dec.{eqb, leb, ltb}
+use lib.Dec.{eqb, ltb}
 use lib.ListN.{length}
-use borrow.Author.Tests.{leb-true, eqb-true, eq-eqb, ne-eqb, not-true, not-false}
+use borrow.Author.Tests.{eqb-true, ne-eqb, not-true, not-false}
 use Rattle.card.specs.Card.{houses}
 use Rattle.sheet.specs.Kept.{sheetLegalAt}
 use Rattle.protocol.proofs.Basics.{and-false}
 use Rattle.meaning.specs.Slot.{slotOk}
-use Rattle.meaning.specs.Layout.{mostNumbers, numbersOk, headLength, slotCount, lengthOf, slotPlace}
+use Rattle.meaning.specs.Layout.{numbersOk, headLength, slotCount, lengthOf, slotPlace}
 use Rattle.meaning.specs.Book.{nOf, numbersOf, ownOf, sheetPlace}
 use Rattle.meaning.specs.Legal.{slotsOk, legal}
 use Rattle.meaning.specs.Opening.{allowed}
 use Rattle.book.specs.Parts.{sized}
-
--- S is written in one byte
-pub numbers-byte : (s : ℕ) → numbersOk s ≡ true → s < 256
-unfolding numbersOk mostNumbers
-numbers-byte s h = let l = leb-true s mostNumbers (and-eq-true-iff (leb 1 s) (leb s mostNumbers) .0 h .1) in omega arith
 
 -- ---- the slots, one more
 
@@ -64,12 +59,13 @@ module _ (b : List ℕ) where
   pub sized-long : sized b ≡ true → length b ≡ lengthOf (nOf b) (numbersOf b)
   sized-long h = eqb-true (length b) (lengthOf (nOf b) (numbersOf b)) (both h .1)
 
-  pub sized-room : sized b ≡ true → 28 < length b
+  pub sized-room : (r : Bool) (k : ℕ) → r ≡ sized b → r ≡ true → k ≤ 28 → k < length b
   unfolding lengthOf headLength
-  sized-room h = let l = sized-long h in omega arith
+  sized-room r k e t h = let l = sized-long (sym e ∙ t) in omega arith
 
   -- so there is room for every slot
-  pub slots-room : (n s k : ℕ) (r : Bool) → r ≡ sized b → r ≡ true → n ≡ nOf b → s ≡ numbersOf b → k ≡ slotCount n s → slotPlace n k ≤ length b
+  pub slots-room : (n s k : ℕ) (r : Bool) → r ≡ sized b → r ≡ true → n ≡ nOf b → s ≡ numbersOf b → k ≡ slotCount n s
+      → slotPlace n k ≤ length b
   unfolding lengthOf slotPlace
   slots-room n s k r e t u v w =
       let l = sized-long (sym e ∙ t) in

@@ -1,35 +1,20 @@
--- What is allowed is written in bytes; a blank buffer of the book's length is a fresh book; what opening answers.
+-- A blank buffer of the book's length is a fresh book; what opening answers.
 -- Assumes nothing.
-use Prim.Native.Nat.{ℕ, _+_, _*_, _-_, _<_}
-use mathlib.Core.Path.{_≡_, refl, sym, ap, _∙_}
-use mathlib.Core.Bool.{Bool, true, false, _&&_, and-eq-true-iff}
-use mathlib.Core.List.{List, _++_}
+use Prim.Native.Nat.{ℕ, _*_, _-_}
+use mathlib.Core.Path.{_≡_, sym, _∙_}
+use mathlib.Core.Bool.{Bool, true, false}
+use mathlib.Core.List.{List}
 use native.Mathlib.Omega.{arith}
-use lib.Dec.{eqb, ltb}
-use lib.ListN.{length, replicate}
-use borrow.Author.Tests.{ltb-true, eq-eqb, ne-eqb}
-use Rattle.card.specs.Card.{houses}
-use Rattle.card.proofs.Wall.{houses-byte}
-use Rattle.words.specs.Words.{Bytes, be32}
-use Rattle.lot.specs.declared.Sheet.{Sheet}
-use Rattle.sheet.specs.Kept.{sheetBytes, isSheet, sheetAt}
+use lib.ListN.{length}
+use borrow.Author.Tests.{eq-eqb, ne-eqb}
+use Rattle.words.specs.Words.{Bytes}
+use Rattle.sheet.specs.Kept.{isSheet, sheetAt}
 use Rattle.sheet.proofs.OneForm.{bytes-of-sheet}
-use Rattle.meaning.specs.Layout.{numbersOk, headLength, slotCount, lengthOf}
+use Rattle.meaning.specs.Layout.{headLength, slotCount, lengthOf}
 use Rattle.meaning.specs.Book.{head, write}
 use Rattle.meaning.specs.Opening.{freshBook, Opened, allowed, opened}
 use Rattle.book.specs.Parts.{blank}
-use Rattle.book.proofs.Legality.{numbers-byte}
 use Rattle.book.proofs.Blank.{fresh-bytes}
-
-module _ (n s own : ℕ) (r : Bool) (e : r ≡ allowed n s own) (t : r ≡ true) where
-  pub allowed-bytes : (n < 256) × (s < 256) × (own < 256)
-  unfolding allowed
-  allowed-bytes =
-      let p = and-eq-true-iff (houses n) (numbersOk s && ltb own n) .0 (sym e ∙ t) in
-      let q = and-eq-true-iff (numbersOk s) (ltb own n) .0 (p .1) in
-      let h = houses-byte n (p .0) in
-      let l = ltb-true own n (q .1) in
-      (h, numbers-byte s (q .0), omega arith)
 
 module _ (b : List ℕ) (n s own season : ℕ) (sheet : List ℕ) where
   pub blank-fresh : Bytes sheet → isSheet sheet ≡ true → length b ≡ lengthOf n s

@@ -1,13 +1,9 @@
--- How large products of small numbers are, and that every slot of an entry lies within its book.
+-- Every slot of an entry lies within its book.
 -- Assumes nothing.
 use Prim.Native.Nat.{ℕ, suc, _+_, _*_, _<_, _≤_}
-use mathlib.Core.Path.{_≡_, sym}
-use native.Mathlib.Nat.{mul-le-mul, mul-le-mul-right, suc-mul, add-mul}
+use native.Mathlib.Nat.{mul-le-mul-right, suc-mul, add-mul}
 use native.Mathlib.Omega.{arith}
-use Rattle.meaning.specs.Layout.{headLength, perEntry, slotCount, lengthOf, slotPlace, entrySlot}
-
-pub times-le : (a b m k : ℕ) → a ≤ m → b ≤ k → a * b ≤ m * k
-times-le a b m k p q = mul-le-mul p q
+use Rattle.meaning.specs.Layout.{perEntry, slotCount, lengthOf, slotPlace, entrySlot}
 
 -- slot i of the entry of number c and sender j is a slot of the book
 pub entry-in : (n s c j i : ℕ) → c < s → j < n → i < perEntry n → entrySlot n s c j i < slotCount n s

@@ -1,12 +1,12 @@
 -- Twenty bytes are the same exactly when their words are.
 -- Assumes nothing.
-use Prim.Native.Nat.{ℕ, _+_, _*_, _^_, _<_, _≤_}
+use Prim.Native.Nat.{ℕ, zero, suc, _+_, _<_, _≤_}
 use mathlib.Core.Path.{_≡_, refl, sym, ap, _∙_}
 use mathlib.Core.Bool.{Bool, true, false}
 use mathlib.Core.List.{List}
 use native.Mathlib.Omega.{arith}
-use lib.Dec.{T, eqb}
-use lib.ListN.{length, getD, take, drop, length-take, length-drop, List·getD-eq-default}
+use lib.Dec.{eqb}
+use lib.ListN.{length, getD, replicate, length-take, length-drop, List·getD-eq-default}
 use native.Mathlib.Decide.{decLt}
 use lib.Seq.{getD-take, getD-drop}
 use borrow.Author.Tests.{eqb-true, eqb-false}
@@ -18,7 +18,7 @@ use Rattle.lot.proofs.Declared.{same-bytes}
 use Rattle.protocol.specs.Entry.{same}
 use Rattle.protocol.proofs.Basics.{T-of, true-of, same-eq, same-refl}
 use Rattle.meaning.specs.Slot.{part}
-use Rattle.book.specs.Parts.{doubleAt}
+use Rattle.book.specs.Parts.{twoWordsAt}
 
 -- the test, for both outcomes
 pub same-of : (v w : List ℕ) → v ≡ w → same v w ≡ true
@@ -79,13 +79,13 @@ module _ (b d : List ℕ) (at : ℕ) (h : at + 20 ≤ length b) where
   twelve = let e : at + 12 ≡ at + 8 + 4 = omega arith in ap (λ (k : ℕ). wordAt b k) e
 
   module _ (r r′ : ℕ) where
-    pub first-differs : r ≡ doubleAt b at → r′ ≡ doubleAt d 0 → (r ≡ r′ → ⊥) → false ≡ same (part b at 20) d
+    pub first-differs : r ≡ twoWordsAt b at → r′ ≡ twoWordsAt d 0 → (r ≡ r′ → ⊥) → false ≡ same (part b at 20) d
     unfolding declarationAt
     first-differs p q f =
         sym (numbers-differ
         (λ e. let u = ap (λ (v : Declaration). v .lot) e in let w = ap (λ (v : Declaration). v .colonies) e in f (omega arith)))
 
-    pub second-differs : r ≡ doubleAt b (at + 8) → r′ ≡ doubleAt d 8 → (r ≡ r′ → ⊥) → false ≡ same (part b at 20) d
+    pub second-differs : r ≡ twoWordsAt b (at + 8) → r′ ≡ twoWordsAt d 8 → (r ≡ r′ → ⊥) → false ≡ same (part b at 20) d
     unfolding declarationAt
     second-differs p q f =
         sym (numbers-differ
@@ -97,25 +97,26 @@ module _ (b d : List ℕ) (at : ℕ) (h : at + 20 ≤ length b) where
 -- where the first 16 bytes are the same, the last word decides
 module _ (b d : List ℕ) (at : ℕ) (h : at + 20 ≤ length b) (l : length d ≡ 20) (x : Bytes b) (y : Bytes d) where
   -- eight bytes are two words
-  double-parts : (i j : ℕ) → doubleAt b i ≡ doubleAt d j → (wordAt b i ≡ wordAt d j) × (wordAt b (i + 4) ≡ wordAt d (j + 4))
-  double-parts i j e =
+  word-parts : (i j : ℕ) → twoWordsAt b i ≡ twoWordsAt d j → (wordAt b i ≡ wordAt d j) × (wordAt b (i + 4) ≡ wordAt d (j + 4))
+  word-parts i j e =
       let p = wordAt-small b x (i + 4) in
       let q = wordAt-small d y (j + 4) in
       (omega arith, omega arith)
 
-  all-same : doubleAt b at ≡ doubleAt d 0 → doubleAt b (at + 8) ≡ doubleAt d 8 → wordAt b (at + 16) ≡ wordAt d 16 → same (part b at 20) d ≡ true
+  all-same : twoWordsAt b at ≡ twoWordsAt d 0 → twoWordsAt b (at + 8) ≡ twoWordsAt d 8 → wordAt b (at + 16) ≡ wordAt d 16
+      → same (part b at 20) d ≡ true
   unfolding declarationAt
   all-same e1 e2 e3 =
-      let p = double-parts at 0 e1 in
-      let q = double-parts (at + 8) 8 e2 in
+      let p = word-parts at 0 e1 in
+      let q = word-parts (at + 8) 8 e2 in
       let m = twelve b d at h ∙ q .1 in
       same-of (part b at 20) d
       (same-bytes (part b at 20) d (part-length b at 20 h) l (part-bytes b at 20 h x) y .0
       (part-numbers b at h
       ∙ (λ i. record { lot = p .0 i; colonies = p .1 i; kilograms = q .0 i; moisture = m i; conductivity = e3 i })))
 
-  pub third-decides : (r r′ : ℕ) → doubleAt b at ≡ doubleAt d 0 → doubleAt b (at + 8) ≡ doubleAt d 8 → r ≡ wordAt b (at + 16) → r′ ≡ wordAt d 16
-      → eqb r r′ ≡ same (part b at 20) d
+  pub third-decides : (r r′ : ℕ) → twoWordsAt b at ≡ twoWordsAt d 0 → twoWordsAt b (at + 8) ≡ twoWordsAt d 8
+      → r ≡ wordAt b (at + 16) → r′ ≡ wordAt d 16 → eqb r r′ ≡ same (part b at 20) d
   unfolding declarationAt
   third-decides r r′ e1 e2 p q = go (eqb r r′) refl
     where
@@ -123,3 +124,9 @@ module _ (b d : List ℕ) (at : ℕ) (h : at + 20 ≤ length b) (l : length d �
       go true e = sym (all-same e1 e2 (sym p ∙ eqb-true r r′ e ∙ q))
       go false e =
           sym (numbers-differ b d at h (λ u. eqb-false r r′ e (p ∙ ap (λ (v : Declaration). v .conductivity) u ∙ sym q)))
+
+-- zeros are bytes
+pub zero-bytes : (n : ℕ) → Bytes (replicate n 0)
+zero-bytes zero i = omega arith
+zero-bytes (suc n) zero = omega arith
+zero-bytes (suc n) (suc i) = zero-bytes n i

@@ -1,17 +1,17 @@
 -- What the presence byte says of a slot, a row of slots, and the bytes after a slot is filled.
 -- Assumes nothing.
-use Prim.Native.Nat.{ℕ, _+_, _*_, _<_, _≤_}
-use mathlib.Core.Path.{_≡_, refl, sym, ap, _∙_}
-use mathlib.Core.Bool.{Bool, true, false, not, cond, _&&_}
-use mathlib.Core.List.{List, _∷_, _++_, append-assoc}
+use Prim.Native.Nat.{ℕ, _+_, _<_, _≤_}
+use mathlib.Core.Path.{_≡_, refl}
+use mathlib.Core.Bool.{Bool, true, false, cond}
+use mathlib.Core.List.{List, _∷_, append-assoc}
 use mathlib.Core.Option.{none, some}
 use native.Mathlib.Omega.{arith}
 use native.Mathlib.Numerals.{add-one}
 use lib.Dec.{eqb}
 use lib.ListN.{length, getD, take, drop, set, replicate}
 use lib.Seq.{paste, take-suc-set, drop-set-lt, take-all, append-snoc}
-use borrow.Author.Tests.{eq-eqb, ne-eqb, not-true, not-false}
-use Rattle.card.specs.Count.{bit, count}
+use borrow.Author.Tests.{eq-eqb, ne-eqb}
+use Rattle.card.specs.Count.{count}
 use Rattle.protocol.specs.Entry.{same, isSome, holds}
 use Rattle.meaning.specs.Slot.{part, slotAt, slotOk, putSlot}
 
@@ -54,7 +54,8 @@ module _ (P : ℕ → Bool) (p : ℕ) (r : Bool) (m : ℕ) (e : r ≡ P p) (h : 
   count-miss k t q = rw (add-one p, ← e, t) (omega arith)
 
 -- the presence byte is stored, and then the 20 bytes after it
-pub put-done : (b : List ℕ) (at : ℕ) (d : List ℕ) → at + 21 ≤ length b → length d ≡ 20 → paste (set b at 1) (at + 1) d (length d) ≡ putSlot b at d
+pub put-done : (b : List ℕ) (at : ℕ) (d : List ℕ) → at + 21 ≤ length b → length d ≡ 20
+    → paste (set b at 1) (at + 1) d (length d) ≡ putSlot b at d
 unfolding putSlot
 put-done b at d h n =
     let e : at + 1 + 20 ≡ at + 21 = omega arith in

@@ -11,8 +11,8 @@ use Rattle.meaning.specs.Book.{nOf, numbersOf, ownOf}
 use Rattle.meaning.specs.Opening.{allowed}
 
 -- the number whose eight bytes stand at i, big-endian
-abbrev pub doubleAt : List ℕ → ℕ → ℕ
-doubleAt s i = wordAt s i * 4294967296 + wordAt s (i + 4)
+abbrev pub twoWordsAt : List ℕ → ℕ → ℕ
+twoWordsAt s i = wordAt s i * 4294967296 + wordAt s (i + 4)
 
 -- n, S and own number are allowed, and there are as many bytes as n and S ask
 unfoldable pub sized : List ℕ → Bool

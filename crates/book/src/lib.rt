@@ -3,9 +3,9 @@ ghost use mathlib.Core.Path.{_≡_};
 ghost use mathlib.Core.Bool.{_&&_};
 ghost use mathlib.Core.List.{_∷_};
 ghost use Prim.Native.Nat.{_+_, _*_, _<_, _≤_};
-ghost use lib.Dec.{eqb};
 ghost use lib.ListN.{length, replicate};
 ghost use lib.Seq.{paste};
+ghost use Rattle.card.specs.Card.{houses};
 ghost use Rattle.card.specs.Count.{count};
 ghost use Rattle.words.specs.Words.{be32};
 ghost use Rattle.sheet.specs.Kept.{sheetAt};
@@ -15,7 +15,7 @@ ghost use Rattle.meaning.specs.Layout.{numbersOk, headLength, perEntry, slotCou
 ghost use Rattle.meaning.specs.Book.{nOf, numbersOf, ownOf, seasonOf, sheetPlace};
 ghost use Rattle.meaning.specs.Legal.{slotsOk, legal};
 ghost use Rattle.meaning.specs.Opening.{Opened, Length, allowed, opened, lengthAnswer};
-ghost use Rattle.book.specs.Parts.{doubleAt, sized, blank};
+ghost use Rattle.book.specs.Parts.{twoWordsAt, sized, blank};
 use lot::Sheet;
 
 // Entry numbers S: 1 to 4 per sender.
@@ -26,10 +26,10 @@ const SHEET: usize = 7;
 
 // ---- slots
 
-// The number whose eight bytes stand at i.
-fn double_at(s: &[u8], i: usize) -> u64
+// The number whose eight bytes stand at i: two words, which compile to one load.
+fn two_words_at(s: &[u8], i: usize) -> u64
     requires { ⌜ i + 7 < length (now s) ⌝ }
-    ensures { λ r. ⌜ r ≡ doubleAt (now (s .entry)) i ⌝ }
+    ensures { λ r. ⌜ r ≡ twoWordsAt (now (s .entry)) i ⌝ }
 {
     (words::word_at(s, i) as u64) * 4294967296 + (words::word_at(s, i + 4) as u64)
 }
@@ -39,9 +39,22 @@ fn is_same_at(b: &[u8], at: usize, d: &[u8]) -> bool
     requires { ⌜ (at + 20 ≤ length (now b)) × (length (now d) ≡ 20) ⌝ }
     ensures { λ r. ⌜ r ≡ same (part (now (b .entry)) at 20) (now (d .entry)) ⌝ }
 {
-    if double_at(b, at) == double_at(d, 0) {
-        if double_at(b, at + 8) == double_at(d, 8) {
+    if two_words_at(b, at) == two_words_at(d, 0) {
+        if two_words_at(b, at + 8) == two_words_at(d, 8) {
             return words::word_at(b, at + 16) == words::word_at(d, 16);
+        }
+    }
+    false
+}
+
+// Whether the 20 bytes at `at` are zero.
+fn is_zero_at(b: &[u8], at: usize) -> bool
+    requires { ⌜ at + 20 ≤ length (now b) ⌝ }
+    ensures { λ r. ⌜ r ≡ same (part (now (b .entry)) at 20) (replicate 20 0) ⌝ }
+{
+    if two_words_at(b, at) == 0 {
+        if two_words_at(b, at + 8) == 0 {
+            return words::word_at(b, at + 16) == 0;
         }
     }
     false
@@ -90,7 +103,7 @@ fn is_slot_ok(b: &[u8], at: usize) -> bool
         return true;
     }
     if p == 0 {
-        return is_same_at(b, at + 1, &[0; 20]);
+        return is_zero_at(b, at + 1);
     }
     false
 }
@@ -140,6 +153,7 @@ pub fn own_of(b: &[u8]) -> usize
     words::wide(b[2]) as usize
 }
 
+// The season.
 pub fn season_of(b: &[u8]) -> u32
     requires { ⌜ 6 < length (now b) ⌝ }
     ensures { λ r. ⌜ r ≡ seasonOf (now (b .entry)) ⌝ }
@@ -147,6 +161,7 @@ pub fn season_of(b: &[u8]) -> u32
     words::word_at(b, 3)
 }
 
+// The sheet.
 pub fn sheet_of(b: &[u8]) -> Sheet
     requires { ⌜ 28 < length (now b) ⌝ }
     ensures { λ r. ⌜ r ≡ sheetAt (now (b .entry)) sheetPlace ⌝ }
@@ -171,11 +186,12 @@ fn per_entry(n: usize) -> usize
     2 * n + 3
 }
 
-fn times(a: usize, b: usize) -> usize
-    requires { ⌜ (a < 256) × (b < 256) ⌝ }
-    ensures { λ r. ⌜ (r ≡ a * b) × (r < 65281) ⌝ }
+// The entries of so many numbers, one for each sender.
+fn entries_of(numbers: usize, n: usize) -> usize
+    requires { ⌜ (numbers < 256) × (n < 256) ⌝ }
+    ensures { λ r. ⌜ (r ≡ numbers * n) × (r ≤ 65025) ⌝ }
 {
-    a * b
+    numbers * n
 }
 
 // The slots of so many entries.
@@ -191,7 +207,7 @@ pub fn slot_count(n: usize, s: usize) -> usize
     requires { ⌜ (n < 256) × (s < 256) ⌝ }
     ensures { λ r. ⌜ (r ≡ slotCount n s) × (r < 134217728) ⌝ }
 {
-    s + slots_of(times(s, n), n)
+    s + slots_of(entries_of(s, n), n)
 }
 
 // Where slot k begins.
@@ -207,10 +223,10 @@ pub fn entry_slot(n: usize, s: usize, c: usize, j: usize, i: usize) -> usize
     requires { ⌜ (n < 256) × (s < 256) × (c < 256) × (j < 256) × (i < 1024) ⌝ }
     ensures { λ r. ⌜ (r ≡ entrySlot n s c j i) × (r < 134217728) ⌝ }
 {
-    s + slots_of(times(c, n) + j, n) + i
+    s + slots_of(entries_of(c, n) + j, n) + i
 }
 
-// A length that depends on n and S only.
+// The bytes of a book.
 fn book_length(n: usize, s: usize) -> usize
     requires { ⌜ (n < 256) × (s < 256) ⌝ }
     ensures { λ r. ⌜ r ≡ lengthOf n s ⌝ }
@@ -220,20 +236,29 @@ fn book_length(n: usize, s: usize) -> usize
 
 // ---- which numbers are allowed, and the length
 
+// S is 1 to 4.
 fn is_numbers(s: u32) -> bool
     ensures { λ r. ⌜ r ≡ numbersOk s ⌝ }
 {
     1 <= s && s <= MOST_NUMBERS
 }
 
+// n and S are allowed.
+fn is_size(n: u32, s: u32) -> bool
+    ensures { λ r. ⌜ r ≡ houses n && numbersOk s ⌝ }
+{
+    if card::is_houses(n) {
+        return is_numbers(s);
+    }
+    false
+}
+
 // n, S and own number are allowed.
 fn is_allowed(n: u32, s: u32, own: u32) -> bool
     ensures { λ r. ⌜ r ≡ allowed n s own ⌝ }
 {
-    if card::is_houses(n) {
-        if is_numbers(s) {
-            return own < n;
-        }
+    if is_size(n, s) {
+        return own < n;
     }
     false
 }
@@ -244,14 +269,13 @@ pub struct LengthAnswer {
     pub length: u64,
 }
 
+// The public answer for a length that depends on n and S only.
 pub fn length_of(n: u32, s: u32) -> LengthAnswer
     ensures { λ r. ⌜ _≡_ {A = Length} (record { answer = r .answer; length = r .length }) (lengthAnswer n s) ⌝ }
 {
-    if card::is_houses(n) {
-        if is_numbers(s) {
-            let length = book_length(n as usize, s as usize) as u64;
-            return LengthAnswer { answer: 0, length };
-        }
+    if is_size(n, s) {
+        let length = book_length(n as usize, s as usize) as u64;
+        return LengthAnswer { answer: 0, length };
     }
     LengthAnswer {
         answer: 9,
@@ -313,7 +337,7 @@ fn clear(b: &mut [u8])
 }
 
 // The bytes before the sheet: n, S, own number, season.
-fn numbers_in_bytes(n: u8, s: u8, own: u8, season: u32) -> [u8; 7]
+fn before_sheet(n: u8, s: u8, own: u8, season: u32) -> [u8; 7]
     ensures { λ r. ⌜ r ≡ n ∷ s ∷ own ∷ be32 season ⌝ }
 {
     let q = words::quad_of(season);
@@ -326,13 +350,14 @@ fn lay_blank(b: &mut [u8], n: u8, s: u8, own: u8, season: u32, sheet: &[u8])
     ensures { λ _. ⌜ now (b .exit) ≡ blank (length (now (b .entry))) n s own season (now (sheet .entry)) ⌝ }
 {
     clear(b);
-    lay_at(b, 0, &numbers_in_bytes(n, s, own, season));
+    lay_at(b, 0, &before_sheet(n, s, own, season));
     lay_at(b, SHEET, sheet);
 }
 
 // Opening: 9, 10, 11; else it writes the whole buffer.
 pub fn open_book(book: &mut [u8], n: u32, s: u32, own: u32, season: u32, sheet: &[u8]) -> u8
-    ensures { λ r. ⌜ _≡_ {A = Opened} (record { answer = r; book = now (book .exit) }) (opened (now (book .entry)) n s own season (now (sheet .entry))) ⌝ }
+    ensures { λ r. ⌜ _≡_ {A = Opened} (record { answer = r; book = now (book .exit) })
+        (opened (now (book .entry)) n s own season (now (sheet .entry))) ⌝ }
 {
     if is_allowed(n, s, own) {
         if sheet::is_sheet(sheet) {

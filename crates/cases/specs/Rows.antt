@@ -2,18 +2,38 @@
 -- Assumes nothing.
 use Prim.Native.Nat.{ℕ}
 use mathlib.Core.Path.{_≡_, refl}
-use mathlib.Core.Bool.{true}
+use mathlib.Core.Bool.{Bool, true, false}
 use mathlib.Core.List.{List, [], _∷_}
+use mathlib.Core.Option.{Option, none, some}
 use lib.Dec.{ltb}
+use lib.ListN.{replicate}
 use lib.Ieee.{binary32, ofBits, toBits, le}
-use Rattle.card.specs.Card.{countsOf}
+use Rattle.card.specs.Card.{houses, tolerated, quorum, amplify, deliver, countsOf}
 use Rattle.lot.specs.declared.Gate.{Gate}
 use Rattle.lot.specs.declared.Gate.the-variants.{Open, AtMost}
 use Rattle.lot.specs.declared.Sheet.{Sheet}
 use Rattle.lot.specs.declared.Declaration.{Declaration}
-use Rattle.lot.specs.Declaration.{bytesOf}
-use Rattle.sheet.specs.Kept.{sheetBytes, judged}
-use Rattle.message.specs.Message.{Five, gives, readOf, writtenOf}
+use Rattle.lot.specs.Declaration.{declarationAt, bytesOf}
+use Rattle.lot.specs.Sheet.{plausible}
+use Rattle.sheet.specs.Kept.{sheetBytes, sheetAt, isSheet, judged}
+use Rattle.message.specs.Message.{Five, wire, gives, readOf, writtenOf}
+use Rattle.protocol.specs.Entry.{same}
+use Rattle.protocol.specs.Steps.{recording, takesSend, takesEcho, takesReady, receive}
+use Rattle.protocol.specs.Book.{outcome}
+use Rattle.protocol.specs.Thresholds.{rulesOf}
+use Rattle.meaning.specs.Slot.{slotAt}
+use Rattle.meaning.specs.Layout.{numbersOk, lengthOf, entrySlot}
+use Rattle.meaning.specs.Book.{meant, write}
+use Rattle.meaning.specs.Legal.{legal}
+use Rattle.meaning.specs.Opening.{opened}
+use Rattle.counter.specs.Call.{giving, received}
+
+-- one call: a message of the kind from the house, on the entry of sender 0 and number 0; the message given, by its kind, and the delivery
+pub record Heard : Type 0 where
+  pub house : ℕ
+  pub kind : ℕ
+  pub gives : Option ℕ
+  pub delivers : Bool
 
 -- a case, by what it speaks of
 pub data Row : Type 0 where
@@ -25,19 +45,8 @@ pub data Row : Type 0 where
   judge : Sheet → Declaration → (answer : ℕ) → Row
   -- these five things, and the bytes: they write so, and these bytes read so
   form : Five → List ℕ → Row
-
-abbrev pub Holds : Row → Type 0
-Holds (card n t q) = (countsOf n .t ≡ t) × (countsOf n .quorum ≡ q)
-Holds (short n vouchers) = ltb vouchers (countsOf n .quorum) ≡ true
-Holds (judge s d answer) = judged (sheetBytes s) (bytesOf d) ≡ answer
-Holds (form m bytes) =
-    (writtenOf (m .kind) (m .season) (m .sender) (m .number) (m .declaration) ≡ record { answer = 0; message = bytes })
-    × (readOf bytes ≡ gives m)
-
--- every row of a table holds
-abbrev pub All : List Row → Type 0
-All [] = Unit
-All (r ∷ rs) = Holds r × All rs
+  -- a freshly opened book of so many houses, own number 0, one number: what each message in turn gives
+  calls : (n : ℕ) → List Heard → Row
 
 -- a sheet with this cap and moisture gate, conductivity open; a lot with these numbers and moisture, conductivity 0.5
 abbrev sheet : ℕ → Gate → Sheet
@@ -57,6 +66,45 @@ twenty = 0x41a00000
 abbrev aNan : ℕ
 aNan = 0x7fc00000
 
+-- a message of the kind on the entry, with one declaration throughout
+abbrev says : ℕ → List ℕ
+says kind = wire (record { kind = kind; season = 2026; sender = 0; number = 0; declaration = lot 40 800 seventeenHalf })
+
+abbrev given : Option ℕ → Option (List ℕ)
+given none = none
+given (some kind) = some (says kind)
+
+abbrev delivered : Bool → Option (List ℕ)
+delivered true = some (bytesOf (lot 40 800 seventeenHalf))
+delivered false = none
+
+-- each call's outcome, one after the other
+abbrev Calls : List ℕ → List Heard → Type 0
+Calls b [] = Unit
+Calls b (h ∷ hs) =
+    (received b (h .house) (says (h .kind)) .given ≡ giving 0 (given (h .gives)) (delivered (h .delivers)))
+    × Calls (received b (h .house) (says (h .kind)) .book) hs
+
+abbrev pub Holds : Row → Type 0
+Holds (card n t q) = (countsOf n .t ≡ t) × (countsOf n .quorum ≡ q)
+Holds (short n vouchers) = ltb vouchers (countsOf n .quorum) ≡ true
+Holds (judge s d answer) = judged (sheetBytes s) (bytesOf d) ≡ answer
+Holds (form m bytes) =
+    (writtenOf (m .kind) (m .season) (m .sender) (m .number) (m .declaration) ≡ record { answer = 0; message = bytes })
+    × (readOf bytes ≡ gives m)
+Holds (calls n hs) = Calls (opened (replicate (lengthOf n 1) 0) n 1 0 2026 (sheetBytes (sheet 20 Open)) .book) hs
+
+-- every row of a table holds
+abbrev pub All : List Row → Type 0
+All [] = Unit
+All (r ∷ rs) = Holds r × All rs
+
+abbrev echo : ℕ → Option ℕ → Heard
+echo house gives = record { house = house; kind = 2; gives = gives; delivers = false }
+
+abbrev ready : ℕ → Option ℕ → Bool → Heard
+ready house gives delivers = record { house = house; kind = 3; gives = gives; delivers = delivers }
+
 abbrev pub rows : List Row
 rows =
     -- 1 to 3
@@ -72,9 +120,16 @@ rows =
     ∷ form (record { kind = 1; season = 2026; sender = 2; number = 1; declaration = lot 40 800 seventeenHalf })
     (0x01 ∷ 0x00 ∷ 0x01 ∷ 0x01 ∷ 0x02 ∷ 0x00 ∷ 0x06 ∷ 0x00 ∷ 0x00 ∷ 0x07 ∷ 0xEA ∷ 0x02 ∷ 0x01 ∷ 0x03 ∷ 0x00 ∷ 0x14 ∷ 0x00 ∷ 0x00
     ∷ 0x00 ∷ 0x4D ∷ 0x00 ∷ 0x00 ∷ 0x00 ∷ 0x28 ∷ 0x00 ∷ 0x00 ∷ 0x03 ∷ 0x20 ∷ 0x41 ∷ 0x8C ∷ 0x00 ∷ 0x00 ∷ 0x3F ∷ 0x00 ∷ 0x00 ∷ 0x00 ∷ [])
+    -- 10 to 12
+    ∷ calls 4 (echo 0 none ∷ echo 1 none ∷ echo 2 (some 3) ∷ [])
+    ∷ calls 4 (ready 1 none false ∷ ready 2 (some 3) false ∷ ready 3 none true ∷ [])
+    ∷ calls 1 (ready 0 (some 3) true ∷ [])
     ∷ []
 
 -- every row holds
 pub all-hold : All rows
-unfolding countsOf judged sheetBytes bytesOf ofBits toBits le writtenOf readOf
-all-hold = ((refl, refl), ((refl, refl), ((refl, refl), (refl, (refl, (refl, (refl, (refl, (refl, ((refl, refl), tt))))))))))
+unfolding countsOf judged sheetBytes bytesOf ofBits toBits le writtenOf readOf opened houses numbersOk lengthOf write received legal meant
+    sheetAt isSheet slotAt entrySlot plausible declarationAt wire outcome receive recording takesSend takesEcho takesReady rulesOf tolerated
+    quorum amplify deliver same
+all-hold =
+    ((refl, refl), ((refl, refl), ((refl, refl), (refl, (refl, (refl, (refl, (refl, (refl, ((refl, refl), ((refl, (refl, (refl, tt))), ((refl, (refl, (refl, tt))), ((refl, tt), tt)))))))))))))

@@ -1,13 +1,13 @@
 -- The protocol's outcome of a call, answer by answer, from the tests in the order in which the code makes them.
 -- Assumes nothing.
-use Prim.Native.Nat.{ℕ, _<_, _≤_}
-use mathlib.Core.Path.{_≡_}
+use Prim.Native.Nat.{ℕ, zero, suc, _<_, _≤_}
+use mathlib.Core.Path.{_≡_, refl}
 use mathlib.Core.Bool.{true, false}
 use mathlib.Core.Option.{Option, none, some}
 use lib.Dec.{ltb}
 use borrow.Author.Tests.{lt-ltb, le-ltb}
-use Rattle.protocol.specs.Entry.{Decl, Kind, Entry, Rules, heard}
-use Rattle.protocol.specs.Steps.{refused, takes, may, recording, publishes, receive, publish}
+use Rattle.protocol.specs.Entry.{Decl, Kind, SEND, ECHO, READY, Entry, Rules, heard}
+use Rattle.protocol.specs.Steps.{Out, refused, settle, takesSend, takesEcho, takesReady, takes, may, recording, publishes, receiveAnswer, receive, publish}
 use Rattle.protocol.specs.Book.{Book, publishing, receiving, outcome}
 
 module _ (R : Rules) (S own p : ℕ) (k : Kind) (j c : ℕ) (v : Decl) (E : Book) where
@@ -62,3 +62,26 @@ module _ (R : Rules) (S own c : ℕ) (v : Decl) (E : Book) (in-sender : own < R 
       pub publishes-it : E own c .published ≡ none → outcome R S own (publishing c v) E ≡ publishes v (E own c)
       unfolding outcome publish
       publishes-it h = rw (lt-ltb _ _ in-sender, lt-ltb _ _ in-number, ok, h)
+
+-- ---- the answer alone
+
+takes-zero : (R : Rules) (k : Kind) (p : ℕ) (v : Decl) (e : Entry) → takes R k p v e .answer ≡ 0
+unfolding takesSend takesEcho takesReady
+takes-zero R SEND p v e = refl
+takes-zero R ECHO p v e = refl
+takes-zero R READY p v e = refl
+
+settle-answer : (a : ℕ) (o : Out) (e : Entry) → o .answer ≡ 0 → settle a o e .answer ≡ a
+settle-answer zero o e z = z
+settle-answer (suc a) o e z = refl
+
+module _ (R : Rules) (S own p : ℕ) (k : Kind) (j c : ℕ) (v : Decl) (E : Book) (in-sender : j < R .n) (in-number : c < S) where
+  pub answer-is : outcome R S own (receiving p k j c v) E .answer ≡ receiveAnswer R j p k v (E j c)
+  unfolding outcome receive
+  answer-is =
+      rw (lt-ltb _ _ in-sender, lt-ltb _ _ in-number)
+      (settle-answer (receiveAnswer R j p k v (E j c)) (takes R k p v (E j c)) (E j c) (takes-zero R k p v (E j c)))
+
+  pub accepted-is : receiveAnswer R j p k v (E j c) ≡ 0 → outcome R S own (receiving p k j c v) E ≡ takes R k p v (E j c)
+  unfolding outcome receive
+  accepted-is z = rw (lt-ltb _ _ in-sender, lt-ltb _ _ in-number, z)

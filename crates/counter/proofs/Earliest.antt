@@ -59,11 +59,11 @@ module _ (f : ℕ → Option Place) where
 
 -- an entry that waits, and one that does not
 module _ (b : List ℕ) (c j : ℕ) where
-  waiting-some : waits b j c ≡ true → waitingAt b c j ≡ some (record { number = c; sender = j })
+  pub waiting-some : waits b j c ≡ true → waitingAt b c j ≡ some (record { number = c; sender = j })
   unfolding waitingAt
   waiting-some e = rw e
 
-  waiting-none : waits b j c ≡ false → waitingAt b c j ≡ none
+  pub waiting-none : waits b j c ≡ false → waitingAt b c j ≡ none
   unfolding waitingAt
   waiting-none e = rw e
 

@@ -3,6 +3,16 @@ pub mod Answers
 pub mod Seen
 pub mod Fullness
 pub mod Taken
+pub mod Room
+pub mod Marking
+pub mod Entered
+pub mod Declarations
+pub mod Checking
+pub mod Carried
+pub mod Received
+pub mod Published
+pub mod Searching
+pub mod Settled
 pub mod Fits
 pub mod Keeps
 pub mod Between

@@ -14,29 +14,26 @@ use Rattle.protocol.specs.Entry.{Decl, Kind, SEND, ECHO, READY, Entry, Rules, i
 use Rattle.protocol.specs.Steps.{Out, Say, say, given, recorded, marked, reached, takesSend, takesEcho, takesReady, takes}
 use Rattle.protocol.specs.Thresholds.{rulesOf}
 use Rattle.meaning.specs.Slot.{slotAt, putSlot}
-use Rattle.meaning.specs.Layout.{slotPlace, entrySlot, echoSlot, readySlot, readySentSlot, deliveredSlot}
+use Rattle.meaning.specs.Layout.{heardSlot, slotPlace, entrySlot, echoSlot, readySlot, readySentSlot, deliveredSlot}
 use Rattle.meaning.specs.Book.{nOf, numbersOf, look, meant}
 use Rattle.meaning.specs.Legal.{legal, IsDecl}
-use Rattle.meaning.proofs.Stores.{Stored, heardSlot, stored-entry, stored-heard, stored-taken}
+use Rattle.meaning.proofs.Stores.{Stored, stored-entry, stored-heard, stored-taken}
 use Rattle.counter.specs.declared.Marks.{Marks}
 use Rattle.counter.specs.Call.{rulesBy}
 use Rattle.counter.specs.Places.{placeIn, Has, slotFrom, votesFrom, marksAt}
-use Rattle.counter.proofs.Seen.{place-along, sent-seen, delivered-seen, echoes-seen, readies-seen}
+use Rattle.counter.proofs.Seen.{from-base, sent-seen, delivered-seen, echoes-seen, readies-seen}
 
 -- ---- in a book that has the entry, slots from its first one on are the entry's
 
 module _ (b : List ℕ) (j c : ℕ) (has : Has b j c) (base : ℕ) (at : base ≡ placeIn b j c 0) where
-  from : (i : ℕ) → base + 21 * i ≡ placeIn b j c i
-  from i = let z : 0 + i ≡ i = omega arith in ap (λ (x : ℕ). x + 21 * i) at ∙ place-along b j c has 0 i ∙ ap (placeIn b j c) z
-
   sent-from : slotFrom b base (readySentSlot (nOf b)) ≡ look b j c .readySent
-  sent-from = ap (slotAt b) (from (readySentSlot (nOf b))) ∙ sym (sent-seen b j c has)
+  sent-from = ap (slotAt b) (from-base b j c has base at (readySentSlot (nOf b))) ∙ sym (sent-seen b j c has)
 
   delivered-from : slotFrom b base (deliveredSlot (nOf b)) ≡ look b j c .delivered
-  delivered-from = ap (slotAt b) (from (deliveredSlot (nOf b))) ∙ sym (delivered-seen b j c has)
+  delivered-from = ap (slotAt b) (from-base b j c has base at (deliveredSlot (nOf b))) ∙ sym (delivered-seen b j c has)
 
   row-from : (i : ℕ) (v : Decl) → votesFrom b base i v ≡ count (λ p. holds (slotAt b (placeIn b j c i + 21 * p)) v) (nOf b)
-  row-from i v = ap (λ (x : ℕ). count (λ p. holds (slotAt b (x + 21 * p)) v) (nOf b)) (from i)
+  row-from i v = ap (λ (x : ℕ). count (λ p. holds (slotAt b (x + 21 * p)) v) (nOf b)) (from-base b j c has base at i)
 
   marks-echo : (v : Decl) → marksAt b ECHO base v
       ≡ record { gives = reached (countsOf (nOf b) .quorum) (look b j c .readySent) (look b j c .echo) v (nOf b); delivers = false }
@@ -67,13 +64,13 @@ module _ (b : List ℕ) (h : legal b ≡ true) (bytes : Bytes b) (j c p : ℕ) (
   abbrev R : Rules
   R = rulesBy (meant b)
 
-  abbrev heard-in : Kind → List ℕ
+  abbrev pub heard-in : Kind → List ℕ
   heard-in k = putSlot b (placeIn b j c (heardSlot (nOf b) k p)) v
 
   one : (k : Kind) → Stored b (heard-in k) j c (recorded k p v (look b j c))
-  one k = stored-heard b h bytes v dv (nOf b) (numbersOf b) refl refl j c (has .number) (has .sender) k p hp
+  one k = stored-heard b h bytes v dv (nOf b) (numbersOf b) refl refl j c (has .sender) (has .number) k p hp
 
-  has-one : (k : Kind) → Has (heard-in k) j c
+  pub has-one : (k : Kind) → Has (heard-in k) j c
   has-one k =
       record {
         is-legal = one k .legal;
@@ -81,11 +78,11 @@ module _ (b : List ℕ) (h : legal b ≡ true) (bytes : Bytes b) (j c p : ℕ) (
         number = omega (arith, one k .numbers, has .number);
       }
 
-  base-one : (k : Kind) → placeIn b j c 0 ≡ placeIn (heard-in k) j c 0
+  pub base-one : (k : Kind) → placeIn b j c 0 ≡ placeIn (heard-in k) j c 0
   base-one k = sym (λ i. slotPlace (one k .n i) (entrySlot (one k .n i) (one k .numbers i) c j 0))
 
   -- the step of a voucher, by its marks
-  abbrev taking : Kind → Marks → Out
+  abbrev pub taking : Kind → Marks → Out
   taking k m =
       record {
         answer = 0;

@@ -11,12 +11,13 @@ use Rattle.lot.specs.declared.Declaration.{Declaration}
 use Rattle.lot.specs.declared.Sheet.{Sheet}
 use Rattle.lot.specs.Declaration.{declarationAt, bytesOf}
 use Rattle.lot.specs.Sheet.{plausible}
+use Rattle.sheet.specs.Kept.{sheetAt}
 use Rattle.message.specs.Message.{Five, wire, readOf}
-use Rattle.protocol.specs.Entry.{Decl, Kind, SEND, ECHO, READY, Entry, Rules}
-use Rattle.protocol.specs.Steps.{Say, say, Out}
+use Rattle.protocol.specs.Entry.{Decl, Kind, SEND, ECHO, READY, Entry, Rules, heard}
+use Rattle.protocol.specs.Steps.{Say, say, Out, publishes, must, may, recording, takes}
 use Rattle.protocol.specs.Book.{Call, publishing, receiving, senderOf, numberOf, outcome, place}
 use Rattle.protocol.specs.Thresholds.{rulesOf}
-use Rattle.meaning.specs.Book.{Meaning, meant, write, ownOf, seasonOf}
+use Rattle.meaning.specs.Book.{Meaning, meant, look, write, ownOf, seasonOf, sheetPlace}
 use Rattle.meaning.specs.Legal.{legal}
 use Rattle.counter.specs.declared.Outcome.{Outcome}
 
@@ -24,6 +25,9 @@ use Rattle.counter.specs.declared.Outcome.{Outcome}
 pub record Result : Type 0 where
   pub given : Outcome
   pub book : List ℕ
+
+abbrev pub result : Outcome → List ℕ → Result
+result o b = record { given = o; book = b }
 
 abbrev pub isThere : {A : Type 0} → Option A → Bool
 isThere none = false
@@ -72,9 +76,12 @@ kindNumber SEND = 1
 kindNumber ECHO = 2
 kindNumber READY = 3
 
--- the writer's 36 bytes
+-- the five things, and the writer's 36 bytes of them
+abbrev pub fiveOf : (kind season sender number : ℕ) → Declaration → Five
+fiveOf kind season j c d = record { kind = kind; season = season; sender = j; number = c; declaration = d }
+
 abbrev pub wired : (kind season sender number : ℕ) → Declaration → List ℕ
-wired kind season j c d = wire (record { kind = kind; season = season; sender = j; number = c; declaration = d })
+wired kind season j c d = wire (fiveOf kind season j c d)
 
 -- Each message given is the writer's 36 bytes, with the book's season and that entry's sender and number.
 unfoldable pub letter : (season sender number : ℕ) → Say → List ℕ
@@ -104,6 +111,23 @@ entered b j c o =
       given = giving (o .answer) (letters (seasonOf b) j c (o .message)) (o .delivery);
       book = write (withEntry (meant b) j c (o .entry));
     }
+
+-- an accepted message of the kind from house p, on the entry of sender j and number c
+unfoldable pub taken : List ℕ → (house : ℕ) → Kind → (sender number : ℕ) → Decl → Result
+unfolding entered rulesBy
+taken b p k j c v = entered b j c (takes (rulesBy (meant b)) k p v (look b j c))
+
+-- an accepted publication at number c
+unfoldable pub publishedAt : List ℕ → (number : ℕ) → Decl → Result
+unfolding entered
+publishedAt b c v = entered b (ownOf b) c (publishes v (look b (ownOf b) c))
+
+-- the answers of receiving, past those before them: 6, then recording's; and 5 before these
+abbrev pub fromAnswer : List ℕ → (house : ℕ) → Kind → (sender number : ℕ) → Decl → ℕ
+fromAnswer b p k j c v = must (may j k p) 6 (recording (heard k p (look b j c)) v)
+
+abbrev pub lotAnswer : List ℕ → (house : ℕ) → Kind → (sender number : ℕ) → Decl → ℕ
+lotAnswer b p k j c v = must (okBy (sheetAt b sheetPlace) v) 5 (fromAnswer b p k j c v)
 
 -- a step's outcome at the bytes
 abbrev pub carried : List ℕ → (sender number : ℕ) → Out → Result

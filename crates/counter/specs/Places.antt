@@ -1,17 +1,18 @@
 -- Where a call's slots stand, and what the code asks of the book it works on.
 -- Assumes nothing.
-use Prim.Native.Nat.{ℕ, _+_, _*_, _<_}
+use Prim.Native.Nat.{ℕ, _+_, _*_, _≤_, _<_}
 use mathlib.Core.Path.{_≡_}
 use mathlib.Core.Bool.{Bool, true, false, _&&_}
 use mathlib.Core.List.{List}
 use mathlib.Core.Option.{Option}
 use lib.Dec.{leb}
-use Rattle.card.specs.Card.{countsOf}
+use lib.ListN.{length}
+use Rattle.card.specs.Card.{houses, countsOf}
 use Rattle.card.specs.Count.{count}
 use Rattle.protocol.specs.Entry.{Decl, Kind, SEND, ECHO, READY, isNone, holds}
 use Rattle.meaning.specs.Slot.{slotAt}
-use Rattle.meaning.specs.Layout.{slotLength, slotPlace, entrySlot, readySentSlot, deliveredSlot}
-use Rattle.meaning.proofs.Stores.{heardSlot}
+use Rattle.meaning.specs.Layout.{slotLength, slotPlace, perEntry, entrySlot, readySentSlot, deliveredSlot}
+use Rattle.meaning.specs.Layout.{heardSlot}
 use Rattle.meaning.specs.Book.{nOf, numbersOf}
 use Rattle.meaning.specs.Legal.{legal}
 use Rattle.counter.specs.declared.Marks.{Marks}
@@ -25,6 +26,18 @@ pub record Has (b : List ℕ) (j c : ℕ) : Type 0 where
   pub is-legal : legal b ≡ true
   pub sender : j < nOf b
   pub number : c < numbersOf b
+
+-- n is a number of houses, and the slots of an entry that begins at `base` lie within the bytes
+pub record Within (b : List ℕ) (base : ℕ) : Type 0 where
+  pub n : houses (nOf b) ≡ true
+  pub some : 0 < length b
+  pub room : base + slotLength * perEntry (nOf b) ≤ length b
+  pub small : base < 4294967296
+
+-- the entry of sender j and number c begins at `base`
+pub record Begins (b : List ℕ) (j c base : ℕ) : Type 0 where
+  pub is : base ≡ placeIn b j c 0
+  pub within : Within b base
 
 -- slot i of the entry whose first slot begins at `base`
 abbrev pub slotFrom : List ℕ → (base i : ℕ) → Option Decl

@@ -9,6 +9,8 @@ use Rattle.protocol.specs.Entry.{isNone, isSome}
 use Rattle.meaning.specs.Book.{nOf, numbersOf, look}
 use Rattle.meaning.specs.Legal.{legal}
 use Rattle.counter.specs.declared.Waiting.{Waiting}
+use Rattle.counter.specs.declared.Found.{Found}
+use Rattle.counter.specs.declared.Found.the-variants.{At, Nothing}
 
 -- with a SEND heard and nothing delivered
 unfoldable pub waits : List ℕ → (sender number : ℕ) → Bool
@@ -45,6 +47,11 @@ pub record Earliest (b : List ℕ) (x : Place) : Type 0 where
   pub waiting : waits b (x .sender) (x .number) ≡ true
   pub lower-number : (j c : ℕ) → j < nOf b → c < x .number → waits b j c ≡ false
   pub lower-sender : (j : ℕ) → j < x .sender → waits b j (x .number) ≡ false
+
+-- the number and sender that each of the search's cases stands for
+abbrev pub placeOf : Found → Option Place
+placeOf (At number sender) = some (record { number = number; sender = sender })
+placeOf Nothing = none
 
 -- an entry, or a plain none, or answer 1
 abbrev pub found : Option Place → Waiting

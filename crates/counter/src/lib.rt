@@ -7,12 +7,19 @@ ghost use lib.Dec.{leb};
 ghost use lib.ListN.{length};
 ghost use Rattle.lot.specs.Declaration.{bytesOf};
 ghost use Rattle.message.specs.Message.{isKind};
-ghost use Rattle.protocol.specs.Entry.{isNone};
+ghost use Rattle.protocol.specs.Entry.{SEND, heard, isNone};
 ghost use Rattle.protocol.specs.Steps.{given, recording};
+ghost use Rattle.protocol.specs.Book.{publishing, receiving};
 ghost use Rattle.meaning.specs.Slot.{slotAt, putSlot};
-ghost use Rattle.counter.specs.Call.{giving, orZeros, kindOf, wired};
-ghost use Rattle.meaning.proofs.Stores.{heardSlot};
+ghost use Rattle.meaning.specs.Book.{nOf, numbersOf, look};
+ghost use Rattle.meaning.specs.Legal.{legal, IsDecl};
+ghost use Rattle.counter.specs.Call.{result, giving, orZeros, kindOf, wired, taken, fromAnswer, lotAnswer, stepOf};
+ghost use Rattle.counter.specs.Call.{fiveOf, called, heardFrom, received, publishedAt, published};
+ghost use Rattle.meaning.specs.Layout.{heardSlot};
+ghost use Rattle.counter.specs.Places.{Has, Within, Begins, marksAt};
+ghost use Rattle.counter.specs.Search.{waits, earliest, placeOf, waiting};
 use lot::Declaration;
+use message::Reading;
 
 // What publishing and receiving give. An absent message or declaration is zeros.
 pub struct Outcome {
@@ -103,7 +110,7 @@ fn accept(
 // The slot of an entry that a message of the kind from a house is recorded in.
 fn heard_slot(kind: u8, n: usize, house: usize) -> usize
     requires { ⌜ (n < 256) × (house < 256) ⌝ }
-    ensures { λ r. ⌜ (r ≡ heardSlot n (kindOf kind) house) × (r < 1024) ⌝ }
+    ensures { λ r. ⌜ (r ≡ heardSlot n (kindOf kind) house) × (r ≤ 1 + n + house) ⌝ }
 {
     if kind == 1 {
         return 0;
@@ -143,5 +150,344 @@ fn mark(book: &mut [u8], at: usize, yes: bool, d: [u8; 20])
 {
     if yes {
         book::put_slot(book, at, d);
+    }
+}
+
+// ---- an accepted message
+
+// Where the entry of a sender and a number begins.
+fn entry_at(book: &[u8], sender: usize, number: usize) -> usize
+    requires { ⌜ Has (now book) sender number ⌝ }
+    ensures { λ r. ⌜ Begins (now (book .entry)) sender number r ⌝ }
+{
+    let n = book::n_of(book);
+    let s = book::numbers_of(book);
+    book::slot_place(n, book::entry_slot(n, s, number, sender, 0))
+}
+
+// Whether the vouchers of this kind for d now make a READY, and deliver.
+fn marks_of(book: &[u8], kind: u8, base: usize, d: [u8; 20]) -> Marks
+    requires { ⌜ Within (now book) base × (kind ≡ 1 → ⊥) ⌝ }
+    ensures { λ r. ⌜ r ≡ marksAt (now (book .entry)) (kindOf kind) base d ⌝ }
+{
+    let n = book::n_of(book);
+    let counts = card::counts_of(n);
+    let sent = base + 21 * (1 + 2 * n);
+    let votes = book::count_same(book, base + 21 * heard_slot(kind, n, 0), n, d);
+    if kind == 2 {
+        return Marks {
+            gives: is_reached(book, sent, counts.quorum, votes),
+            delivers: false,
+        };
+    }
+    Marks {
+        gives: is_reached(book, sent, counts.amplify, votes),
+        delivers: is_reached(book, sent + 21, counts.deliver, votes),
+    }
+}
+
+// An accepted SEND is recorded and gives an ECHO of it.
+fn take_send(book: &mut [u8], sender: u8, number: u8, d: Declaration) -> Outcome
+    requires { ⌜ Has (now book) sender number × IsDecl (bytesOf d) ⌝ }
+    ensures { λ r. ⌜ result r (now (book .exit)) ≡ taken (now (book .entry)) sender SEND sender number (bytesOf d) ⌝ }
+{
+    let base = entry_at(book, sender as usize, number as usize);
+    let season = book::season_of(book);
+    book::put_slot(book, base, lot::bytes_of(d));
+    accept(true, 2, season, sender, number, false, d)
+}
+
+// An accepted ECHO or READY is recorded, and marked as its vouchers now say.
+fn take_voucher(
+    book: &mut [u8],
+    house: usize,
+    kind: u8,
+    sender: u8,
+    number: u8,
+    d: Declaration,
+) -> Outcome
+    requires { ⌜ Has (now book) sender number × (house < nOf (now book)) × IsDecl (bytesOf d) × (kind ≡ 1 → ⊥) ⌝ }
+    ensures { λ r. ⌜ result r (now (book .exit)) ≡ taken (now (book .entry)) house (kindOf kind) sender number (bytesOf d) ⌝ }
+{
+    let n = book::n_of(book);
+    let base = entry_at(book, sender as usize, number as usize);
+    let season = book::season_of(book);
+    let v = lot::bytes_of(d);
+    book::put_slot(book, base + 21 * heard_slot(kind, n, house), v);
+    let m = marks_of(book, kind, base, v);
+    let sent = base + 21 * (1 + 2 * n);
+    mark(book, sent, m.gives, v);
+    mark(book, sent + 21, m.delivers, v);
+    accept(m.gives, 3, season, sender, number, m.delivers, d)
+}
+
+// ---- the order of answers
+
+// 7, or 0.
+fn check_slot(book: &[u8], house: usize, kind: u8, sender: usize, number: usize, v: [u8; 20]) -> u8
+    requires { ⌜ Has (now book) sender number × (house < nOf (now book)) ⌝ }
+    ensures { λ r. ⌜ r ≡ recording (heard (kindOf kind) house (look (now (book .entry)) sender number)) v ⌝ }
+{
+    let base = entry_at(book, sender, number);
+    record_answer(
+        book,
+        base + 21 * heard_slot(kind, book::n_of(book), house),
+        v,
+    )
+}
+
+// 6, then 7, else 0.
+fn check_from(book: &[u8], house: usize, kind: u8, sender: usize, number: usize, v: [u8; 20]) -> u8
+    requires { ⌜ Has (now book) sender number × (house < nOf (now book)) ⌝ }
+    ensures { λ r. ⌜ r ≡ fromAnswer (now (book .entry)) house (kindOf kind) sender number v ⌝ }
+{
+    if kind == 1 {
+        if house == sender {
+            return check_slot(book, house, kind, sender, number, v);
+        }
+        return 6;
+    }
+    check_slot(book, house, kind, sender, number, v)
+}
+
+// 5, then 6, then 7, else 0.
+fn check_lot(
+    book: &[u8],
+    house: usize,
+    kind: u8,
+    sender: usize,
+    number: usize,
+    d: Declaration,
+) -> u8
+    requires { ⌜ Has (now book) sender number × (house < nOf (now book)) × IsDecl (bytesOf d) ⌝ }
+    ensures { λ r. ⌜ r ≡ lotAnswer (now (book .entry)) house (kindOf kind) sender number (bytesOf d) ⌝ }
+{
+    if lot::is_plausible(book::sheet_of(book), d) {
+        return check_from(book, house, kind, sender, number, lot::bytes_of(d));
+    }
+    5
+}
+
+// 4, then 5, 6 and 7, else 0.
+fn check_message(book: &[u8], house: u32, kind: u8, sender: u8, number: u8, d: Declaration) -> u8
+    requires { ⌜ (legal (now book) ≡ true) × IsDecl (bytesOf d) ⌝ }
+    ensures { λ r. ⌜ r ≡ stepOf (now (book .entry)) (receiving house (kindOf kind) sender number (bytesOf d)) .answer ⌝ }
+{
+    let n = book::n_of(book);
+    if (sender as usize) < n {
+        if (number as usize) < book::numbers_of(book) {
+            if (house as usize) < n {
+                return check_lot(
+                    book,
+                    house as usize,
+                    kind,
+                    sender as usize,
+                    number as usize,
+                    d,
+                );
+            }
+        }
+    }
+    4
+}
+
+// ---- receiving
+
+// A message on a legal book, of the book's season: its answer, and its step where that is 0.
+fn answer_message(
+    book: &mut [u8],
+    house: u32,
+    kind: u8,
+    sender: u8,
+    number: u8,
+    d: Declaration,
+) -> Outcome
+    requires { ⌜ (legal (now book) ≡ true) × IsDecl (bytesOf d) ⌝ }
+    ensures { λ r. ⌜ result r (now (book .exit)) ≡ called (now (book .entry)) (receiving house (kindOf kind) sender number (bytesOf d)) ⌝ }
+{
+    let answer = check_message(book, house, kind, sender, number, d);
+    if answer == 0 {
+        if kind == 1 {
+            return take_send(book, sender, number, d);
+        }
+        return take_voucher(book, house as usize, kind, sender, number, d);
+    }
+    refuse(answer)
+}
+
+// A well-formed message on a legal book, the step behind the legality test: 3 to 7 in order.
+fn hear(
+    book: &mut [u8],
+    house: u32,
+    kind: u8,
+    season: u32,
+    sender: u8,
+    number: u8,
+    d: Declaration,
+) -> Outcome
+    requires { ⌜ (legal (now book) ≡ true) × IsDecl (bytesOf d) ⌝ }
+    ensures { λ r. ⌜ result r (now (book .exit)) ≡ heardFrom (now (book .entry)) house (some (fiveOf kind season sender number d)) ⌝ }
+{
+    if season == book::season_of(book) {
+        return answer_message(book, house, kind, sender, number, d);
+    }
+    refuse(3)
+}
+
+// Receiving: 1 to 7 in order.
+pub fn receive(book: &mut [u8], house: u32, message: &[u8]) -> Outcome
+    ensures { λ r. ⌜ result r (now (book .exit)) ≡ received (now (book .entry)) house (now (message .entry)) ⌝ }
+{
+    if book::is_legal(book) {
+        let Reading::Message {
+            kind,
+            season,
+            sender,
+            number,
+            lot,
+            colonies,
+            kilograms,
+            moisture,
+            conductivity,
+        } = message::read_message(message)
+        else {
+            return refuse(2);
+        };
+        let d = Declaration {
+            lot,
+            colonies,
+            kilograms,
+            moisture,
+            conductivity,
+        };
+        return hear(book, house, kind, season, sender, number, d);
+    }
+    refuse(1)
+}
+
+// ---- publishing
+
+// 4, then 5, then 8, else 0.
+fn check_publication(book: &[u8], number: u32, d: Declaration) -> u8
+    requires { ⌜ (legal (now book) ≡ true) × IsDecl (bytesOf d) ⌝ }
+    ensures { λ r. ⌜ r ≡ stepOf (now (book .entry)) (publishing number (bytesOf d)) .answer ⌝ }
+{
+    if (number as usize) < book::numbers_of(book) {
+        if lot::is_plausible(book::sheet_of(book), d) {
+            if book::is_full(book, book::slot_place(book::n_of(book), number as usize)) {
+                return 8;
+            }
+            return 0;
+        }
+        return 5;
+    }
+    4
+}
+
+// Publishing marks the own entry and gives a SEND.
+fn enter_publication(book: &mut [u8], number: u32, d: Declaration) -> Outcome
+    requires { ⌜ (legal (now book) ≡ true) × (number < numbersOf (now book)) × IsDecl (bytesOf d) ⌝ }
+    ensures { λ r. ⌜ result r (now (book .exit)) ≡ publishedAt (now (book .entry)) number (bytesOf d) ⌝ }
+{
+    let own = book::own_of(book);
+    let season = book::season_of(book);
+    let at = book::slot_place(book::n_of(book), number as usize);
+    book::put_slot(book, at, lot::bytes_of(d));
+    accept(true, 1, season, own as u8, number as u8, false, d)
+}
+
+// A publication on a legal book: 4, 5, 8.
+fn publish_legal(book: &mut [u8], number: u32, d: Declaration) -> Outcome
+    requires { ⌜ (legal (now book) ≡ true) × IsDecl (bytesOf d) ⌝ }
+    ensures { λ r. ⌜ result r (now (book .exit)) ≡ called (now (book .entry)) (publishing number (bytesOf d)) ⌝ }
+{
+    let answer = check_publication(book, number, d);
+    if answer == 0 {
+        return enter_publication(book, number, d);
+    }
+    refuse(answer)
+}
+
+// Publishing a slice of 20 bytes.
+fn publish_slice(book: &mut [u8], number: u32, declaration: &[u8]) -> Outcome
+    requires { ⌜ length (now declaration) ≡ 20 ⌝ }
+    ensures { λ r. ⌜ result r (now (book .exit)) ≡ published (now (book .entry)) number (now (declaration .entry)) ⌝ }
+{
+    if book::is_legal(book) {
+        return publish_legal(book, number, lot::declaration_at(declaration, 0));
+    }
+    refuse(1)
+}
+
+// Publishing: 1, 4, 5, 8.
+pub fn publish(book: &mut [u8], number: u32, declaration: &[u8; 20]) -> Outcome
+    ensures { λ r. ⌜ result r (now (book .exit)) ≡ published (now (book .entry)) number (now (declaration .entry)) ⌝ }
+{
+    publish_slice(book, number, declaration)
+}
+
+// ---- the earliest waiting entry
+
+// The number and the sender of an entry, or a plain none.
+pub enum Found {
+    At(usize, usize),
+    Nothing,
+}
+
+// With a SEND heard and nothing delivered.
+fn waits_at(book: &[u8], sender: usize, number: usize) -> bool
+    requires { ⌜ Has (now book) sender number ⌝ }
+    ensures { λ r. ⌜ r ≡ waits (now (book .entry)) sender number ⌝ }
+{
+    let base = entry_at(book, sender, number);
+    if book::is_full(book, base) {
+        return !book::is_full(book, base + 21 * (2 + 2 * book::n_of(book)));
+    }
+    false
+}
+
+// Lowest number first and then lowest sender.
+fn search(book: &[u8], n: usize, s: usize) -> Found
+    requires { ⌜ (legal (now book) ≡ true) × (n ≡ nOf (now book)) × (s ≡ numbersOf (now book)) ⌝ }
+    ensures { λ r. ⌜ placeOf r ≡ earliest (now (book .entry)) ⌝ }
+{
+    let mut found = Found::Nothing;
+    'search: for number in 0..s {
+        for sender in 0..n {
+            if waits_at(book, sender, number) {
+                found = Found::At(number, sender);
+                break 'search;
+            }
+        }
+    }
+    found
+}
+
+// The earliest waiting entry, or a plain none, or answer 1.
+pub fn earliest_waiting(book: &[u8]) -> Waiting
+    ensures { λ r. ⌜ r ≡ waiting (now (book .entry)) ⌝ }
+{
+    if book::is_legal(book) {
+        let Found::At(number, sender) = search(book, book::n_of(book), book::numbers_of(book))
+        else {
+            return Waiting {
+                answer: 0,
+                waits: false,
+                number: 0,
+                sender: 0,
+            };
+        };
+        return Waiting {
+            answer: 0,
+            waits: true,
+            number: number as u8,
+            sender: sender as u8,
+        };
+    }
+    Waiting {
+        answer: 1,
+        waits: false,
+        number: 0,
+        sender: 0,
     }
 }

@@ -1,12 +1,13 @@
 -- A declaration's 20 bytes and its five numbers settle each other: two declarations are the same exactly when all 20 bytes are.
 -- Assumes nothing.
-use Prim.Native.Nat.{ℕ}
+use Prim.Native.Nat.{ℕ, _+_}
 use mathlib.Core.Path.{_≡_, sym, ap, _∙_}
 use mathlib.Core.Logic.{_↔_}
 use mathlib.Core.List.{List, _++_}
 use lib.ListN.{length}
-use Rattle.words.specs.Words.{Bytes}
-use Rattle.words.proofs.Laws.{word-be, be-wordAt}
+use Rattle.words.specs.Words.{Bytes, be32, wordAt}
+use Rattle.words.proofs.Bytes.{bytes-append, be-bytes}
+use Rattle.words.proofs.Laws.{word-be, be-wordAt, wordAt-small}
 use Rattle.words.proofs.Listed.{listed-is}
 use Rattle.lot.specs.declared.Declaration.{Declaration}
 use Rattle.lot.specs.Declaration.{declarationAt, bytesOf}
@@ -36,3 +37,16 @@ pub same-bytes : (s r : List ℕ) → length s ≡ 20 → length r ≡ 20 → By
     → (declarationAt s 0 ≡ declarationAt r 0) ↔ (s ≡ r)
 same-bytes s r l m b c =
     (λ h. sym (bytes-of-numbers s l b) ∙ ap bytesOf h ∙ bytes-of-numbers r m c, λ h. ap (λ (x : List ℕ). declarationAt x 0) h)
+
+-- what is read from bytes is bytes
+pub bytes-are-bytes : (s : List ℕ) (i : ℕ) → Bytes s → Bytes (bytesOf (declarationAt s i))
+unfolding bytesOf declarationAt
+bytes-are-bytes s i b =
+    let w : (k : ℕ) → Bytes (be32 (wordAt s k)) = λ k. be-bytes (wordAt s k) (wordAt-small s b k) in
+    let four = be32 (wordAt s (i + 12)) ++ be32 (wordAt s (i + 16)) in
+    let three = be32 (wordAt s (i + 8)) ++ four in
+    let two = be32 (wordAt s (i + 4)) ++ three in
+    bytes-append (be32 (wordAt s i)) two (w i)
+    (bytes-append (be32 (wordAt s (i + 4))) three (w (i + 4))
+    (bytes-append (be32 (wordAt s (i + 8))) four (w (i + 8))
+    (bytes-append (be32 (wordAt s (i + 12))) (be32 (wordAt s (i + 16))) (w (i + 12)) (w (i + 16)))))

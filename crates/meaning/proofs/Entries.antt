@@ -1,6 +1,6 @@
 -- The entries that a book's slots mean, and what one more filled slot changes of them.
 -- Assumes nothing.
-use Prim.Native.Nat.{ℕ, _+_, _*_, _≤_, _<_}
+use Prim.Native.Nat.{ℕ, _<_}
 use mathlib.Core.Path.{_≡_, refl, sym, ap, ap₂, _∙_, fun-ext}
 use mathlib.Core.Logic.{_≢_}
 use mathlib.Core.Bool.{Bool, true, false, cond, _&&_, and-eq-true-iff, true≢false}
@@ -59,14 +59,16 @@ module _ (n : ℕ) where
     houses-other : (g : ℕ → ℕ) (i : ℕ) → ((p : ℕ) → p < n → g p ≢ i) → forHouses n (λ p. upd row i x (g p)) ≡ forHouses n (λ p. row (g p))
     houses-other g i d = houses-same (λ p. upd row i x (g p)) (λ p. row (g p)) (λ p l. upd-other row i x (g p) (d p l))
 
-    houses-one : (g : ℕ → ℕ) (q : ℕ) → q < n → ((p : ℕ) → g p ≡ g q → p ≡ q) → forHouses n (λ p. upd row (g q) x (g p)) ≡ upd (forHouses n (λ p. row (g p))) q x
+    houses-one : (g : ℕ → ℕ) (q : ℕ) → q < n → ((p : ℕ) → g p ≡ g q → p ≡ q)
+        → forHouses n (λ p. upd row (g q) x (g p)) ≡ upd (forHouses n (λ p. row (g p))) q x
     houses-one g q l inj = fun-ext (λ p. go p (eqb p q) refl)
       where
         go : (p : ℕ) (t : Bool) → eqb p q ≡ t → forHouses n (λ p. upd row (g q) x (g p)) p ≡ cond t x (forHouses n (λ p. row (g p)) p)
         go p true e = rw (eqb-true p q e, lt-ltb q n l) (upd-same row (g q) x)
         go p false e = ap (λ (y : Option Decl). cond (ltb p n) y none) (upd-other row (g q) x (g p) (λ r. eqb-false p q e (inj p r)))
 
-  pub entry-same : (f g : ℕ → Option Decl) (o x : Option Decl) → ((i : ℕ) → i < perEntry n → f i ≡ g i) → o ≡ x → entryFrom n f o ≡ entryFrom n g x
+  pub entry-same : (f g : ℕ → Option Decl) (o x : Option Decl) → ((i : ℕ) → i < perEntry n → f i ≡ g i) → o ≡ x
+      → entryFrom n f o ≡ entryFrom n g x
   unfolding perEntry
   entry-same f g o x h e =
       let echo = houses-same (λ p. f (echoSlot p)) (λ p. g (echoSlot p)) (λ p l. h (echoSlot p) (omega arith)) in
@@ -129,8 +131,9 @@ module _ (n : ℕ) (row : ℕ → Option Decl) (o : Option Decl) (v : Decl) wher
       let send = one sendSlot (readySentSlot n) (λ e. omega arith) in
       let echo = each echoSlot (readySentSlot n) (λ q l e. omega arith) in
       let ready = each (readySlot n) (readySentSlot n) (λ q l e. omega arith) in
+      let sent = here (readySentSlot n) in
       let delivered = one (deliveredSlot n) (readySentSlot n) (λ e. omega arith) in
-      λ i. record { send = send i; echo = echo i; ready = ready i; readySent = here (readySentSlot n) i; delivered = delivered i; published = o }
+      λ i. record { send = send i; echo = echo i; ready = ready i; readySent = sent i; delivered = delivered i; published = o }
 
   pub delivered-filled : filled (deliveredSlot n) ≡ marked false true v before
   delivered-filled =
@@ -138,13 +141,16 @@ module _ (n : ℕ) (row : ℕ → Option Decl) (o : Option Decl) (v : Decl) wher
       let echo = each echoSlot (deliveredSlot n) (λ q l e. omega arith) in
       let ready = each (readySlot n) (deliveredSlot n) (λ q l e. omega arith) in
       let sent = one (readySentSlot n) (deliveredSlot n) (λ e. omega arith) in
-      λ i. record { send = send i; echo = echo i; ready = ready i; readySent = sent i; delivered = here (deliveredSlot n) i; published = o }
+      let delivered = here (deliveredSlot n) in
+      λ i. record { send = send i; echo = echo i; ready = ready i; readySent = sent i; delivered = delivered i; published = o }
 
 -- the entries of a book hang on its slots alone
-pub entries-same : (n s own : ℕ) (f g : ℕ → Option Decl) → ((k : ℕ) → k < slotCount n s → f k ≡ g k) → entriesIn n s own f ≡ entriesIn n s own g
+pub entries-same : (n s own : ℕ) (f g : ℕ → Option Decl) → ((k : ℕ) → k < slotCount n s → f k ≡ g k)
+    → entriesIn n s own f ≡ entriesIn n s own g
 entries-same n s own f g h = fun-ext (λ j. fun-ext (λ c. go j c (ltb j n) (ltb c s) refl refl))
   where
-    go : (j c : ℕ) (t u : Bool) → ltb j n ≡ t → ltb c s ≡ u → cond (t && u) (entryIn n s own f j c) fresh ≡ cond (t && u) (entryIn n s own g j c) fresh
+    go : (j c : ℕ) (t u : Bool) → ltb j n ≡ t → ltb c s ≡ u
+        → cond (t && u) (entryIn n s own f j c) fresh ≡ cond (t && u) (entryIn n s own g j c) fresh
     go j c true true a b =
         let hj = ltb-true j n a in
         let hc = ltb-true c s b in
@@ -179,7 +185,8 @@ module _ (n s own : ℕ) (slot : ℕ → Option Decl) (j c : ℕ) (hj : j < n) (
       → entriesIn n s own other ≡ place (entriesIn n s own slot) j c e
   entries-place other e h f = fun-ext (λ j₂. fun-ext (λ c₂. go j₂ c₂ (sameEntry j c j₂ c₂) refl))
     where
-      rest : (j₂ c₂ : ℕ) (t u : Bool) → ltb j₂ n ≡ t → ltb c₂ s ≡ u → (j₂ ≡ j → c₂ ≡ c → ⊥) → cond (t && u) (entryIn n s own other j₂ c₂) fresh ≡ cond (t && u) (entryIn n s own slot j₂ c₂) fresh
+      rest : (j₂ c₂ : ℕ) (t u : Bool) → ltb j₂ n ≡ t → ltb c₂ s ≡ u → (j₂ ≡ j → c₂ ≡ c → ⊥)
+          → cond (t && u) (entryIn n s own other j₂ c₂) fresh ≡ cond (t && u) (entryIn n s own slot j₂ c₂) fresh
       rest j₂ c₂ true true a b d = f j₂ c₂ (ltb-true j₂ n a) (ltb-true c₂ s b) d
       rest j₂ c₂ true false a b d = refl
       rest j₂ c₂ false u a b d = refl
@@ -195,11 +202,15 @@ module _ (n s own : ℕ) (slot : ℕ → Option Decl) (j c : ℕ) (hj : j < n) (
         ≡ place (entriesIn n s own slot) j c (entryFrom n (upd (rowIn n s slot j c) i x) (publishedIn own slot j c))
     entries-put i hi =
         entries-place (upd slot k x) (entryFrom n (upd (rowIn n s slot j c) i x) (publishedIn own slot j c))
-        (entry-same n (rowIn n s (upd slot k x) j c) (upd (rowIn n s slot j c) i x) (publishedIn own (upd slot k x) j c) (publishedIn own slot j c)
+        (entry-same n (rowIn n s (upd slot k x) j c) (upd (rowIn n s slot j c) i x)
+        (publishedIn own (upd slot k x) j c) (publishedIn own slot j c)
         (λ i₂ l. ap (λ (t : Bool). cond t x (rowIn n s slot j c i₂)) (same-slot i₂)) (published j c hc))
         (λ j₂ c₂ h₂ l₂ d.
-        entry-same n (rowIn n s (upd slot k x) j₂ c₂) (rowIn n s slot j₂ c₂) (publishedIn own (upd slot k x) j₂ c₂) (publishedIn own slot j₂ c₂)
-        (λ i₂ l. upd-other slot k x (entrySlot n s c₂ j₂ i₂) (λ e. let q = same-entry-slot n s c₂ j₂ i₂ c j i h₂ hj l hi e in d (q .1) (q .0)))
+        entry-same n (rowIn n s (upd slot k x) j₂ c₂) (rowIn n s slot j₂ c₂)
+        (publishedIn own (upd slot k x) j₂ c₂) (publishedIn own slot j₂ c₂)
+        (λ i₂ l.
+        upd-other slot k x (entrySlot n s c₂ j₂ i₂)
+        (λ e. let q = same-entry-slot n s c₂ j₂ i₂ c j i h₂ hj l hi e in d (q .1) (q .0)))
         (published j₂ c₂ l₂))
       where
         k : ℕ
@@ -212,18 +223,21 @@ module _ (n s own : ℕ) (slot : ℕ → Option Decl) (j c : ℕ) (hj : j < n) (
         published j₂ c₂ h = rw (upd-other slot k x c₂ (λ e. omega (arith, entry-slot-past n s c j i)))
 
     -- what was published at the own number c
-    pub entries-published : j ≡ own → entriesIn n s own (upd slot c x) ≡ place (entriesIn n s own slot) j c (entryFrom n (rowIn n s slot j c) x)
+    pub entries-published : j ≡ own
+        → entriesIn n s own (upd slot c x) ≡ place (entriesIn n s own slot) j c (entryFrom n (rowIn n s slot j c) x)
     entries-published e =
         entries-place (upd slot c x) (entryFrom n (rowIn n s slot j c) x)
         (entry-same n (rowIn n s (upd slot c x) j c) (rowIn n s slot j c) (publishedIn own (upd slot c x) j c) x
         (row j c) (rw (eq-eqb j own e) (upd-same slot c x)))
         (λ j₂ c₂ h₂ l₂ d.
-        entry-same n (rowIn n s (upd slot c x) j₂ c₂) (rowIn n s slot j₂ c₂) (publishedIn own (upd slot c x) j₂ c₂) (publishedIn own slot j₂ c₂)
+        entry-same n (rowIn n s (upd slot c x) j₂ c₂) (rowIn n s slot j₂ c₂)
+        (publishedIn own (upd slot c x) j₂ c₂) (publishedIn own slot j₂ c₂)
         (row j₂ c₂) (published j₂ c₂ d (eqb j₂ own) refl))
       where
         row : (j₂ c₂ i : ℕ) → i < perEntry n → upd slot c x (entrySlot n s c₂ j₂ i) ≡ slot (entrySlot n s c₂ j₂ i)
         row j₂ c₂ i l = upd-other slot c x (entrySlot n s c₂ j₂ i) (λ q. omega (arith, entry-slot-past n s c₂ j₂ i))
 
-        published : (j₂ c₂ : ℕ) → (j₂ ≡ j → c₂ ≡ c → ⊥) → (t : Bool) → eqb j₂ own ≡ t → cond t (upd slot c x c₂) none ≡ cond t (slot c₂) none
+        published : (j₂ c₂ : ℕ) → (j₂ ≡ j → c₂ ≡ c → ⊥) → (t : Bool) → eqb j₂ own ≡ t
+            → cond t (upd slot c x c₂) none ≡ cond t (slot c₂) none
         published j₂ c₂ d true q = upd-other slot c x c₂ (d (eqb-true j₂ own q ∙ sym e))
         published j₂ c₂ d false q = refl

@@ -1,10 +1,10 @@
--- For every meaning that a book may have there are legal bytes that mean exactly that.
+-- For every meaning that a book may have there are legal bytes that mean exactly that; and legal bytes are no others.
 -- Assumes nothing.
-use Prim.Native.Nat.{ℕ, _+_, _*_, _≤_, _<_}
+use Prim.Native.Nat.{ℕ, _*_, _<_}
 use mathlib.Core.Path.{_≡_, refl, sym, ap, _∙_}
-use mathlib.Core.Bool.{Bool, true}
+use mathlib.Core.Logic.{_↔_}
+use mathlib.Core.Bool.{true}
 use mathlib.Core.List.{List, _∷_, _++_}
-use mathlib.Core.Option.{Option}
 use native.Mathlib.Omega.{arith}
 use lib.ListN.{length, length-append}
 use Rattle.card.proofs.Wall.{houses-byte}
@@ -13,18 +13,21 @@ use Rattle.words.proofs.Bytes.{bytes-append, bytes-cons, be-bytes}
 use Rattle.words.proofs.Laws.{word-be}
 use Rattle.sheet.specs.Kept.{sheetBytes, sheetAt, sheetLegalAt, isSheet}
 use Rattle.sheet.proofs.OneForm.{sheet-of-bytes, legal-bytes, sheet-bytes}
-use Rattle.protocol.specs.Entry.{Decl}
+use Rattle.protocol.specs.Entry.{Entry}
+use Rattle.protocol.specs.Book.{PerEntry}
 use Rattle.meaning.specs.Slot.{slotBytes, part, slotAt, slotOk}
 use Rattle.meaning.specs.Layout.{headLength, slotCount, lengthOf, slotPlace}
 use Rattle.meaning.specs.Book.{Meaning, nOf, numbersOf, ownOf, seasonOf, sheetPlace, slotOf, look, meant, head, rows, write}
-use Rattle.meaning.specs.Legal.{legal, Legal, IsBook}
+use Rattle.meaning.specs.Legal.{legal, IsBook}
 use Rattle.meaning.proofs.Parts.{part-after}
 use Rattle.meaning.proofs.Legality.{facts-legal, slots-all}
 use Rattle.meaning.proofs.Places.{numbers-byte}
 use Rattle.meaning.proofs.Slots.{slot-part, ok-part, slot-of-bytes, ok-of-bytes, slot-bytes-length, slot-bytes-bytes}
 use Rattle.meaning.proofs.Entries.{entriesIn, look-is, entries-same}
 use Rattle.meaning.proofs.Rows.{rows-length, part-rows, rows-bytes}
-use Rattle.meaning.proofs.Written.{meaningOf, write-slots}
+use Rattle.meaning.proofs.OneForm.{written}
+use Rattle.meaning.proofs.Meant.{meant-is-book}
+use Rattle.meaning.proofs.Written.{withEntries, write-slots}
 use Rattle.meaning.proofs.Numbered.{slotsOf, slots-are-slots, slots-entries}
 
 module _ (B : Meaning) (ok : IsBook B) where
@@ -42,7 +45,7 @@ module _ (B : Meaning) (ok : IsBook B) where
 
   pub written-slots : write B ≡ top ++ rows all each
   written-slots =
-      (λ i. write (record { n = B .n; numbers = B .numbers; own = B .own; season = B .season; sheet = B .sheet; entries = sym (slots-entries B ok) i }))
+      ap (λ (e : PerEntry Entry). write (withEntries B e)) (sym (slots-entries B ok))
       ∙ write-slots (B .n) (B .numbers) (B .own) (B .season) (B .sheet) (slotsOf B) (ok .own)
 
   pub written-length : length (write B) ≡ lengthOf (B .n) (B .numbers)
@@ -147,3 +150,8 @@ module _ (B : Meaning) (ok : IsBook B) where
   written-bytes =
       rw written-slots
       (bytes-append top (rows all each) top-bytes (rows-bytes all each (λ k l. slot-bytes-bytes (slotsOf B k) (slots-are-slots B ok k))))
+
+-- legal means just that: the bytes of some meaning that a book may have
+pub legal-exactly : (b : List ℕ) → Bytes b → (legal b ≡ true) ↔ ((B : Meaning) × IsBook B × (b ≡ write B))
+legal-exactly b bytes =
+    (λ h. (meant b, meant-is-book b h bytes, sym (written b h bytes)), λ m. rw (m .2) (written-legal (m .0) (m .1)))

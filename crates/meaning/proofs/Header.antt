@@ -2,13 +2,12 @@
 -- Assumes nothing.
 use Prim.Native.Nat.{ℕ, zero, suc, _+_, _≤_, _<_}
 use mathlib.Core.Path.{_≡_, refl, sym, ap, ap₂, _∙_}
-use mathlib.Core.Bool.{Bool, true, _&&_}
-use mathlib.Core.List.{List, [], _∷_, _++_}
+use mathlib.Core.Bool.{true}
+use mathlib.Core.List.{List, _∷_, _++_}
 use native.Mathlib.Omega.{arith}
-use lib.Dec.{eqb}
 use lib.ListN.{length, getD}
 use borrow.Author.Tests.{eq-eqb}
-use Rattle.words.specs.Words.{Bytes, be32, wordAt}
+use Rattle.words.specs.Words.{Bytes}
 use Rattle.words.proofs.Laws.{be-wordAt}
 use Rattle.words.proofs.Listed.{listed, listed-is}
 use Rattle.lot.specs.Sheet.{sheetLegal}
@@ -20,7 +19,8 @@ use Rattle.meaning.proofs.Parts.{part-length, getD-part, part-add, byte
 
 listed-same : (m : ℕ) (f g : ℕ → ℕ) → ((i : ℕ) → i < m → f i ≡ g i) → listed m f ≡ listed m g
 listed-same zero f g h = refl
-listed-same (suc m) f g h = ap₂ _∷_ (h 0 (omega arith)) (listed-same m (λ i. f (suc i)) (λ i. g (suc i)) (λ i l. h (suc i) (omega arith)))
+listed-same (suc m) f g h =
+    ap₂ _∷_ (h 0 (omega arith)) (listed-same m (λ i. f (suc i)) (λ i. g (suc i)) (λ i l. h (suc i) (omega arith)))
 
 -- ---- two books with the same header
 
@@ -79,5 +79,11 @@ module _ (b : List ℕ) (long : 29 ≤ length b) where
     pub header-bytes : head (nOf b) (numbersOf b) (ownOf b) (seasonOf b) (sheetAt b sheetPlace) ≡ part b 0 29
     unfolding head
     header-bytes =
-        let first = listed-is (part b 0 7) 7 (part-length b 0 7 (omega arith)) ∙ listed-same 7 (λ i. getD (part b 0 7) i 0) (λ i. getD b (0 + i) 0) (getD-part b 0 7) in
-        sym (part-add b 0 7 22 ∙ (λ i. first i ++ sym header-sheet-bytes i) ∙ (λ i. nOf b ∷ numbersOf b ∷ ownOf b ∷ be-wordAt b bytes 3 i ++ sheetBytes (sheetAt b 7)))
+        let first =
+        listed-is (part b 0 7) 7 (part-length b 0 7 (omega arith))
+        ∙ listed-same 7 (λ i. getD (part b 0 7) i 0) (λ i. getD b (0 + i) 0) (getD-part b 0 7)
+        in
+        sym
+        (part-add b 0 7 22
+        ∙ (λ i. first i ++ sym header-sheet-bytes i)
+        ∙ (λ i. nOf b ∷ numbersOf b ∷ ownOf b ∷ be-wordAt b bytes 3 i ++ sheetBytes (sheetAt b 7)))

@@ -18,19 +18,26 @@ use Rattle.meaning.specs.Legal.{slotsOk, legal, Legal}
 use Rattle.meaning.proofs.Places.{length-header, slot-within}
 
 module _ (b : List ℕ) where
-  abbrev long : Bool
-  long = eqb (length b) (lengthOf (nOf b) (numbersOf b))
-
+  -- the test's parts, from the last to the second
   abbrev slots : Bool
   slots = slotsOk b (nOf b) (slotCount (nOf b) (numbersOf b))
+
+  abbrev sheet : Bool
+  sheet = sheetLegalAt b sheetPlace && slots
+
+  abbrev long : Bool
+  long = eqb (length b) (lengthOf (nOf b) (numbersOf b)) && sheet
+
+  abbrev own : Bool
+  own = ltb (ownOf b) (nOf b) && long
 
   pub legal-facts : legal b ≡ true → Legal b
   unfolding legal
   legal-facts h =
-      let p = and-eq-true-iff (houses (nOf b)) (numbersOk (numbersOf b) && (ltb (ownOf b) (nOf b) && (long && (sheetLegalAt b sheetPlace && slots)))) .0 h in
-      let q = and-eq-true-iff (numbersOk (numbersOf b)) (ltb (ownOf b) (nOf b) && (long && (sheetLegalAt b sheetPlace && slots))) .0 (p .1) in
-      let r = and-eq-true-iff (ltb (ownOf b) (nOf b)) (long && (sheetLegalAt b sheetPlace && slots)) .0 (q .1) in
-      let s = and-eq-true-iff long (sheetLegalAt b sheetPlace && slots) .0 (r .1) in
+      let p = and-eq-true-iff (houses (nOf b)) (numbersOk (numbersOf b) && own) .0 h in
+      let q = and-eq-true-iff (numbersOk (numbersOf b)) own .0 (p .1) in
+      let r = and-eq-true-iff (ltb (ownOf b) (nOf b)) long .0 (q .1) in
+      let s = and-eq-true-iff (eqb (length b) (lengthOf (nOf b) (numbersOf b))) sheet .0 (r .1) in
       let t = and-eq-true-iff (sheetLegalAt b sheetPlace) slots .0 (s .1) in
       record {
         n = p .0;
@@ -44,7 +51,9 @@ module _ (b : List ℕ) where
   pub facts-legal : Legal b → legal b ≡ true
   unfolding legal
   facts-legal l =
-      rw (l .n, l .numbers, lt-ltb (ownOf b) (nOf b) (l .own), eq-eqb (length b) (lengthOf (nOf b) (numbersOf b)) (l .long), l .sheet, l .slots)
+      let own = lt-ltb (ownOf b) (nOf b) (l .own) in
+      let long = eq-eqb (length b) (lengthOf (nOf b) (numbersOf b)) (l .long) in
+      rw (l .n, l .numbers, own, long, l .sheet, l .slots)
 
   pub not-legal : (Legal b → ⊥) → false ≡ legal b
   not-legal f = go (legal b) refl

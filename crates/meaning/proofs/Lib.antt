@@ -5,6 +5,7 @@ pub mod Slots
 pub mod Header
 pub mod Entries
 pub mod Stores
+pub mod Look
 pub mod Rows
 pub mod Written
 pub mod OneForm
@@ -12,3 +13,4 @@ pub mod Meant
 pub mod Numbered
 pub mod Every
 pub mod Opening
+pub mod Example

@@ -1,34 +1,27 @@
 -- A legal book means what a book may mean: each slot none or 20 bytes, and nothing outside the book.
 -- Assumes nothing.
-use Prim.Native.Nat.{ℕ, _+_, _*_, _≤_, _<_}
-use mathlib.Core.Path.{_≡_, refl, sym, ap, ap₂, _∙_}
+use Prim.Native.Nat.{ℕ, _≤_, _<_}
+use mathlib.Core.Path.{_≡_, refl}
 use mathlib.Core.Bool.{Bool, true, false, cond, _&&_}
-use mathlib.Core.List.{List, _++_}
-use mathlib.Core.Option.{Option, none, some}
+use mathlib.Core.List.{List}
+use mathlib.Core.Option.{Option, none}
 use native.Mathlib.Omega.{arith}
 use lib.Dec.{eqb, ltb}
-use lib.ListN.{length}
 use borrow.Author.Tests.{ltb-true, le-ltb, ne-eqb}
 use Rattle.words.specs.Words.{Bytes}
 use Rattle.words.proofs.Laws.{wordAt-small}
 use Rattle.sheet.specs.Kept.{keptAt, sheetAt}
 use Rattle.sheet.proofs.OneForm.{gate-fits}
-use Rattle.protocol.specs.Entry.{Decl, Entry, fresh}
-use Rattle.protocol.specs.Book.{PerEntry, place}
-use Rattle.meaning.specs.Slot.{slotBytes, part}
-use Rattle.meaning.specs.Layout.{headLength, perEntry, slotCount, lengthOf, slotPlace, entrySlot}
+use Rattle.protocol.specs.Entry.{Decl, fresh}
+use Rattle.meaning.specs.Layout.{perEntry, slotCount, slotPlace, entrySlot}
 use Rattle.meaning.specs.Layout.{sendSlot, echoSlot, readySlot, readySentSlot, deliveredSlot}
-use Rattle.meaning.specs.Book.{Meaning, nOf, numbersOf, ownOf, seasonOf, sheetPlace, slotOf, forHouses, look, meant, head, rows, write}
-use Rattle.meaning.specs.Legal.{legal, Legal, IsSlot, IsEntry, IsBook}
-use Rattle.meaning.proofs.Parts.{part-all, part-add}
-use Rattle.meaning.proofs.Legality.{legal-facts, slots-at, header-within, slot-within-book}
-use Rattle.meaning.proofs.Places.{length-header, slot-within, entry-slot-below, published-slot-below}
-use Rattle.meaning.proofs.Slots.{ok-bytes, slot-is-slot}
-use Rattle.meaning.proofs.Header.{header-bytes, header-sheet-legal}
+use Rattle.meaning.specs.Book.{nOf, numbersOf, ownOf, slotOf, forHouses, meant}
+use Rattle.meaning.specs.Legal.{legal, IsSlot, IsEntry, IsBook}
+use Rattle.meaning.proofs.Legality.{legal-facts, header-within, slot-within-book}
+use Rattle.meaning.proofs.Places.{entry-slot-below, published-slot-below}
+use Rattle.meaning.proofs.Slots.{slot-is-slot}
+use Rattle.meaning.proofs.Header.{header-sheet-legal}
 use Rattle.meaning.proofs.Entries.{rowIn, entryIn, entriesIn}
-use Rattle.meaning.proofs.Stores.{Stored}
-use Rattle.meaning.proofs.Rows.{rows-parts}
-use Rattle.meaning.proofs.Written.{write-slots}
 
 pub fresh-is-entry : (n : ℕ) → IsEntry n fresh
 fresh-is-entry n =

@@ -1,9 +1,9 @@
 -- The slots of a meaning, numbered as they stand in the book: read as entries again, they are the meaning's.
 -- Assumes nothing.
-use Prim.Native.Nat.{ℕ, zero, suc, _+_, _*_, _-_, _/_, _%_, _≤_, _<_}
-use mathlib.Core.Path.{_≡_, refl, sym, ap, ap₂, _∙_, fun-ext}
+use Prim.Native.Nat.{ℕ, _+_, _*_, _-_, _/_, _%_, _≤_, _<_}
+use mathlib.Core.Path.{_≡_, refl, sym, ap, _∙_, fun-ext}
 use mathlib.Core.Bool.{Bool, true, false, cond, _&&_}
-use mathlib.Core.Option.{Option, none, some}
+use mathlib.Core.Option.{Option, none}
 use native.Mathlib.Nat.{add-zero, mul-add-div-right, mul-add-mod-self-right, div-eq-of-lt, mod-eq-of-lt}
 use native.Mathlib.Omega.{arith}
 use lib.Dec.{eqb, ltb}
@@ -68,7 +68,15 @@ module _ (n : ℕ) (e : Entry) where
   row-entry ok =
       let echo = houses-are (λ p. inRow n e (echoSlot p)) (e .echo) echo-at (ok .echo-past) in
       let ready = houses-are (λ p. inRow n e (readySlot n p)) (e .ready) ready-at (ok .ready-past) in
-      λ i. record { send = e .send; echo = echo i; ready = ready i; readySent = sent-at i; delivered = delivered-at i; published = e .published }
+      λ i.
+      record {
+        send = e .send;
+        echo = echo i;
+        ready = ready i;
+        readySent = sent-at i;
+        delivered = delivered-at i;
+        published = e .published;
+      }
 
   row-is-slot : IsEntry n e → (i : ℕ) → IsSlot (inRow n e i)
   row-is-slot ok i =
@@ -99,14 +107,16 @@ module _ (B : Meaning) where
   unfolding slotsOf
   published-at c l = rw (lt-ltb c (B .numbers) l)
 
-  entry-slot-at : (c j i : ℕ) → j < B .n → i < perEntry (B .n) → slotsOf B (entrySlot (B .n) (B .numbers) c j i) ≡ inRow (B .n) (B .entries j c) i
+  entry-slot-at : (c j i : ℕ) → j < B .n → i < perEntry (B .n)
+      → slotsOf B (entrySlot (B .n) (B .numbers) c j i) ≡ inRow (B .n) (B .entries j c) i
   unfolding slotsOf entrySlot
   entry-slot-at c j i hj hi =
       let m = perEntry (B .n) in
       let s = B .numbers in
       let row = c * B .n + j in
       let past : s + row * m + i - s ≡ row * m + i = omega arith in
-      rw (le-ltb (s + row * m + i) s (omega arith), past, div-row m row i hi, mod-row m row i hi, div-row (B .n) c j hj, mod-row (B .n) c j hj)
+      let not-published = le-ltb (s + row * m + i) s (omega arith) in
+      rw (not-published, past, div-row m row i hi, mod-row m row i hi, div-row (B .n) c j hj, mod-row (B .n) c j hj)
 
   module _ (ok : IsBook B) where
     pub slots-are-slots : (k : ℕ) → IsSlot (slotsOf B k)

@@ -1,34 +1,25 @@
 -- A legal book is the bytes of its meaning, so two legal books with the same meaning are the same bytes; and the bytes after a store.
 -- Assumes nothing.
-use Prim.Native.Nat.{ℕ, _+_, _*_, _≤_, _<_}
-use mathlib.Core.Path.{_≡_, refl, sym, ap, ap₂, _∙_}
-use mathlib.Core.Bool.{Bool, true, false, cond, _&&_}
+use Prim.Native.Nat.{ℕ, _+_, _*_}
+use mathlib.Core.Path.{_≡_, sym, ap, ap₂, _∙_}
+use mathlib.Core.Bool.{true}
 use mathlib.Core.List.{List, _++_}
-use mathlib.Core.Option.{Option, none, some}
 use native.Mathlib.Omega.{arith}
-use lib.Dec.{eqb, ltb}
-use lib.ListN.{length}
-use borrow.Author.Tests.{ltb-true, le-ltb, ne-eqb}
 use Rattle.words.specs.Words.{Bytes}
-use Rattle.words.proofs.Laws.{wordAt-small}
-use Rattle.sheet.specs.Kept.{keptAt, sheetAt}
-use Rattle.sheet.proofs.OneForm.{gate-fits}
-use Rattle.protocol.specs.Entry.{Decl, Entry, fresh}
-use Rattle.protocol.specs.Book.{PerEntry, place}
+use Rattle.sheet.specs.Kept.{sheetAt}
+use Rattle.protocol.specs.Entry.{Entry}
+use Rattle.protocol.specs.Book.{place}
 use Rattle.meaning.specs.Slot.{slotBytes, part}
-use Rattle.meaning.specs.Layout.{headLength, perEntry, slotCount, lengthOf, slotPlace, entrySlot}
-use Rattle.meaning.specs.Layout.{sendSlot, echoSlot, readySlot, readySentSlot, deliveredSlot}
-use Rattle.meaning.specs.Book.{Meaning, nOf, numbersOf, ownOf, seasonOf, sheetPlace, slotOf, forHouses, look, meant, head, rows, write}
-use Rattle.meaning.specs.Legal.{legal, Legal, IsSlot, IsEntry, IsBook}
+use Rattle.meaning.specs.Layout.{headLength, slotCount, lengthOf, slotPlace}
+use Rattle.meaning.specs.Book.{nOf, numbersOf, ownOf, seasonOf, sheetPlace, slotOf, look, meant, rows, write}
+use Rattle.meaning.specs.Legal.{legal, Legal}
 use Rattle.meaning.proofs.Parts.{part-all, part-add}
 use Rattle.meaning.proofs.Legality.{legal-facts, slots-at, header-within, slot-within-book}
-use Rattle.meaning.proofs.Places.{length-header, slot-within, entry-slot-below, published-slot-below}
-use Rattle.meaning.proofs.Slots.{ok-bytes, slot-is-slot}
-use Rattle.meaning.proofs.Header.{header-bytes, header-sheet-legal}
-use Rattle.meaning.proofs.Entries.{rowIn, entryIn, entriesIn}
+use Rattle.meaning.proofs.Slots.{ok-bytes}
+use Rattle.meaning.proofs.Header.{header-bytes}
 use Rattle.meaning.proofs.Stores.{Stored}
 use Rattle.meaning.proofs.Rows.{rows-parts}
-use Rattle.meaning.proofs.Written.{write-slots}
+use Rattle.meaning.proofs.Written.{withEntries, write-slots}
 
 -- ---- a legal book is the bytes of its meaning
 
@@ -42,7 +33,8 @@ module _ (b : List ℕ) (h : legal b ≡ true) (bytes : Bytes b) where
       rows-parts 21 b 29 (slotCount (nOf b) (numbersOf b)) (λ k. slotBytes (slotOf b k))
       (λ k l.
       let e : 29 + 21 * k ≡ 29 + k * 21 = omega arith in
-      ok-bytes b (slotPlace (nOf b) k) (slot-within-book b facts k l) (slots-at b (nOf b) (slotCount (nOf b) (numbersOf b)) (facts .slots) k l)
+      ok-bytes b (slotPlace (nOf b) k) (slot-within-book b facts k l)
+      (slots-at b (nOf b) (slotCount (nOf b) (numbersOf b)) (facts .slots) k l)
       ∙ ap (λ (at : ℕ). part b at 21) e)
 
   pub written : write (meant b) ≡ b
@@ -58,11 +50,6 @@ pub same-bytes : (b c : List ℕ) → legal b ≡ true → legal c ≡ true → 
 same-bytes b c h k p q e = sym (written b h p) ∙ ap write e ∙ written c k q
 
 -- ---- the bytes after a store are those of the meaning after it
-
--- the same book with other entries
-abbrev pub withEntries : Meaning → PerEntry Entry → Meaning
-withEntries B entries =
-    record { n = B .n; numbers = B .numbers; own = B .own; season = B .season; sheet = B .sheet; entries = entries }
 
 module _ (b a : List ℕ) (j c : ℕ) (e : Entry) (s : Stored b a j c e) where
   pub stored-meant : meant a ≡ withEntries (meant b) (place (look b) j c e)

@@ -1,6 +1,6 @@
 -- A book freshly opened is its header and then zeros, legal, and means that nothing was heard, sent, delivered or published.
 -- Assumes nothing.
-use Prim.Native.Nat.{ℕ, suc, _+_, _*_, _^_, _<_}
+use Prim.Native.Nat.{ℕ, _+_, _*_, _^_, _<_}
 use mathlib.Core.Path.{_≡_, refl, sym, ap, _∙_, fun-ext}
 use mathlib.Core.Bool.{Bool, true, false, cond, _&&_, and-eq-true-iff}
 use mathlib.Core.List.{List, _∷_, _++_}
@@ -16,10 +16,10 @@ use Rattle.words.proofs.Laws.{wordAt-small}
 use Rattle.lot.specs.declared.Sheet.{Sheet}
 use Rattle.sheet.specs.Kept.{sheetBytes, keptAt, sheetAt, isSheet}
 use Rattle.sheet.proofs.OneForm.{gate-fits, bytes-legal, bytes-of-sheet}
-use Rattle.protocol.specs.Entry.{Decl, Entry, fresh}
+use Rattle.protocol.specs.Entry.{Decl, fresh}
 use Rattle.meaning.specs.Slot.{slotBytes}
 use Rattle.meaning.specs.Layout.{numbersOk, headLength, slotLength, slotCount, lengthOf}
-use Rattle.meaning.specs.Book.{Meaning, forHouses, meant, head, rows, write}
+use Rattle.meaning.specs.Book.{Meaning, meant, head, write}
 use Rattle.meaning.specs.Legal.{legal, IsBook}
 use Rattle.meaning.specs.Opening.{freshBook, allowed, Opened, opened}
 use Rattle.meaning.proofs.Entries.{entryIn, entriesIn}
@@ -34,7 +34,8 @@ pub head-length : (n s own season : ℕ) (sheet : Sheet) → length (head n s ow
 unfolding head sheetBytes headLength
 head-length n s own season sheet = refl
 
-pub head-sheet : (n s own season : ℕ) (sheet : List ℕ) → Bytes sheet → isSheet sheet ≡ true → head n s own season (sheetAt sheet 0) ≡ n ∷ s ∷ own ∷ be32 season ++ sheet
+pub head-sheet : (n s own season : ℕ) (sheet : List ℕ) → Bytes sheet → isSheet sheet ≡ true
+    → head n s own season (sheetAt sheet 0) ≡ n ∷ s ∷ own ∷ be32 season ++ sheet
 unfolding head
 head-sheet n s own season sheet bytes h = ap (λ (l : List ℕ). n ∷ s ∷ own ∷ be32 season ++ l) (bytes-of-sheet sheet bytes h)
 
@@ -67,7 +68,8 @@ module _ (n s own season : ℕ) (sheet : Sheet) (h : own < n) where
   fresh-written =
       (λ i. write (record { n = n; numbers = s; own = own; season = season; sheet = sheet; entries = none-fresh i }))
       ∙ write-slots n s own season sheet (λ k. none) h
-      ∙ ap (λ (l : List ℕ). head n s own season sheet ++ l) (rows-zeros (slotCount n s) 21 ∙ ap (λ (m : ℕ). replicate m 0) (mul-comm (slotCount n s) 21))
+      ∙ ap (λ (l : List ℕ). head n s own season sheet ++ l)
+      (rows-zeros (slotCount n s) 21 ∙ ap (λ (m : ℕ). replicate m 0) (mul-comm (slotCount n s) 21))
 
   pub fresh-length : length (write (freshBook n s own season sheet)) ≡ lengthOf n s
   unfolding lengthOf
@@ -85,7 +87,8 @@ allowed-facts n s own h =
     let q = and-eq-true-iff (numbersOk s) (ltb own n) .0 (p .1) in
     (p .0, q .0, ltb-true own n (q .1))
 
-module _ (n s own season : ℕ) (sheet : List ℕ) (ok : allowed n s own ≡ true) (small : season < 2 ^ 32) (bytes : Bytes sheet) (h : isSheet sheet ≡ true) where
+module _ (n s own season : ℕ) (sheet : List ℕ) (ok : allowed n s own ≡ true)
+    (small : season < 2 ^ 32) (bytes : Bytes sheet) (h : isSheet sheet ≡ true) where
   pub fresh-is-book : IsBook (freshBook n s own season (sheetAt sheet 0))
   unfolding sheetAt
   fresh-is-book =
@@ -123,13 +126,15 @@ module _ (b : List ℕ) (n s own season : ℕ) (sheet : List ℕ) where
   unfolding opened
   opened-facts e = go (allowed n s own) (isSheet sheet) (eqb (length b) (lengthOf n s)) refl refl refl e
     where
-      go : (t u w : Bool) → allowed n s own ≡ t → isSheet sheet ≡ u → eqb (length b) (lengthOf n s) ≡ w → outcome t u w .answer ≡ 0 → Opens b n s own sheet
+      go : (t u w : Bool) → allowed n s own ≡ t → isSheet sheet ≡ u → eqb (length b) (lengthOf n s) ≡ w
+          → outcome t u w .answer ≡ 0 → Opens b n s own sheet
       go true true true p q r e = record { allowed = p; sheet = q; long = eqb-true (length b) (lengthOf n s) r }
       go true true false p q r e = absurd (omega arith)
       go true false w p q r e = absurd (omega arith)
       go false u w p q r e = absurd (omega arith)
 
-  pub opened-book : opened b n s own season sheet .answer ≡ 0 → opened b n s own season sheet .book ≡ write (freshBook n s own season (sheetAt sheet 0))
+  pub opened-book : opened b n s own season sheet .answer ≡ 0
+      → opened b n s own season sheet .book ≡ write (freshBook n s own season (sheetAt sheet 0))
   unfolding opened
   opened-book e = go (allowed n s own) (isSheet sheet) (eqb (length b) (lengthOf n s)) e
     where

@@ -40,7 +40,8 @@ module _ (b : List ℕ) where
     part-part m i k h =
         let e : m ≡ i + (m - i) = omega arith in
         let l : k ≤ m - i = omega arith in
-        ap (λ (x : ℕ). part (part b at x) i k) e ∙ rw (drop-take i (m - i) (drop at b), take-take k (m - i) (drop i (drop at b)) l, drop-drop i at b)
+        ap (λ (x : ℕ). part (part b at x) i k) e
+        ∙ rw (drop-take i (m - i) (drop at b), take-take k (m - i) (drop i (drop at b)) l, drop-drop i at b)
 
 module _ (xs ys : List ℕ) where
   pub part-before : (at m : ℕ) → at + m ≤ length xs → part (xs ++ ys) at m ≡ part xs at m

@@ -1,6 +1,6 @@
 -- Where the slots lie: each within the book, no two on the same bytes, and how long a book is at most.
 -- Assumes nothing.
-use Prim.Native.Nat.{ℕ, zero, suc, _+_, _*_, _≤_, _<_}
+use Prim.Native.Nat.{ℕ, suc, _+_, _*_, _≤_, _<_}
 use mathlib.Core.Path.{_≡_, sym}
 use mathlib.Core.Logic.{_⊎_, inl, inr}
 use mathlib.Core.Bool.{true, and-eq-true-iff}
@@ -56,9 +56,14 @@ pub slot-past-header : (n k : ℕ) → 29 ≤ slotPlace n k
 unfolding slotPlace headLength
 slot-past-header n k = omega arith
 
-pub slots-apart : (n k m : ℕ) → (k ≡ m → ⊥) → (slotPlace n k + slotLength ≤ slotPlace n m) ⊎ (slotPlace n m + slotLength ≤ slotPlace n k)
+pub slots-apart : (n k m : ℕ) → (k ≡ m → ⊥)
+    → (slotPlace n k + slotLength ≤ slotPlace n m) ⊎ (slotPlace n m + slotLength ≤ slotPlace n k)
 unfolding slotPlace headLength
-slots-apart n k m f = elim (decLt k m) [ yes a ↦ inl (omega arith) | no g ↦ elim (decLt m k) [ yes a ↦ inr (omega arith) | no h ↦ absurd (f (omega arith)) ] ]
+slots-apart n k m f =
+    elim (decLt k m) [
+      | yes a ↦ inl (omega arith)
+      | no g ↦ elim (decLt m k) [ yes a ↦ inr (omega arith) | no h ↦ absurd (f (omega arith)) ]
+    ]
 
 pub place-injective : (n k m : ℕ) → slotPlace n k ≡ slotPlace n m → k ≡ m
 unfolding slotPlace headLength
@@ -84,7 +89,10 @@ same-row m r r₂ i i₂ l l₂ e =
 
 pub entry-slot-below : (n s c j i : ℕ) → c < s → j < n → i < perEntry n → entrySlot n s c j i < slotCount n s
 unfolding entrySlot slotCount
-entry-slot-below n s c j i hc hj hi = let a = row-below n c j s hc hj in let b = row-below (perEntry n) (c * n + j) i (s * n) a hi in omega arith
+entry-slot-below n s c j i hc hj hi =
+    let a = row-below n c j s hc hj in
+    let b = row-below (perEntry n) (c * n + j) i (s * n) a hi in
+    omega arith
 
 pub published-slot-below : (n s c : ℕ) → c < s → c < slotCount n s
 unfolding slotCount
@@ -99,7 +107,8 @@ pub same-entry-row : (n s c j i i₂ : ℕ) → entrySlot n s c j i ≡ entrySlo
 unfolding entrySlot
 same-entry-row n s c j i i₂ e = omega arith
 
-pub same-entry-slot : (n s c j i c₂ j₂ i₂ : ℕ) → j < n → j₂ < n → i < perEntry n → i₂ < perEntry n → entrySlot n s c j i ≡ entrySlot n s c₂ j₂ i₂ → (c ≡ c₂) × (j ≡ j₂) × (i ≡ i₂)
+pub same-entry-slot : (n s c j i c₂ j₂ i₂ : ℕ) → j < n → j₂ < n → i < perEntry n → i₂ < perEntry n
+    → entrySlot n s c j i ≡ entrySlot n s c₂ j₂ i₂ → (c ≡ c₂) × (j ≡ j₂) × (i ≡ i₂)
 unfolding entrySlot
 same-entry-slot n s c j i c₂ j₂ i₂ hj hj₂ hi hi₂ e =
     let a = same-row (perEntry n) (c * n + j) (c₂ * n + j₂) i i₂ hi hi₂ (omega arith) in

@@ -2,7 +2,7 @@
 -- Assumes nothing.
 use Prim.Native.Nat.{ℕ, zero, suc, _+_, _*_, _≤_, _<_}
 use mathlib.Core.Path.{_≡_, refl, sym, ap, ap₂, _∙_}
-use mathlib.Core.List.{List, [], _∷_, _++_, append-assoc, append-nil}
+use mathlib.Core.List.{List, _++_, append-assoc, append-nil}
 use native.Mathlib.Decide.{decLt}
 use native.Mathlib.Nat.{zero-add, add-zero, add-suc, zero-mul, suc-mul, mul-le-mul-right}
 use native.Mathlib.Omega.{arith}
@@ -21,17 +21,21 @@ rows-same (suc n) f g h = ap₂ _++_ (rows-same n f g (λ k l. h k (omega arith)
 pub rows-add : (a b : ℕ) (f : ℕ → List ℕ) → rows (a + b) f ≡ rows a f ++ rows b (λ k. f (a + k))
 unfolding rows
 rows-add a zero f = rw add-zero (sym (append-nil (rows a f)))
-rows-add a (suc b) f = rw add-suc (ap (λ (l : List ℕ). l ++ f (a + b)) (rows-add a b f) ∙ append-assoc (rows a f) (rows b (λ k. f (a + k))) (f (a + b)))
+rows-add a (suc b) f =
+    rw add-suc
+    (ap (λ (l : List ℕ). l ++ f (a + b)) (rows-add a b f) ∙ append-assoc (rows a f) (rows b (λ k. f (a + k))) (f (a + b)))
 
 pub rows-flat : (n m : ℕ) (f : ℕ → List ℕ) → rows n (λ r. rows m (λ i. f (r * m + i))) ≡ rows (n * m) f
 unfolding rows
 rows-flat zero m f = rw zero-mul
-rows-flat (suc n) m f = rw suc-mul (ap (λ (l : List ℕ). l ++ rows m (λ i. f (n * m + i))) (rows-flat n m f) ∙ sym (rows-add (n * m) m f))
+rows-flat (suc n) m f =
+    rw suc-mul (ap (λ (l : List ℕ). l ++ rows m (λ i. f (n * m + i))) (rows-flat n m f) ∙ sym (rows-add (n * m) m f))
 
 pub rows-zeros : (n m : ℕ) → rows n (λ k. replicate m 0) ≡ replicate (n * m) 0
 unfolding rows
 rows-zeros zero m = rw zero-mul
-rows-zeros (suc n) m = rw suc-mul (ap (λ (l : List ℕ). l ++ replicate m 0) (rows-zeros n m) ∙ replicate-append-replicate (n * m) m 0)
+rows-zeros (suc n) m =
+    rw suc-mul (ap (λ (l : List ℕ). l ++ replicate m 0) (rows-zeros n m) ∙ replicate-append-replicate (n * m) m 0)
 
 pub rows-bytes : (n : ℕ) (f : ℕ → List ℕ) → ((k : ℕ) → k < n → Bytes (f k)) → Bytes (rows n f)
 unfolding rows
@@ -65,7 +69,8 @@ module _ (m : ℕ) where
     pub rows-parts : (at n : ℕ) (f : ℕ → List ℕ) → ((k : ℕ) → k < n → f k ≡ part b (at + k * m) m) → rows n f ≡ part b at (n * m)
     unfolding rows
     rows-parts at zero f h = rw zero-mul
-    rows-parts at (suc n) f h = rw suc-mul (ap₂ _++_ (rows-parts at n f (λ k l. h k (omega arith))) (h n (omega arith)) ∙ sym (part-add b at (n * m) m))
+    rows-parts at (suc n) f h =
+        rw suc-mul (ap₂ _++_ (rows-parts at n f (λ k l. h k (omega arith))) (h n (omega arith)) ∙ sym (part-add b at (n * m) m))
 
     pub list-rows : (n : ℕ) → length b ≡ n * m → rows n (λ k. part b (k * m) m) ≡ b
     list-rows n e = rows-parts 0 n (λ k. part b (k * m) m) (λ k l. rw zero-add) ∙ part-all b (n * m) (omega arith)

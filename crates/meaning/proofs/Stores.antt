@@ -1,30 +1,31 @@
 -- A slot filled in a legal book: the book stays legal, its header stays, and one entry has one slot more. Stores follow one another.
 -- Assumes nothing.
-use Prim.Native.Nat.{ℕ, _+_, _*_, _≤_, _<_}
+use Prim.Native.Nat.{ℕ, _+_, _≤_, _<_}
 use mathlib.Core.Path.{_≡_, refl, sym, ap, _∙_, fun-ext, subst₂}
-use mathlib.Core.Logic.{_⊎_, inl, inr}
-use mathlib.Core.Bool.{Bool, true, false, cond, _&&_}
+use mathlib.Core.Logic.{inl}
+use mathlib.Core.Bool.{Bool, true, false, cond}
 use mathlib.Core.List.{List}
-use mathlib.Core.Option.{Option, none, some}
+use mathlib.Core.Option.{Option, some}
 use native.Mathlib.Omega.{arith}
-use lib.Dec.{eqb, ltb}
+use lib.Dec.{eqb}
 use lib.ListN.{length, getD}
-use borrow.Author.Tests.{eqb-true, eqb-false, eq-eqb, lt-ltb}
+use borrow.Author.Tests.{eqb-true, eqb-false, eq-eqb}
 use Rattle.words.specs.Words.{Bytes}
 use Rattle.sheet.specs.Kept.{sheetAt}
 use Rattle.protocol.specs.Entry.{Decl, Kind, SEND, ECHO, READY, Entry, upd}
 use Rattle.protocol.specs.Steps.{recorded, marked, publishes}
 use Rattle.protocol.specs.Book.{PerEntry, sameEntry, place}
 use Rattle.meaning.specs.Slot.{slotAt, slotOk, putSlot}
-use Rattle.meaning.specs.Layout.{perEntry, slotCount, lengthOf, slotPlace, entrySlot}
-use Rattle.meaning.specs.Layout.{sendSlot, echoSlot, readySlot, readySentSlot, deliveredSlot}
+use Rattle.meaning.specs.Layout.{perEntry, slotCount, slotPlace, entrySlot}
+use Rattle.meaning.specs.Layout.{sendSlot, echoSlot, readySlot, readySentSlot, deliveredSlot, heardSlot}
 use Rattle.meaning.specs.Book.{nOf, numbersOf, ownOf, seasonOf, sheetPlace, slotOf, look}
 use Rattle.meaning.specs.Legal.{legal, Legal, IsDecl}
 use Rattle.meaning.proofs.Legality.{legal-facts, facts-legal, slots-at, slots-all, slot-within-book}
 use Rattle.meaning.proofs.Places.{slot-past-header, slots-apart, entry-slot-below, published-slot-below}
 use Rattle.meaning.proofs.Slots.{put-length, slot-put, ok-put, put-bytes, getD-elsewhere, slot-elsewhere, ok-elsewhere}
 use Rattle.meaning.proofs.Header.{same-n, same-numbers, same-own, same-season, same-sheet, same-sheet-legal}
-use Rattle.meaning.proofs.Entries.{entryFrom, rowIn, publishedIn, entryIn, entriesIn, look-is, same-entry, entries-in, entries-put, entries-published}
+use Rattle.meaning.proofs.Entries.{entryFrom, rowIn, publishedIn, entriesIn, look-is}
+use Rattle.meaning.proofs.Entries.{same-entry, entries-in, entries-put, entries-published}
 use Rattle.meaning.proofs.Entries.{send-filled, echo-filled, ready-filled, ready-sent-filled, delivered-filled}
 
 -- bytes a after bytes b: legal, the same header, and the same entries but for e at sender j and number c
@@ -37,12 +38,6 @@ pub record Stored (b a : List ℕ) (j c : ℕ) (e : Entry) : Type 0 where
   pub season : seasonOf a ≡ seasonOf b
   pub sheet : sheetAt a sheetPlace ≡ sheetAt b sheetPlace
   pub entries : look a ≡ place (look b) j c e
-
--- the slot of an entry in which a message of the kind from house p is recorded
-abbrev pub heardSlot : ℕ → Kind → ℕ → ℕ
-heardSlot n SEND p = sendSlot
-heardSlot n ECHO p = echoSlot p
-heardSlot n READY p = readySlot n p
 
 -- ---- one store after another
 
@@ -81,7 +76,9 @@ module _ (b : List ℕ) (j c : ℕ) where
         entries = place-same (look b) j c;
       }
 
-  pub stored-then : (f : Entry → Entry) (a d : List ℕ) (e : Entry) → Stored b a j c e → Stored a d j c (f (look a j c)) → Stored b d j c (f e)
+  -- what the second makes of the entry after the first
+  pub stored-then : (f : Entry → Entry) (a d : List ℕ) (e : Entry)
+      → Stored b a j c e → Stored a d j c (f (look a j c)) → Stored b d j c (f e)
   stored-then f a d e s t =
       record {
         legal = t .legal;
@@ -200,30 +197,33 @@ module _ (b : List ℕ) (h : legal b ≡ true) (bytes : Bytes b) (v : Decl) (d :
 
   -- ---- the stores that calls make, with the book's n and S as the caller has them
 
-  module _ (n s : ℕ) (en : nOf b ≡ n) (es : numbersOf b ≡ s) (j c : ℕ) (hc : c < s) where
-    pub stored-published : j ≡ ownOf b → Stored b (putSlot b (slotPlace n c) v) j c (publishes v (look b j c) .entry)
-    stored-published e = subst₂ InPublished en es in-published j c e hc
+  module _ (n s : ℕ) (en : nOf b ≡ n) (es : numbersOf b ≡ s) (j c : ℕ) where
+    pub stored-published : j ≡ ownOf b → c < s → Stored b (putSlot b (slotPlace n c) v) j c (publishes v (look b j c) .entry)
+    stored-published e hc = subst₂ InPublished en es in-published j c e hc
 
-    module _ (hj : j < n) where
+    module _ (hj : j < n) (hc : c < s) where
       stored-in : (i : ℕ) (f : Entry → Entry) → i < perEntry n
           → ((row : ℕ → Option Decl) (o : Option Decl) → entryFrom n (upd row i (some v)) o ≡ f (entryFrom n row o))
           → Stored b (putSlot b (slotPlace n (entrySlot n s c j i)) v) j c (f (look b j c))
       stored-in i f hi g = subst₂ InEntry en es in-entry j c i f hj hc hi g
 
       -- a message of the kind recorded
-      pub stored-heard : (k : Kind) (p : ℕ) → p < n → Stored b (putSlot b (slotPlace n (entrySlot n s c j (heardSlot n k p))) v) j c (recorded k p v (look b j c))
+      pub stored-heard : (k : Kind) (p : ℕ) → p < n
+          → Stored b (putSlot b (slotPlace n (entrySlot n s c j (heardSlot n k p))) v) j c (recorded k p v (look b j c))
       unfolding perEntry
       stored-heard SEND p h = stored-in sendSlot (recorded SEND p v) (omega arith) (λ row o. send-filled n row o v p)
       stored-heard ECHO p h = stored-in (echoSlot p) (recorded ECHO p v) (omega arith) (λ row o. echo-filled n row o v p h)
       stored-heard READY p h = stored-in (readySlot n p) (recorded READY p v) (omega arith) (λ row o. ready-filled n row o v p h)
 
       -- the READY sent marked, where r says so; the delivered, where r says so
-      pub stored-ready-sent : (r : Bool) → Stored b (cond r (putSlot b (slotPlace n (entrySlot n s c j (readySentSlot n))) v) b) j c (marked r false v (look b j c))
+      pub stored-ready-sent : (r : Bool)
+          → Stored b (cond r (putSlot b (slotPlace n (entrySlot n s c j (readySentSlot n))) v) b) j c (marked r false v (look b j c))
       unfolding perEntry
       stored-ready-sent true = stored-in (readySentSlot n) (marked true false v) (omega arith) (λ row o. ready-sent-filled n row o v)
       stored-ready-sent false = stored-none b j c h bytes
 
-      pub stored-delivered : (r : Bool) → Stored b (cond r (putSlot b (slotPlace n (entrySlot n s c j (deliveredSlot n))) v) b) j c (marked false r v (look b j c))
+      pub stored-delivered : (r : Bool)
+          → Stored b (cond r (putSlot b (slotPlace n (entrySlot n s c j (deliveredSlot n))) v) b) j c (marked false r v (look b j c))
       unfolding perEntry
       stored-delivered true = stored-in (deliveredSlot n) (marked false true v) (omega arith) (λ row o. delivered-filled n row o v)
       stored-delivered false = stored-none b j c h bytes
@@ -231,7 +231,7 @@ module _ (b : List ℕ) (h : legal b ≡ true) (bytes : Bytes b) (v : Decl) (d :
 -- ---- a message's stores: recorded, the READY sent marked or not, the delivered marked or not
 
 module _ (b : List ℕ) (h : legal b ≡ true) (bytes : Bytes b) (v : Decl) (d : IsDecl v) (n s : ℕ) (en : nOf b ≡ n) (es : numbersOf b ≡ s)
-    (j c : ℕ) (hc : c < s) (hj : j < n) (k : Kind) (p : ℕ) (hp : p < n) (r t : Bool) where
+    (j c : ℕ) (hj : j < n) (hc : c < s) (k : Kind) (p : ℕ) (hp : p < n) (r t : Bool) where
   abbrev b₁ : List ℕ
   b₁ = putSlot b (slotPlace n (entrySlot n s c j (heardSlot n k p))) v
 
@@ -243,8 +243,8 @@ module _ (b : List ℕ) (h : legal b ≡ true) (bytes : Bytes b) (v : Decl) (d :
 
   pub stored-taken : Stored b b₃ j c (marked r t v (recorded k p v (look b j c)))
   stored-taken =
-      let one = stored-heard b h bytes v d n s en es j c hc hj k p hp in
-      let two = stored-ready-sent b₁ (one .legal) (one .bytes) v d n s (one .n ∙ en) (one .numbers ∙ es) j c hc hj r in
+      let one = stored-heard b h bytes v d n s en es j c hj hc k p hp in
+      let two = stored-ready-sent b₁ (one .legal) (one .bytes) v d n s (one .n ∙ en) (one .numbers ∙ es) j c hj hc r in
       let both = stored-then b j c (marked r false v) b₁ b₂ (recorded k p v (look b j c)) one two in
-      let three = stored-delivered b₂ (both .legal) (both .bytes) v d n s (both .n ∙ en) (both .numbers ∙ es) j c hc hj t in
+      let three = stored-delivered b₂ (both .legal) (both .bytes) v d n s (both .n ∙ en) (both .numbers ∙ es) j c hj hc t in
       stored-then b j c (marked false t v) b₂ b₃ (marked r false v (recorded k p v (look b j c))) both three

@@ -1,27 +1,32 @@
 -- The bytes of a meaning are its header and then its slots, one after the other.
 -- Assumes nothing.
-use Prim.Native.Nat.{ℕ, zero, suc, _+_, _*_, _≤_, _<_}
-use mathlib.Core.Path.{_≡_, refl, sym, ap, ap₂, _∙_}
-use mathlib.Core.Bool.{Bool, cond}
-use mathlib.Core.List.{List, [], _∷_, _++_, append-assoc}
-use mathlib.Core.Option.{Option, none, some}
+use Prim.Native.Nat.{ℕ, _+_, _*_, _<_}
+use mathlib.Core.Path.{_≡_, refl, sym, ap, _∙_}
+use mathlib.Core.List.{List, _++_}
+use mathlib.Core.Option.{Option}
 use native.Mathlib.Nat.{add-assoc}
 use native.Mathlib.Omega.{arith}
-use lib.Dec.{eqb, ltb}
 use borrow.Author.Tests.{eq-eqb, lt-ltb}
 use Rattle.lot.specs.declared.Sheet.{Sheet}
 use Rattle.protocol.specs.Entry.{Decl, Entry}
+use Rattle.protocol.specs.Book.{PerEntry}
 use Rattle.meaning.specs.Slot.{slotBytes}
-use Rattle.meaning.specs.Layout.{perEntry, slotCount, entrySlot, echoSlot, readySlot, readySentSlot, deliveredSlot}
+use Rattle.meaning.specs.Layout.{perEntry, slotCount, entrySlot, echoSlot, readySlot}
 use Rattle.meaning.specs.Book.{Meaning, forHouses, head, rows, entryBytes, write}
 use Rattle.meaning.proofs.Rows.{rows-same, rows-add, rows-flat}
-use Rattle.meaning.proofs.Entries.{entryFrom, rowIn, publishedIn, entryIn, entriesIn, entries-in}
+use Rattle.meaning.proofs.Entries.{entryFrom, rowIn, publishedIn, entriesIn, entries-in}
+
+-- the same book with other entries
+abbrev pub withEntries : Meaning → PerEntry Entry → Meaning
+withEntries B entries =
+    record { n = B .n; numbers = B .numbers; own = B .own; season = B .season; sheet = B .sheet; entries = entries }
 
 in-houses : (n : ℕ) (f : ℕ → Option Decl) (p : ℕ) → p < n → f p ≡ forHouses n f p
 in-houses n f p l = rw (lt-ltb p n l)
 
 -- the entry's bytes are its row's
-entry-rows : (n : ℕ) (row : ℕ → Option Decl) (o : Option Decl) → entryBytes n (entryFrom n row o) ≡ rows (perEntry n) (λ i. slotBytes (row i))
+entry-rows : (n : ℕ) (row : ℕ → Option Decl) (o : Option Decl)
+    → entryBytes n (entryFrom n row o) ≡ rows (perEntry n) (λ i. slotBytes (row i))
 unfolding entryBytes perEntry rows
 entry-rows n row o =
     let count : 2 * n + 3 ≡ 1 + (n + (n + 2)) = omega arith in

@@ -4,6 +4,7 @@
 use Prim.Native.Nat.{ℕ, _+_, _*_}
 use mathlib.Core.Bool.{Bool, _&&_}
 use lib.Dec.{leb}
+use Rattle.protocol.specs.Entry.{Kind, SEND, ECHO, READY}
 
 -- entry numbers S: 1 to 4 per sender
 unfoldable pub mostNumbers : ℕ
@@ -59,3 +60,9 @@ readySentSlot n = 1 + 2 * n
 
 abbrev pub deliveredSlot : ℕ → ℕ
 deliveredSlot n = 2 + 2 * n
+
+-- the slot of an entry in which a message of the kind from house p is recorded
+abbrev pub heardSlot : ℕ → Kind → ℕ → ℕ
+heardSlot n SEND p = sendSlot
+heardSlot n ECHO p = echoSlot p
+heardSlot n READY p = readySlot n p

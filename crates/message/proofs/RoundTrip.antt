@@ -39,7 +39,7 @@ read-of-wire m h = rw h (ap gives (five-of-wire m))
 
 -- ---- bytes that read are the bytes that writing gives
 
-abbrev fiveOr : Five → Option Five → Five
+abbrev pub fiveOr : Five → Option Five → Five
 fiveOr z none = z
 fiveOr z (some m) = m
 

@@ -19,7 +19,7 @@ use Rattle.protocol.specs.Steps.{Say, say}
 use Rattle.protocol.specs.Book.{receiving}
 use Rattle.protocol.specs.Run.{at, changeAt, tally}
 use Rattle.protocol.specs.Run as protocol
-use Rattle.counter.specs.Call.{kindNumber, kindOf, asked, letter, letters}
+use Rattle.counter.specs.Call.{kindNumber, kindOf, fiveOf, asked, letter, letters}
 use Rattle.season.specs.Run.{Copy, toAll, posted, consumedCopy, onIt, isReady}
 
 kind-known : (k : Kind) → message.isKind (kindNumber k) ≡ true
@@ -38,18 +38,17 @@ ready-number SEND = refl
 ready-number ECHO = refl
 ready-number READY = refl
 
--- the five things of a message
-abbrev pub fiveOf : (season sender number : ℕ) → Kind → Decl → Five
-fiveOf season j c k v =
-    record { kind = kindNumber k; season = season; sender = j; number = c; declaration = declarationAt v 0 }
+-- the five things of the message that says it
+abbrev pub fiveFor : (season sender number : ℕ) → Kind → Decl → Five
+fiveFor season j c k v = fiveOf (kindNumber k) season j c (declarationAt v 0)
 
 -- a message that a call gave reads as what the step said
-read-letter : (season j c : ℕ) (k : Kind) (v : Decl) → readOf (letter season j c (say k v)) .five ≡ some (fiveOf season j c k v)
+read-letter : (season j c : ℕ) (k : Kind) (v : Decl) → readOf (letter season j c (say k v)) .five ≡ some (fiveFor season j c k v)
 unfolding letter
-read-letter season j c k v = ap (λ (x : Told). x .five) (read-of-wire (fiveOf season j c k v) (kind-known k))
+read-letter season j c k v = ap (λ (x : Told). x .five) (read-of-wire (fiveFor season j c k v) (kind-known k))
 
 -- and asks for the call that says it
-pub asked-is : (p season j c : ℕ) (k : Kind) (v : Decl) → IsDecl v → asked p (fiveOf season j c k v) ≡ receiving p k j c v
+pub asked-is : (p season j c : ℕ) (k : Kind) (v : Decl) → IsDecl v → asked p (fiveFor season j c k v) ≡ receiving p k j c v
 asked-is p season j c k v d =
     ap₂ (λ (k : Kind) (v : Decl). receiving p k j c v) (kind-of-number k) (bytes-of-numbers v (d .long) (d .bytes))
 
@@ -59,7 +58,7 @@ module _ (season : ℕ) where
     pub from : m .from ≡ x .from
     pub to : m .to ≡ x .to
     pub consumed : m .consumed ≡ x .consumed
-    pub read : readOf (m .message) .five ≡ some (fiveOf season (x .sender) (x .number) (x .kind) (x .decl))
+    pub read : readOf (m .message) .five ≡ some (fiveFor season (x .sender) (x .number) (x .kind) (x .decl))
     pub decl : IsDecl (x .decl)
 
   pub says-on-it : (j c : ℕ) (m : Copy) (x : protocol.Copy) → Says m x → onIt j c m ≡ protocol.onIt j c x

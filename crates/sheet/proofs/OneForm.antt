@@ -21,7 +21,8 @@ use Rattle.sheet.specs.declared.Kept.{Kept}
 use Rattle.lot.specs.declared.Declaration.{Declaration}
 use Rattle.lot.specs.Declaration.{declarationAt, bytesOf}
 use Rattle.lot.specs.Sheet.{GateFits, gateLegal, sheetLegal, plausible, judgedBy}
-use Rattle.sheet.specs.Kept.{keptOf, keptBytes, gateOf, keptForm, keptLegal, laid, sheetBytes, keptAt, sheetAt, sheetLegalAt, isSheet, judged}
+use Rattle.sheet.specs.Kept.{keptOf, keptBytes, laid, sheetBytes}
+use Rattle.sheet.specs.Kept.{gateOf, keptForm, keptLegal, keptAt, sheetAt, sheetLegalAt, isSheet, judged}
 use Rattle.lot.proofs.Declared.{numbers-of-bytes}
 use Rattle.sheet.proofs.Gates.{no-nan, at-most-finite, low-finite, high-finite, sheet-sized}
 

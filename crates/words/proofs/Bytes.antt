@@ -3,7 +3,7 @@
 use Prim.Native.Nat.{ℕ, zero, suc, _+_, _^_, _<_}
 use mathlib.Core.List.{List, [], _∷_, _++_}
 use native.Mathlib.Omega.{arith}
-use lib.ListN.{getD, take, drop, replicate}
+use lib.ListN.{take, drop, replicate}
 use lib.Seq.{getD-drop}
 use Rattle.words.specs.Words.{Bytes, be32}
 

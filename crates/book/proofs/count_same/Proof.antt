@@ -13,13 +13,13 @@ use Rattle.book.proofs.count_same.Statement.{statement}
 use Rattle.book.proofs.count_same.Tie as tie
 
 abbrev Inv-loop : tie.InvT-loop
-Inv-loop b at n d found₀ p₀ found p = (p ≤ n) × (found ≡ count (λ i. holds (slotAt b (at + 21 * i)) d) p) × (found ≤ p)
+Inv-loop b at n d found₀ p₀ found p = (p ≤ n) × ((found ≡ count (λ i. holds (slotAt b (at + 21 * i)) d) p) × (found ≤ p))
 
 abbrev μ-loop : tie.MeasureT-loop
 μ-loop b at n d found₀ p₀ found p = n - p
 
 loop-holds : tie.Need-loop-holds Inv-loop μ-loop
-loop-holds c = (search needs, refl, search needs)
+loop-holds c = (search needs, (refl, search needs))
 
 mul-holds-at : tie.Need-mul-holds-at Inv-loop μ-loop
 mul-holds-at c = search needs
@@ -40,12 +40,12 @@ loop-less : tie.Need-loop-less Inv-loop μ-loop
 loop-less c = search needs
 
 loop-again : tie.Need-loop-again Inv-loop μ-loop
-loop-again c = (search needs, ⊎-elim (λ w. search count-hit) (λ w. search count-miss) (c .if1 .came), ⊎-elim (λ w. omega arith) (λ w. omega arith) (c .if1 .came))
+loop-again c = (search needs, ⊎-elim (λ w. (search count-hit, omega arith)) (λ w. (search count-miss, omega arith)) (c .if1 .came))
 
 returns : tie.Need-returns Inv-loop μ-loop
 returns c =
     let e : c .before .loop .p ≡ c .before .before .before .args .n = omega arith in
-    (rw e at (c .before .loop .inv .1), omega arith)
+    rw e at (c .before .loop .inv .1)
 
 pub count-same-spec : {M : Type 1} → statement M
 count-same-spec =

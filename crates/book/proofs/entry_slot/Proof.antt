@@ -5,8 +5,8 @@ use borrow.Author.Needs.{needs}
 use Rattle.book.proofs.entry_slot.Statement.{statement}
 use Rattle.book.proofs.entry_slot.Tie as tie
 
-times-requires : tie.Need-times-requires
-times-requires c κs = search needs
+entries-of-requires : tie.Need-entries-of-requires
+entries-of-requires c κs = search needs
 
 add-slots-of : tie.Need-add-slots-of
 add-slots-of c = search needs
@@ -22,9 +22,9 @@ add-result-2 c = search needs
 
 returns : tie.Need-returns
 unfolding entrySlot
-returns c = (rw (c .slots-of .ensures .0, c .before .times .ensures .0), search needs)
+returns c = (rw (c .slots-of .ensures .0, c .before .entries-of .ensures .0), search needs)
 
 pub entry-slot-spec : {M : Type 1} → statement M
 entry-slot-spec =
     tie.close
-    (tie.spec times-requires add-slots-of slots-of-requires add-result add-result-2 returns)
+    (tie.spec entries-of-requires add-slots-of slots-of-requires add-result add-result-2 returns)

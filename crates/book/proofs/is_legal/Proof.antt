@@ -1,7 +1,5 @@
 -- `book::is_legal` meets its contract.
 -- Assumes nothing.
-use mathlib.Core.Path.{sym, _∙_}
-use native.Mathlib.Omega.{arith}
 use Rattle.book.proofs.Legality.{sized-room, slots-room, legal-unsized, legal-unsheeted, legal-slots}
 use borrow.Author.Needs.{needs}
 use Rattle.book.proofs.is_legal.Statement.{statement}
@@ -11,13 +9,13 @@ is-sized-requires : tie.Need-is-sized-requires
 is-sized-requires c κs = search needs
 
 is-sheet-at-requires : tie.Need-is-sheet-at-requires
-is-sheet-at-requires c κs = sized-room _ (sym (c .before .is-sized .ensures) ∙ c .if1 .taken)
+is-sheet-at-requires c κs = search (needs, sized-room)
 
 n-of-requires : tie.Need-n-of-requires
-n-of-requires c κs = omega (arith, sized-room _ (sym (c .before .before .before .is-sized .ensures) ∙ c .before .before .if1 .taken))
+n-of-requires c κs = search (needs, sized-room)
 
 numbers-of-requires : tie.Need-numbers-of-requires
-numbers-of-requires c κs = omega (arith, sized-room _ (sym (c .before .before .before .before .is-sized .ensures) ∙ c .before .before .before .if1 .taken))
+numbers-of-requires c κs = search (needs, sized-room)
 
 slot-count-requires : tie.Need-slot-count-requires
 slot-count-requires c κs = search needs

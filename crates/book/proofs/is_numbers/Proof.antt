@@ -2,7 +2,6 @@
 -- Assumes nothing.
 use borrow.Author.Tests.{le-leb, lt-leb}
 use Rattle.meaning.specs.Layout.{mostNumbers, numbersOk}
-use borrow.Author.Needs.{needs}
 use Rattle.book.proofs.is_numbers.Statement.{statement}
 use Rattle.book.proofs.is_numbers.Tie as tie
 

@@ -11,14 +11,11 @@ shared-slice-read-p c = search needs
 returns : tie.Need-returns
 returns c = search ok-full
 
-add-is-same-at : tie.Need-add-is-same-at
-add-is-same-at c = search needs
+add-is-zero-at : tie.Need-add-is-zero-at
+add-is-zero-at c = search needs
 
-slice-aggregate-is-same-at : tie.Need-slice-aggregate-is-same-at
-slice-aggregate-is-same-at c = search needs
-
-is-same-at-requires : tie.Need-is-same-at-requires
-is-same-at-requires c κs = search needs
+is-zero-at-requires : tie.Need-is-zero-at-requires
+is-zero-at-requires c κs = search needs
 
 returns-2 : tie.Need-returns-2
 returns-2 c = search ok-empty
@@ -29,11 +26,4 @@ returns-3 c = search ok-neither
 pub is-slot-ok-spec : {M : Type 1} → statement M
 is-slot-ok-spec =
     tie.close
-    (tie.spec
-    shared-slice-read-p
-    returns
-    add-is-same-at
-    slice-aggregate-is-same-at
-    is-same-at-requires
-    returns-2
-    returns-3)
+    (tie.spec shared-slice-read-p returns add-is-zero-at is-zero-at-requires returns-2 returns-3)

@@ -8,8 +8,8 @@ use Rattle.book.proofs.lay_blank.Tie as tie
 clear-requires : tie.Need-clear-requires
 clear-requires c κs = search needs
 
-numbers-in-bytes-requires : tie.Need-numbers-in-bytes-requires
-numbers-in-bytes-requires c κs = search needs
+before-sheet-requires : tie.Need-before-sheet-requires
+before-sheet-requires c κs = search needs
 
 slice-aggregate-lay-at : tie.Need-slice-aggregate-lay-at
 slice-aggregate-lay-at c = search needs
@@ -31,7 +31,7 @@ lay-blank-spec =
     tie.close
     (tie.spec
     clear-requires
-    numbers-in-bytes-requires
+    before-sheet-requires
     slice-aggregate-lay-at
     lay-at-requires
     lay-at-requires-2

@@ -4,7 +4,8 @@ use mathlib.Core.Path.{sym, _∙_}
 use native.Mathlib.Omega.{arith}
 use Rattle.sheet.proofs.Gates.{sheet-sized}
 use Rattle.meaning.specs.Layout.{headLength, lengthOf}
-use Rattle.book.proofs.Opening.{allowed-bytes, opens-0, opens-9, opens-10, opens-11}
+use Rattle.book.proofs.Sizes.{allowed-n, allowed-numbers, allowed-own}
+use Rattle.book.proofs.Opening.{opens-0, opens-9, opens-10, opens-11}
 use borrow.Author.Needs.{needs}
 use Rattle.book.proofs.open_book.Statement.{statement}
 use Rattle.book.proofs.open_book.Tie as tie
@@ -16,16 +17,16 @@ is-sheet-requires : tie.Need-is-sheet-requires
 is-sheet-requires c κs = search needs
 
 book-length-requires : tie.Need-book-length-requires
-book-length-requires c κs = let l = allowed-bytes _ _ _ _ (c .before .before .before .is-allowed .ensures) (c .before .before .if1 .taken) in (l .0, l .1)
+book-length-requires c κs = (search allowed-n, search allowed-numbers)
 
 cast-lay-blank : tie.Need-cast-lay-blank
-cast-lay-blank c = record { fits = allowed-bytes _ _ _ _ (c .before .before .before .before .before .before .is-allowed .ensures) (c .before .before .before .before .before .if1 .taken) .0 }
+cast-lay-blank c = record { fits = search allowed-n }
 
 cast-lay-blank-2 : tie.Need-cast-lay-blank-2
-cast-lay-blank-2 c = record { fits = allowed-bytes _ _ _ _ (c .before .before .before .before .before .before .is-allowed .ensures) (c .before .before .before .before .before .if1 .taken) .1 }
+cast-lay-blank-2 c = record { fits = search allowed-numbers }
 
 cast-lay-blank-3 : tie.Need-cast-lay-blank-3
-cast-lay-blank-3 c = record { fits = allowed-bytes _ _ _ _ (c .before .before .before .before .before .before .is-allowed .ensures) (c .before .before .before .before .before .if1 .taken) .2 }
+cast-lay-blank-3 c = record { fits = search allowed-own }
 
 lay-blank-requires : tie.Need-lay-blank-requires
 unfolding lengthOf headLength

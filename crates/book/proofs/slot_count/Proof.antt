@@ -1,12 +1,12 @@
 -- `book::slot_count` meets its contract.
 -- Assumes nothing.
-use Rattle.meaning.specs.Layout.{slotCount, perEntry}
+use Rattle.meaning.specs.Layout.{slotCount}
 use borrow.Author.Needs.{needs}
 use Rattle.book.proofs.slot_count.Statement.{statement}
 use Rattle.book.proofs.slot_count.Tie as tie
 
-times-requires : tie.Need-times-requires
-times-requires c κs = search needs
+entries-of-requires : tie.Need-entries-of-requires
+entries-of-requires c κs = search needs
 
 slots-of-requires : tie.Need-slots-of-requires
 slots-of-requires c κs = search needs
@@ -16,7 +16,7 @@ add-result c = search needs
 
 returns : tie.Need-returns
 unfolding slotCount
-returns c = (rw (c .slots-of .ensures .0, c .before .times .ensures .0), search needs)
+returns c = (rw (c .slots-of .ensures .0, c .before .entries-of .ensures .0), search needs)
 
 pub slot-count-spec : {M : Type 1} → statement M
-slot-count-spec = tie.close (tie.spec times-requires slots-of-requires add-result returns)
+slot-count-spec = tie.close (tie.spec entries-of-requires slots-of-requires add-result returns)

@@ -1,12 +1,12 @@
--- `book::numbers_in_bytes` meets its contract.
+-- `book::before_sheet` meets its contract.
 -- Assumes nothing.
 use mathlib.Core.Path.{ap}
 use mathlib.Core.List.{_∷_}
 use Rattle.words.specs.declared.Quad.{Quad}
 use Rattle.words.specs.Words.{listOf}
 use borrow.Author.Needs.{needs}
-use Rattle.book.proofs.numbers_in_bytes.Statement.{statement}
-use Rattle.book.proofs.numbers_in_bytes.Tie as tie
+use Rattle.book.proofs.before_sheet.Statement.{statement}
+use Rattle.book.proofs.before_sheet.Tie as tie
 
 quad-of-requires : tie.Need-quad-of-requires
 quad-of-requires c κs = search needs
@@ -14,5 +14,5 @@ quad-of-requires c κs = search needs
 returns : tie.Need-returns
 returns c = ap (λ (q : Quad). c .before .args .n ∷ c .before .args .s ∷ c .before .args .own ∷ listOf q) (c .quad-of .ensures)
 
-pub numbers-in-bytes-spec : {M : Type 1} → statement M
-numbers-in-bytes-spec = tie.close (tie.spec quad-of-requires returns)
+pub before-sheet-spec : {M : Type 1} → statement M
+before-sheet-spec = tie.close (tie.spec quad-of-requires returns)

@@ -1,0 +1,98 @@
+-- The turns of the waiting search: what each shows of the entries passed, and of the one it stops at.
+-- Assumes nothing.
+use Prim.Native.Nat.{ℕ, suc, _+_, _*_, _<_, _≤_}
+use mathlib.Core.Path.{_≡_, refl, sym, ap, ap₂, _∙_}
+use mathlib.Core.Bool.{Bool, true, false, not, _&&_}
+use mathlib.Core.List.{List}
+use mathlib.Core.Option.{Option, none, some}
+use native.Mathlib.Numerals.{add-one}
+use native.Mathlib.Omega.{arith}
+use Rattle.protocol.specs.Entry.{Decl, SEND, isNone, isSome}
+use Rattle.meaning.specs.Slot.{slotAt}
+use Rattle.meaning.specs.Layout.{deliveredSlot}
+use Rattle.meaning.specs.Book.{nOf, numbersOf, look}
+use Rattle.meaning.specs.Legal.{legal}
+use Rattle.meaning.proofs.Legality.{legal-facts}
+use Rattle.card.proofs.Wall.{houses-byte}
+use Rattle.counter.specs.declared.Found.{Found}
+use Rattle.counter.specs.declared.Found.the-variants.{At, Nothing}
+use Rattle.counter.specs.Places.{placeIn, Has, Begins}
+use Rattle.counter.specs.Search.{waits, Place, orElse, firstBelow, waitingAt, earliest, placeOf, found, waiting, Earliest}
+use Rattle.counter.proofs.Earliest.{first-at, waiting-some, waiting-none, earliest-exactly}
+use Rattle.counter.proofs.Room.{numbers-small}
+use Rattle.counter.proofs.Seen.{from-base, heard-seen, delivered-seen}
+
+not-some : (o : Option Decl) → not (isSome o) ≡ isNone o
+not-some none = refl
+not-some (some v) = refl
+
+-- one entry
+module _ (b : List ℕ) (j c : ℕ) (has : Has b j c) (base : ℕ) (at : Begins b j c base) (r : Bool) (er : r ≡ isSome (slotAt b base)) where
+  heard : r ≡ isSome (look b j c .send)
+  heard = er ∙ ap (λ (x : ℕ). isSome (slotAt b x)) (at .is) ∙ ap isSome (sym (heard-seen b j c has SEND j (has .sender)))
+
+  pub waits-heard : (n : ℕ) (q : Bool) → r ≡ true → n ≡ nOf b → q ≡ isSome (slotAt b (base + 21 * (2 + 2 * n))) → not q ≡ waits b j c
+  unfolding waits
+  waits-heard n q t en eq =
+      let place = ap (λ (x : ℕ). base + 21 * (2 + 2 * x)) en ∙ from-base b j c has base (at .is) (deliveredSlot (nOf b)) in
+      let done = eq ∙ ap (λ (x : ℕ). isSome (slotAt b x)) place ∙ ap isSome (sym (delivered-seen b j c has)) in
+      rw (← heard, t) (ap not done ∙ not-some (look b j c .delivered))
+
+  pub waits-unheard : r ≡ false → false ≡ waits b j c
+  unfolding waits
+  waits-unheard t = rw (← heard, t)
+
+-- what stands below a place of the search
+abbrev pub row : List ℕ → ℕ → ℕ → Option Place
+row b n c = firstBelow (waitingAt b c) n
+
+pub none-yet : (f : ℕ → Option Place) → firstBelow f 0 ≡ none
+unfolding firstBelow
+none-yet f = refl
+
+none-more : (f : ℕ → Option Place) (k : ℕ) → firstBelow f k ≡ none → f k ≡ none → firstBelow f (k + 1) ≡ none
+unfolding firstBelow
+none-more f k h e = rw (add-one k, h) e
+
+module _ (b : List ℕ) (n c : ℕ) where
+  -- a sender passed, and a number passed
+  pub sender-passed : (j : ℕ) (r : Bool) → r ≡ waits b j c → r ≡ false → firstBelow (waitingAt b c) j ≡ none
+      → firstBelow (waitingAt b c) (j + 1) ≡ none
+  sender-passed j r er t h = none-more (waitingAt b c) j h (waiting-none b c j (sym er ∙ t))
+
+  pub number-passed : (j : ℕ) → j ≤ n → n ≤ j → firstBelow (row b n) c ≡ none → firstBelow (waitingAt b c) j ≡ none
+      → firstBelow (row b n) (c + 1) ≡ none
+  number-passed j l m h e = let z : j ≡ n = omega arith in none-more (row b n) c h (rw z at e)
+
+  -- the first that waits
+  pub stops-at : (j s : ℕ) (r : Bool) → n ≡ nOf b → s ≡ numbersOf b → r ≡ waits b j c → r ≡ true → firstBelow (waitingAt b c) j ≡ none
+      → firstBelow (row b n) c ≡ none → j < n → c < s → placeOf (At c j) ≡ earliest b
+  unfolding earliest
+  stops-at j s r en es er t h g lj lc =
+      let here = first-at (waitingAt b c) n j (record { number = c; sender = j }) lj (waiting-some b c j (sym er ∙ t)) h in
+      let all = first-at (row b n) s c (record { number = c; sender = j }) lc here g in
+      sym all ∙ (λ i. firstBelow (row b (en i)) (es i))
+
+  pub stops-nowhere : (s : ℕ) (found : Found) → n ≡ nOf b → s ≡ numbersOf b → found ≡ Nothing → c ≤ s → s ≤ c
+      → firstBelow (row b n) c ≡ none → placeOf found ≡ earliest b
+  unfolding earliest
+  stops-nowhere s found en es e l m h =
+      let z : c ≡ numbersOf b = omega arith in
+      ap placeOf e ∙ sym h ∙ (λ i. firstBelow (row b (en i)) (z i))
+
+-- ---- the answer
+
+module _ (b : List ℕ) where
+  pub found-small : legal b ≡ true → (x : Place) → some x ≡ earliest b → (x .number < 256) × (x .sender < 256)
+  found-small h x e =
+      let p = earliest-exactly b x .0 (sym e) in
+      let n = houses-byte (nOf b) (legal-facts b h .n) in
+      (omega (arith, p .in-numbers, numbers-small b h), omega (arith, p .in-senders))
+
+  pub waiting-found : legal b ≡ true → (o : Option Place) → o ≡ earliest b → found o ≡ waiting b
+  unfolding waiting
+  waiting-found h o e = rw h (ap found e)
+
+  pub waiting-no-book : legal b ≡ false → record { answer = 1; waits = false; number = 0; sender = 0 } ≡ waiting b
+  unfolding waiting
+  waiting-no-book h = rw h

@@ -1,0 +1,37 @@
+-- Two outcomes that meet the contract of publishing, of receiving or of the waiting search, as Rattle reads it from the source, are
+-- equal: the answer, the message, the delivery and each byte of the lent buffer.
+-- Assumes nothing.
+use mathlib.Core.Path.{_≡_, sym, ap, _∙_}
+use contract.Lifetimes.{Lfts}
+use borrow.Fn.World.{ArgsD, ResD}
+use borrow.Fn.Kinds.{endedOf}
+use denote.Triple.Clauses.{AtExit}
+use denote.Ref.{now}
+use Rattle.counter.specs.Call.{Result}
+use Rattle.counter.proofs.publish
+use Rattle.counter.proofs.publish.Reads as publish-reads
+use Rattle.counter.proofs.publish.Kinds as publish-kinds
+use Rattle.counter.proofs.receive
+use Rattle.counter.proofs.receive.Reads as receive-reads
+use Rattle.counter.proofs.receive.Kinds as receive-kinds
+use Rattle.counter.proofs.earliest_waiting
+use Rattle.counter.proofs.earliest_waiting.Reads as waiting-reads
+use Rattle.counter.proofs.earliest_waiting.Kinds as waiting-kinds
+
+pub publish-settled : (κs : Lfts 2) (a : ArgsD publish.signature κs) (r r' : ResD publish.signature κs)
+    (s s' : AtExit (endedOf 2 publish-kinds.ps publish-kinds.r) κs) → publish-reads.Post κs a r s → publish-reads.Post κs a r' s'
+    → (r ≡ r') × (now (s .0) ≡ now (s' .0))
+publish-settled κs a r r' s s' p q =
+    let e = p ∙ sym q in
+    (ap (λ (x : Result). x .given) e, ap (λ (x : Result). x .book) e)
+
+pub receive-settled : (κs : Lfts 2) (a : ArgsD receive.signature κs) (r r' : ResD receive.signature κs)
+    (s s' : AtExit (endedOf 2 receive-kinds.ps receive-kinds.r) κs) → receive-reads.Post κs a r s → receive-reads.Post κs a r' s'
+    → (r ≡ r') × (now (s .0) ≡ now (s' .0))
+receive-settled κs a r r' s s' p q =
+    let e = p ∙ sym q in
+    (ap (λ (x : Result). x .given) e, ap (λ (x : Result). x .book) e)
+
+pub waiting-settled : (κs : Lfts 1) (a : ArgsD «earliest_waiting».signature κs) (r r' : ResD «earliest_waiting».signature κs)
+    (s s' : AtExit (endedOf 1 waiting-kinds.ps waiting-kinds.r) κs) → waiting-reads.Post κs a r s → waiting-reads.Post κs a r' s' → r ≡ r'
+waiting-settled κs a r r' s s' p q = p ∙ sym q

@@ -1,0 +1,190 @@
+//! Declarations, sheets, messages and books to test with, in plain form or drawn at random.
+
+use super::random::Random;
+use crate::{Declaration, Gate, Message, SHEET};
+
+/// The season of document 01's whole message.
+pub const SEASON: u32 = 2026;
+
+/// A gate that lets every finite reading through.
+pub const OPEN: Gate = Gate::Open;
+
+/// Bits of readings that comparisons and copies go wrong on: zeros, subnormals, the edges of the normal
+/// numbers, infinities, and NaNs quiet and signalling, of both signs and with payloads.
+pub const EDGE_READINGS: [u32; 22] = [
+    0x0000_0000,
+    0x8000_0000,
+    0x0000_0001,
+    0x8000_0001,
+    0x007F_FFFF,
+    0x807F_FFFF,
+    0x0080_0000,
+    0x8080_0000,
+    0x3F80_0000,
+    0xBF80_0000,
+    0x7F7F_FFFF,
+    0xFF7F_FFFF,
+    0x7F80_0000,
+    0xFF80_0000,
+    0x7FC0_0000,
+    0xFFC0_0000,
+    0x7F80_0001,
+    0xFF80_0001,
+    0x7FFF_FFFF,
+    0xFFFF_FFFF,
+    0x7FC1_2345,
+    0x7FA0_0000,
+];
+
+/// The declaration with these five fields, the readings as bits.
+pub fn declaration(lot: u32, colonies: u32, kilograms: u32, readings: [u32; 2]) -> Declaration {
+    let mut bytes = [0; 20];
+    let words = [lot, colonies, kilograms, readings[0], readings[1]];
+    for (place, word) in bytes.chunks_exact_mut(4).zip(words) {
+        place.copy_from_slice(&word.to_be_bytes());
+    }
+    bytes
+}
+
+/// The declaration with these fields and document 01's readings, 17.5 and 0.5.
+pub fn honey(lot: u32, colonies: u32, kilograms: u32) -> Declaration {
+    declaration(
+        lot,
+        colonies,
+        kilograms,
+        [17.5f32.to_bits(), 0.5f32.to_bits()],
+    )
+}
+
+/// The bytes of a sheet.
+pub fn sheet(cap: u32, moisture: Gate, conductivity: Gate) -> [u8; SHEET] {
+    let mut bytes = [0; SHEET];
+    bytes[..4].copy_from_slice(&cap.to_be_bytes());
+    for (place, gate) in bytes[4..].chunks_exact_mut(9).zip([moisture, conductivity]) {
+        let (kind, low, high) = match gate {
+            Gate::Open => (0, 0, 0),
+            Gate::AtMost(high) => (1, 0, high.to_bits()),
+            Gate::Between(low, high) => (2, low.to_bits(), high.to_bits()),
+        };
+        place[0] = kind;
+        place[1..5].copy_from_slice(&low.to_be_bytes());
+        place[5..].copy_from_slice(&high.to_be_bytes());
+    }
+    bytes
+}
+
+/// The sheet of document 01's rows 4 and 5: cap 20 and open gates.
+pub fn open_sheet() -> [u8; SHEET] {
+    sheet(20, OPEN, OPEN)
+}
+
+/// The bytes of a message with this kind byte, known or not.
+pub fn message(kind: u8, season: u32, sender: u8, number: u8, v: &Declaration) -> [u8; 36] {
+    let bytes = Message {
+        kind: crate::Kind::Send,
+        season,
+        sender,
+        number,
+        declaration: *v,
+    };
+    let mut bytes = bytes.to_bytes();
+    bytes[3] = kind;
+    bytes
+}
+
+/// A freshly opened book, by the layout: the header, and empty slots.
+pub fn fresh_book(n: u8, s: u8, own: u8, season: u32, sheet: &[u8; SHEET]) -> Vec<u8> {
+    let (houses, numbers) = (usize::from(n), usize::from(s));
+    let slots = numbers + numbers * houses * (2 * houses + 3);
+    let mut book = vec![n, s, own];
+    book.extend(season.to_be_bytes());
+    book.extend(sheet);
+    book.resize(29 + 21 * slots, 0);
+    book
+}
+
+/// A number below `bound`, or at times one that is not.
+pub fn random_number(random: &mut Random, bound: u8) -> u32 {
+    match random.below(8) {
+        0 => random.pick(&[u32::from(bound), 255, 256, u32::MAX, 1 << 31]),
+        _ => random.below(usize::from(bound)) as u32,
+    }
+}
+
+/// Bits of a reading: an edge, a usual one, or any.
+pub fn random_reading(random: &mut Random) -> u32 {
+    match random.below(4) {
+        0 => random.pick(&EDGE_READINGS),
+        1 => random.word(),
+        _ => (random.below(60) as f32 / 2.0).to_bits(),
+    }
+}
+
+/// Any declaration, more often than not plausible by an open sheet.
+pub fn random_declaration(random: &mut Random) -> Declaration {
+    let colonies = match random.below(4) {
+        0 => random.word(),
+        1 => random.below(2) as u32,
+        _ => 40,
+    };
+    let kilograms = match random.below(4) {
+        0 => random.word(),
+        _ => random.below(41) as u32,
+    };
+    let lot = random.below(3) as u32;
+    let readings = [random_reading(random), random_reading(random)];
+    declaration(lot, colonies, kilograms, readings)
+}
+
+/// A few declarations, so that houses vouch for the same: plausible ones that differ in one bit (in the
+/// sign of a zero, too), and one of any kind.
+pub fn random_pool(random: &mut Random) -> Vec<Declaration> {
+    let mut odd = honey(1, 40, 40);
+    odd[random.below(4)] ^= 1 << random.below(8);
+    let zero = |bits| declaration(1, 40, 40, [17.5f32.to_bits(), bits]);
+    vec![
+        honey(1, 40, 40),
+        odd,
+        zero(0x0000_0000),
+        zero(0x8000_0000),
+        random_declaration(random),
+    ]
+}
+
+/// A legal sheet, often an open one.
+pub fn random_sheet(random: &mut Random) -> [u8; SHEET] {
+    let cap = random.pick(&[0, 1, 20, 20, 20, u32::MAX]);
+    let gates = [0, 1].map(|_| {
+        let limits = [0, 1].map(|_| f32::from_bits(random_reading(random)));
+        match (random.below(4), limits.map(f32::is_finite)) {
+            (0, [true, _]) => Gate::AtMost(limits[0]),
+            (1, [true, true]) if limits[0] <= limits[1] => Gate::Between(limits[0], limits[1]),
+            _ => Gate::Open,
+        }
+    });
+    sheet(cap, gates[0], gates[1])
+}
+
+/// A legal book that no run need ever reach: any slot is full with any 20 bytes, often a few of a pool.
+pub fn random_book(random: &mut Random, pool: &[Declaration]) -> Vec<u8> {
+    let n = match random.below(4) {
+        0 => 1 + random.below(16),
+        _ => 1 + random.below(7),
+    } as u8;
+    let s = 1 + random.below(4) as u8;
+    let own = random.below(usize::from(n)) as u8;
+    let season = random.pick(&[SEASON, 0, u32::MAX]);
+    let mut book = fresh_book(n, s, own, season, &random_sheet(random));
+    let full = random.below(9);
+    for slot in book[29..].chunks_exact_mut(21) {
+        if random.chance(full, 8) {
+            let declaration = match random.below(8) {
+                0 => random.bytes(20),
+                _ => random.pick(pool).to_vec(),
+            };
+            slot[0] = 1;
+            slot[1..].copy_from_slice(&declaration);
+        }
+    }
+    book
+}

@@ -1,0 +1,17 @@
+//! Checks of any library that has the eight calls: each takes the library, panics with a plain sentence
+//! where an answer is not document 01's, and prints its seed when it does.
+
+pub mod books;
+pub mod both;
+pub mod claims;
+pub mod forms;
+pub mod openings;
+pub mod pairs;
+pub mod random;
+pub mod readings;
+pub mod refusals;
+pub mod rows;
+pub mod scheduler;
+pub mod season;
+pub mod trips;
+pub mod wrong;

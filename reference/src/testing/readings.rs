@@ -1,0 +1,245 @@
+//! Judging at the edges: kilograms as exact numbers, readings and limits as floats.
+
+use super::forms::{
+    declaration, fresh_book, honey, message, open_sheet, sheet, EDGE_READINGS, OPEN, SEASON,
+};
+use crate::{Gate, Kind, Library};
+
+const USUAL: [u32; 2] = [0x418C_0000, 0x3F00_0000];
+
+/// "Kilograms is at most colonies times cap (the exact product)."
+pub fn products(library: &mut impl Library) {
+    const MAX: u32 = u32::MAX;
+    let cases = [
+        (20, 0, 0, 0),
+        (0, 0, 0, 0),
+        (0, MAX, 0, 0),
+        (0, MAX, 1, 5),
+        (MAX, 0, 1, 5),
+        (9, 1, 9, 0),
+        (9, 1, 80, 5),
+        (MAX, 1, MAX, 0),
+        (1, MAX, MAX, 0),
+        (1, MAX - 1, MAX, 5),
+        (MAX, MAX, MAX, 0),
+        (MAX, MAX, 0, 0),
+        (65_536, 65_536, 1, 0),
+        (65_536, 65_536, MAX, 0),
+        (2, 1 << 31, MAX, 0),
+        (1 << 31, 2, 1, 0),
+        (65_537, 65_535, MAX, 0),
+        (65_535, 65_537, MAX, 0),
+        (65_536, 65_535, 4_294_901_760, 0),
+        (65_536, 65_535, 4_294_901_761, 5),
+        (3, 1_431_655_765, MAX, 0),
+        (3, 1_431_655_764, MAX, 5),
+        (5, 858_993_460, 4, 0),
+        (MAX, 2, MAX, 0),
+        (1 << 16, 1 << 15, (1 << 31) + 1, 5),
+    ];
+    for (cap, colonies, kilograms, answer) in cases {
+        let judged = library.judge(&sheet(cap, OPEN, OPEN), &honey(1, colonies, kilograms));
+        assert_eq!(
+            judged, answer,
+            "cap {cap}, {colonies} colonies, {kilograms} kilograms"
+        );
+    }
+}
+
+/// Every edge reading at open gates, in both places: judged, published and received alike.
+pub fn at_open_gates(library: &mut impl Library) {
+    for bits in EDGE_READINGS {
+        let finite = bits & 0x7F80_0000 != 0x7F80_0000;
+        let answer = if finite { 0 } else { 5 };
+        for readings in [[bits, USUAL[1]], [USUAL[0], bits]] {
+            let v = declaration(1, 1, 1, readings);
+            assert_eq!(
+                library.judge(&open_sheet(), &v),
+                answer,
+                "reading {bits:08X}"
+            );
+            let mut book = fresh_book(4, 1, 0, SEASON, &open_sheet());
+            let published = library.publish(&mut book, 0, &v);
+            let expected = finite.then(|| message(1, SEASON, 0, 0, &v));
+            assert_eq!(
+                (published.answer, published.message),
+                (answer, expected),
+                "reading {bits:08X}"
+            );
+            let received = library.receive(&mut book, 3, &message(1, SEASON, 3, 0, &v));
+            let expected = finite.then(|| message(2, SEASON, 3, 0, &v));
+            assert_eq!(
+                (received.answer, received.message),
+                (answer, expected),
+                "reading {bits:08X}"
+            );
+        }
+    }
+}
+
+/// The finite edge readings in ascending order; the two zeros are equal.
+const ASCENDING: [&[u32]; 11] = [
+    &[0xFF7F_FFFF],
+    &[0xBF80_0000],
+    &[0x8080_0000],
+    &[0x807F_FFFF],
+    &[0x8000_0001],
+    &[0x8000_0000, 0x0000_0000],
+    &[0x0000_0001],
+    &[0x007F_FFFF],
+    &[0x0080_0000],
+    &[0x3F80_0000],
+    &[0x7F7F_FFFF],
+];
+
+/// The finite edge readings with their rank.
+fn ranked() -> impl Iterator<Item = (usize, u32)> {
+    let ranks = ASCENDING.iter().enumerate();
+    ranks.flat_map(|(rank, bits)| bits.iter().map(move |&bits| (rank, bits)))
+}
+
+/// "Each reading is within its gate by float comparison", limits inside: all edges as reading and limits.
+pub fn at_limits(library: &mut impl Library) {
+    for (high_rank, high) in ranked() {
+        for (rank, bits) in ranked() {
+            let gate = Gate::AtMost(f32::from_bits(high));
+            judged_at(library, gate, bits, if rank <= high_rank { 0 } else { 5 });
+        }
+        for (low_rank, low) in ranked() {
+            for (rank, bits) in ranked() {
+                let gate = Gate::Between(f32::from_bits(low), f32::from_bits(high));
+                let within = low_rank <= rank && rank <= high_rank;
+                let expected = match (low_rank <= high_rank, within) {
+                    (false, _) => 10,
+                    (true, false) => 5,
+                    (true, true) => 0,
+                };
+                judged_at(library, gate, bits, expected);
+            }
+        }
+        for bits in EDGE_READINGS
+            .into_iter()
+            .filter(|bits| !f32::from_bits(*bits).is_finite())
+        {
+            judged_at(library, Gate::AtMost(f32::from_bits(high)), bits, 5);
+        }
+    }
+}
+
+/// Judges a reading at this gate, as moisture and as conductivity.
+fn judged_at(library: &mut impl Library, gate: Gate, bits: u32, expected: u8) {
+    let moisture = declaration(1, 1, 1, [bits, USUAL[1]]);
+    let judged = library.judge(&sheet(20, gate, OPEN), &moisture);
+    assert_eq!(judged, expected, "moisture {bits:08X} at {gate:?}");
+    let conductivity = declaration(1, 1, 1, [USUAL[0], bits]);
+    let judged = library.judge(&sheet(20, OPEN, gate), &conductivity);
+    assert_eq!(judged, expected, "conductivity {bits:08X} at {gate:?}");
+}
+
+/// "A sheet is legal when no limit is NaN or infinite and no low exceeds its high", and its bytes are in
+/// their one form: judged and opened alike.
+pub fn sheets(library: &mut impl Library) {
+    let mut cases = vec![];
+    for bits in EDGE_READINGS {
+        let finite = bits & 0x7F80_0000 != 0x7F80_0000;
+        let limit = f32::from_bits(bits);
+        cases.push((Gate::AtMost(limit), finite));
+        cases.push((Gate::Between(limit, limit), finite));
+        cases.push((Gate::Between(limit, f32::MAX), finite));
+        cases.push((Gate::Between(f32::MIN, limit), finite));
+    }
+    for (gate, legal) in cases {
+        for sheet in [sheet(20, gate, OPEN), sheet(20, OPEN, gate)] {
+            sheet_is(library, &sheet, legal);
+        }
+    }
+    for at in [4, 13] {
+        let form = |kind, low, high| {
+            let mut bytes = open_sheet();
+            (bytes[at], bytes[at + 4], bytes[at + 8]) = (kind, low, high);
+            bytes
+        };
+        for kind in 0..=255 {
+            sheet_is(library, &form(kind, 0, 0), kind <= 2);
+            sheet_is(library, &form(kind, 1, 1), kind == 2);
+            sheet_is(library, &form(kind, 0, 1), kind == 1 || kind == 2);
+            sheet_is(library, &form(kind, 1, 0), false);
+        }
+        let mut minus_zero = form(1, 0, 0);
+        minus_zero[at + 1] = 0x80;
+        sheet_is(library, &minus_zero, false);
+    }
+    for length in (0..64).filter(|&length| length != 22) {
+        sheet_is(library, &vec![0; length], false);
+    }
+}
+
+/// Whether both judging and opening take these bytes for a legal sheet.
+fn sheet_is(library: &mut impl Library, bytes: &[u8], legal: bool) {
+    let judged = library.judge(bytes, &declaration(0, 0, 0, USUAL));
+    assert_eq!(judged != 10, legal, "judging by the sheet {bytes:?}");
+    let mut book = fresh_book(1, 1, 0, SEASON, &open_sheet());
+    let opened = library.open(&mut book, 1, 1, 0, SEASON, bytes);
+    assert_eq!(
+        opened,
+        if legal { 0 } else { 10 },
+        "opening with the sheet {bytes:?}"
+    );
+    if legal {
+        assert!(book[7..29] == *bytes, "sheet limits are kept as their bits");
+    }
+}
+
+/// "Two declarations are the same exactly when all 20 bytes are": ECHOes and READYs of +0.0 and of -0.0
+/// are counted apart, and so are those that differ in any one bit.
+pub fn counted_apart(library: &mut impl Library) {
+    let plus = declaration(77, 40, 800, [0x418C_0000, 0x0000_0000]);
+    apart(
+        library,
+        &plus,
+        &declaration(77, 40, 800, [0x418C_0000, 0x8000_0000]),
+    );
+    for bit in 0..160 {
+        let mut other = honey(77, 40, 400);
+        other[bit / 8] ^= 0x80 >> (bit % 8);
+        if library.judge(&open_sheet(), &other) == 0 {
+            apart(library, &honey(77, 40, 400), &other);
+        }
+    }
+}
+
+/// At n = 4: two vouch for one and one for the other, and only another voucher for the first makes three.
+fn apart(library: &mut impl Library, v: &[u8; 20], other: &[u8; 20]) {
+    let ready = Some(message(3, SEASON, 0, 0, v));
+    let calls = [
+        (
+            Kind::Echo,
+            [(0, v), (1, v), (2, other), (3, v)],
+            [None, None, None, ready],
+            false,
+        ),
+        (
+            Kind::Ready,
+            [(0, v), (1, other), (2, v), (3, v)],
+            [None, None, ready, None],
+            true,
+        ),
+    ];
+    for (kind, vouchers, given, delivers) in calls {
+        let mut book = fresh_book(4, 1, 0, SEASON, &open_sheet());
+        for ((house, declaration), given) in vouchers.into_iter().zip(given) {
+            let outcome = library.receive(
+                &mut book,
+                house,
+                &message(kind as u8, SEASON, 0, 0, declaration),
+            );
+            assert_eq!(
+                (outcome.answer, outcome.message),
+                (0, given),
+                "{kind:?} from {house}"
+            );
+            let expected = (delivers && house == 3).then_some(*v);
+            assert_eq!(outcome.delivery, expected, "{kind:?} from {house}");
+        }
+    }
+}

@@ -1,0 +1,180 @@
+//! Document 01's rows 1 to 12 and its run cases, and the wall card for all n.
+
+use super::forms::{fresh_book, honey, message, open_sheet, sheet, OPEN, SEASON};
+use super::season::{Rules, Season};
+use crate::{Gate, Kind, Library, Outcome};
+
+/// t and the echo quorum for n = 1 to 16, as document 01 prints them.
+pub const CARD: [(usize, usize); 16] = [
+    (0, 1),
+    (0, 2),
+    (0, 2),
+    (1, 3),
+    (1, 4),
+    (1, 4),
+    (2, 5),
+    (2, 6),
+    (2, 6),
+    (3, 7),
+    (3, 8),
+    (3, 8),
+    (4, 9),
+    (4, 10),
+    (4, 10),
+    (5, 11),
+];
+
+/// The whole message that document 01 prints.
+pub const WHOLE: [u8; 36] = [
+    0x01, 0x00, 0x01, 0x01, 0x02, 0x00, 0x06, 0x00, 0x00, 0x07, 0xEA, 0x02, 0x01, 0x03, 0x00, 0x14,
+    0x00, 0x00, 0x00, 0x4D, 0x00, 0x00, 0x00, 0x28, 0x00, 0x00, 0x03, 0x20, 0x41, 0x8C, 0x00, 0x00,
+    0x3F, 0x00, 0x00, 0x00,
+];
+
+/// Opens a book of house 0, with one number and the sheet of row 4.
+fn opened(library: &mut impl Library, n: u8) -> Vec<u8> {
+    let (answer, length) = library.length(u32::from(n), 1);
+    assert_eq!(answer, 0, "length at n = {n}");
+    let mut book = vec![0xEE; length];
+    let answer = library.open(&mut book, u32::from(n), 1, 0, SEASON, &open_sheet());
+    assert_eq!(answer, 0, "opening at n = {n}");
+    assert!(
+        book == fresh_book(n, 1, 0, SEASON, &open_sheet()),
+        "opening's bytes at n = {n}"
+    );
+    book
+}
+
+/// Receives one message of one declaration on the entry of sender 0 and number 0, which is accepted.
+fn vouch(library: &mut impl Library, book: &mut [u8], house: usize, kind: Kind) -> Outcome {
+    let bytes = message(kind as u8, SEASON, 0, 0, &honey(77, 40, 800));
+    let outcome = library.receive(book, house as u32, &bytes);
+    assert_eq!(outcome.answer, 0, "{kind:?} from house {house}");
+    outcome
+}
+
+/// Rows 1 to 3 and 10 to 12, and the same for every n: ECHOes below the quorum give nothing and at it a
+/// READY; READYs give a READY at t+1 and a delivery at 2t+1.
+pub fn card(library: &mut impl Library) {
+    let declaration = honey(77, 40, 800);
+    let ready = Some(message(3, SEASON, 0, 0, &declaration));
+    for (n, (t, quorum)) in (1..).zip(CARD) {
+        let mut book = opened(library, n);
+        for house in 0..usize::from(n) {
+            let outcome = vouch(library, &mut book, house, Kind::Echo);
+            let expected = if house + 1 == quorum { ready } else { None };
+            assert_eq!(
+                outcome.message,
+                expected,
+                "n = {n}, ECHO number {}",
+                house + 1
+            );
+            assert_eq!(outcome.delivery, None, "n = {n}, ECHO number {}", house + 1);
+        }
+        let mut book = opened(library, n);
+        for house in 0..usize::from(n) {
+            let outcome = vouch(library, &mut book, house, Kind::Ready);
+            let expected = if house == t { ready } else { None };
+            assert_eq!(
+                outcome.message,
+                expected,
+                "n = {n}, READY number {}",
+                house + 1
+            );
+            let expected = (house == 2 * t).then_some(declaration);
+            assert_eq!(
+                outcome.delivery,
+                expected,
+                "n = {n}, READY number {}",
+                house + 1
+            );
+        }
+    }
+}
+
+/// Rows 4 to 8: judging.
+pub fn judged(library: &mut impl Library) {
+    let nan = |mut declaration: [u8; 20]| {
+        declaration[12..16].copy_from_slice(&f32::NAN.to_bits().to_be_bytes());
+        declaration
+    };
+    let moist = |mut declaration: [u8; 20]| {
+        declaration[12..16].copy_from_slice(&20.0f32.to_bits().to_be_bytes());
+        declaration
+    };
+    let rows = [
+        (4, open_sheet(), honey(77, 40, 800), 0),
+        (5, open_sheet(), honey(77, 40, 801), 5),
+        (6, sheet(2, OPEN, OPEN), honey(77, 4, 9), 5),
+        (
+            7,
+            sheet(20, Gate::AtMost(20.0), OPEN),
+            moist(honey(77, 40, 800)),
+            0,
+        ),
+        (8, open_sheet(), nan(honey(77, 40, 800)), 5),
+    ];
+    for (row, sheet, declaration, answer) in rows {
+        assert_eq!(library.judge(&sheet, &declaration), answer, "row {row}");
+    }
+}
+
+/// Row 9, and the run cases of 35 and 37 bytes and of kinds 0 and 4, by reader, receiver and writer.
+pub fn messages(library: &mut impl Library) {
+    let declaration = honey(77, 40, 800);
+    let read = library
+        .read(&WHOLE)
+        .message
+        .expect("the whole message reads");
+    assert_eq!(
+        (read.kind, read.season, read.sender, read.number),
+        (Kind::Send, SEASON, 2, 1)
+    );
+    assert_eq!(
+        read.declaration, declaration,
+        "the whole message's declaration"
+    );
+    let written = library.write(1, SEASON, 2, 1, &declaration);
+    assert_eq!(
+        (written.answer, written.message),
+        (0, Some(WHOLE)),
+        "the whole message, written"
+    );
+
+    let mut longer = WHOLE.to_vec();
+    longer.push(0);
+    let kind = |kind| message(kind, SEASON, 2, 1, &declaration).to_vec();
+    for bytes in [WHOLE[..35].to_vec(), longer, kind(0), kind(4)] {
+        let read = library.read(&bytes);
+        assert_eq!((read.answer, read.message), (2, None), "reading {bytes:?}");
+        let mut book = fresh_book(4, 2, 0, SEASON, &open_sheet());
+        let received = library.receive(&mut book, 2, &bytes);
+        assert_eq!(received.answer, 2, "receiving {bytes:?}");
+        assert!(
+            book == fresh_book(4, 2, 0, SEASON, &open_sheet()),
+            "the book at answer 2"
+        );
+    }
+    for kind in [0, 4] {
+        let written = library.write(kind, SEASON, 2, 1, &declaration);
+        assert_eq!(
+            (written.answer, written.message),
+            (2, None),
+            "writing kind {kind}"
+        );
+    }
+}
+
+/// A season at n = 4 in which house 0 publishes once and every copy is consumed: so many copies are sent.
+pub fn copies(library: &mut impl Library, wrong: &[usize]) -> usize {
+    let rules = Rules::new(4, 1, wrong);
+    let mut season = Season::open(library, rules);
+    assert_eq!(
+        season.publish(0, 0, &honey(77, 40, 800)),
+        0,
+        "the publication"
+    );
+    season.drain();
+    season.check();
+    season.copies().len()
+}

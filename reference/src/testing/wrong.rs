@@ -1,0 +1,143 @@
+//! Wrong houses that work together: they see every copy, plan what each honest house is to believe,
+//! equivocate, vouch for it, replay, lie about the kind, stay silent towards some, and send noise.
+
+use super::forms::{declaration, honey, message, random_declaration, SEASON};
+use super::random::Random;
+use super::season::{Rules, Sent};
+use crate::Declaration;
+
+/// Plausible declarations of a season, near to each other: one bit apart, the sign of a zero apart.
+pub fn plausible(random: &mut Random) -> [Declaration; 4] {
+    let zero = |bits| declaration(77, 40, 800, [17.5f32.to_bits(), bits]);
+    let lot = random.word();
+    [
+        honey(lot, 40, 800),
+        honey(lot ^ 1, 40, 800),
+        zero(0x0000_0000),
+        zero(0x8000_0000),
+    ]
+}
+
+/// Bytes for an honest house, and the number that they come under.
+pub struct Lie {
+    /// The honest house.
+    pub to: usize,
+    /// A wrong house's number, or one not below n.
+    pub under: u32,
+    /// Any bytes.
+    pub bytes: Vec<u8>,
+}
+
+/// The wrong houses of a season.
+pub struct Wrong {
+    rules: Rules,
+    honest: Vec<usize>,
+    wrong: Vec<usize>,
+    /// For each entry and house, what it is to believe.
+    plan: Vec<Vec<Declaration>>,
+    /// For each wrong and honest house, whether nothing is said.
+    silent: Vec<Vec<bool>>,
+    /// How many lies in sixteen follow the plan.
+    resolve: usize,
+}
+
+impl Wrong {
+    /// Wrong houses with a plan of their own. There is an honest house.
+    pub fn new(random: &mut Random, rules: &Rules, pool: &[Declaration]) -> Self {
+        let houses = usize::from(rules.n);
+        let plan = (0..rules.entries()).map(|_| {
+            let beliefs = [random.pick(pool), random.pick(pool)];
+            let split = random.below(houses + 1);
+            let believes = |house| beliefs[usize::from(house < split)];
+            (0..houses).map(believes).collect()
+        });
+        let plan = plan.collect();
+        let withholds = random.pick(&[0, 0, 1, 4]);
+        let silent =
+            (0..houses).map(|_| (0..houses).map(|_| random.chance(withholds, 8)).collect());
+        let silent = silent.collect();
+        let honest = rules.honest();
+        Wrong {
+            wrong: (0..houses)
+                .filter(|house| !honest.contains(house))
+                .collect(),
+            honest,
+            rules: rules.clone(),
+            plan,
+            silent,
+            resolve: random.pick(&[4, 12, 15]),
+        }
+    }
+
+    /// The next lie, or none where a wrong house withholds.
+    pub fn lie(&self, random: &mut Random, copies: &[Sent]) -> Option<Lie> {
+        let to = random.pick(&self.honest);
+        if self.wrong.is_empty() {
+            return Some(self.stranger(random, to, copies));
+        }
+        let from = random.pick(&self.wrong);
+        if self.silent[from][to] {
+            return None;
+        }
+        if random.chance(self.resolve, 16) {
+            return Some(self.planned(random, from, to));
+        }
+        let mut bytes = self.overheard(random, copies);
+        match random.below(10) {
+            0 => return Some(self.stranger(random, to, copies)),
+            1 => bytes[3] = random.below(5) as u8,
+            2 => bytes[3] = 1 + random.below(3) as u8,
+            3 => bytes[35] ^= 1,
+            4 => bytes[7 + random.below(6)] ^= 1 << random.below(8),
+            5 => bytes[16..].copy_from_slice(&random_declaration(random)),
+            6 => bytes[random.below(36)] ^= 1 << random.below(8),
+            7 => bytes.truncate(random.below(36)),
+            8 => {
+                let length = random.below(65);
+                bytes = random.bytes(length);
+            }
+            _ => (),
+        }
+        Some(Lie {
+            to,
+            under: from as u32,
+            bytes,
+        })
+    }
+
+    /// SEND, ECHO or READY of what the plan wants this house to believe.
+    fn planned(&self, random: &mut Random, from: usize, to: usize) -> Lie {
+        let number = random.below(usize::from(self.rules.s));
+        let kind = 1 + random.below(3) as u8;
+        let sender = match kind {
+            1 => from,
+            _ => random.below(usize::from(self.rules.n)),
+        };
+        let entry = number * usize::from(self.rules.n) + sender;
+        let belief = self.plan[entry][to];
+        Lie {
+            to,
+            under: from as u32,
+            bytes: message(kind, SEASON, sender as u8, number as u8, &belief).to_vec(),
+        }
+    }
+
+    /// A message that was sent, by anybody to anybody; or one out of the air.
+    fn overheard(&self, random: &mut Random, copies: &[Sent]) -> Vec<u8> {
+        match copies {
+            [] => message(1, SEASON, 0, 0, &random_declaration(random)).to_vec(),
+            some => some[random.below(some.len())].bytes.to_vec(),
+        }
+    }
+
+    /// A true message under a number that no house has.
+    fn stranger(&self, random: &mut Random, to: usize, copies: &[Sent]) -> Lie {
+        let n = u32::from(self.rules.n);
+        let under = random.pick(&[n, n + 1, 255, 256, 256 + to as u32, u32::MAX, 1 << 31]);
+        Lie {
+            to,
+            under,
+            bytes: self.overheard(random, copies),
+        }
+    }
+}
