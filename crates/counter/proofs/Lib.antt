@@ -15,4 +15,5 @@ pub mod Searching
 pub mod Settled
 pub mod Fits
 pub mod Keeps
+pub mod Full
 pub mod Between
