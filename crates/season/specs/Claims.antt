@@ -44,7 +44,7 @@ module _ (H : Houses) (j c : ℕ) where
     pub published-once : length (s .gave .publications j j c) ≤ 1
     -- No honest house ever delivers an implausible declaration.
     pub plausible : (r : ℕ) (v : List ℕ) → T (isHonest H r) → Delivered s r v → judged (H .sheet) v ≡ 0
-    -- A copy that an honest house sent is accepted where it is consumed.
+    -- A copy that an honest house sent is accepted where it is consumed: answered 0, so never 7.
     pub accepted : (i : ℕ) (m : Copy) → at (s .mail) i ≡ some m → T (isHonest H (m .to)) → m .consumed ≡ false
         → received (s .gave .books (m .to)) (m .from) (m .message) .given .answer ≡ 0
 
@@ -77,6 +77,6 @@ module _ (H : Houses) (j c : ℕ) where
     pub agreed : Few H → Agreed (run H l (start H))
     pub complete : Few H → Drained H j c (run H l (start H)) → Complete (run H l (start H))
 
--- of every run of houses that opened their books, and every entry of the book
+-- of every run of houses that opened their books with answer 0, and of every sender and number in the book
 abbrev pub Claims : Type 0
 Claims = (H : Houses) → Open H → (l : List Step) (j c : ℕ) → j < H .n → c < H .numbers → Season H j c l
