@@ -13,3 +13,7 @@ pub mod Received
 pub mod Published
 pub mod Searching
 pub mod Settled
+pub mod Fits
+pub mod Keeps
+pub mod Full
+pub mod Between

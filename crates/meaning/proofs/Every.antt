@@ -155,3 +155,9 @@ module _ (B : Meaning) (ok : IsBook B) where
 pub legal-exactly : (b : List ℕ) → Bytes b → (legal b ≡ true) ↔ ((B : Meaning) × IsBook B × (b ≡ write B))
 legal-exactly b bytes =
     (λ h. (meant b, meant-is-book b h bytes, sym (written b h bytes)), λ m. rw (m .2) (written-legal (m .0) (m .1)))
+
+-- a legal book's slots are those of its meaning
+pub slot-is : (b : List ℕ) → legal b ≡ true → Bytes b → (k : ℕ) → k < slotCount (nOf b) (numbersOf b) → slotOf b k ≡ slotsOf (meant b) k
+unfolding meant
+slot-is b h bytes k l =
+    ap (λ (x : List ℕ). slotOf x k) (sym (written b h bytes)) ∙ slot-meant (meant b) (meant-is-book b h bytes) k l

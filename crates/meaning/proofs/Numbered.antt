@@ -9,9 +9,12 @@ use native.Mathlib.Omega.{arith}
 use lib.Dec.{eqb, ltb}
 use borrow.Author.Tests.{eqb-true, eqb-false, ltb-true, ltb-false, lt-ltb, le-ltb}
 use Rattle.protocol.specs.Entry.{Decl, Entry, fresh}
+use Rattle.protocol.specs.Book.{PerEntry}
+use Rattle.protocol.specs.Claims.{Stays, Filled}
 use Rattle.meaning.specs.Layout.{perEntry, entrySlot, echoSlot, readySlot, readySentSlot, deliveredSlot}
 use Rattle.meaning.specs.Book.{Meaning, forHouses}
 use Rattle.meaning.specs.Legal.{IsSlot, IsEntry, IsBook}
+use Rattle.meaning.proofs.Written.{withEntries}
 use Rattle.meaning.proofs.Entries.{entryFrom, rowIn, publishedIn, entryIn, entriesIn, entry-same}
 
 -- slot i of an entry's row
@@ -145,3 +148,27 @@ module _ (B : Meaning) where
             ∙ row-entry (B .n) (B .entries j c) (ok .entries j c)
         go j c true false a b = sym (ok .past-number j c (ltb-false c (B .numbers) b))
         go j c false u a b = sym (ok .past-sender j c (ltb-false j (B .n) a))
+
+-- ---- where each entry's slots stay, the book's slots stay
+
+pick-stays : (x y x₂ y₂ : Option Decl) (t : Bool) → Stays x x₂ → Stays y y₂ → Stays (cond t x y) (cond t x₂ y₂)
+pick-stays x y x₂ y₂ true f g = f
+pick-stays x y x₂ y₂ false f g = g
+
+row-stays : (n : ℕ) (e e₂ : Entry) → Filled e e₂ → (i : ℕ) → Stays (inRow n e i) (inRow n e₂ i)
+row-stays n e e₂ f i =
+    pick-stays _ _ _ _ (ltb i 1) (f .send)
+    (pick-stays _ _ _ _ (ltb i (1 + n)) (f .echo (i - 1))
+    (pick-stays _ _ _ _ (ltb i (1 + 2 * n)) (f .ready (i - (1 + n)))
+    (pick-stays _ _ _ _ (ltb i (2 + 2 * n)) (f .readySent) (f .delivered))))
+
+pub slots-stay : (B : Meaning) (f : PerEntry Entry) → ((j c : ℕ) → Filled (B .entries j c) (f j c)) → (k : ℕ)
+    → Stays (slotsOf B k) (slotsOf (withEntries B f) k)
+unfolding slotsOf
+slots-stay B f h k =
+    let past = k - B .numbers in
+    let row = past / perEntry (B .n) in
+    let j = row % B .n in
+    let c = row / B .n in
+    pick-stays _ _ _ _ (ltb k (B .numbers)) (h (B .own) k .published)
+    (row-stays (B .n) (B .entries j c) (f j c) (h j c) (past % perEntry (B .n)))

@@ -1,0 +1,240 @@
+-- What publishing and receiving keep of a legal book: it stays legal, its header stays, slots only ever fill; a refusal leaves every
+-- byte, and an accepted call's bytes mean the book with the named entry as the step leaves it.
+-- Assumes nothing.
+use Prim.Native.Nat.{ℕ, _≤_}
+use mathlib.Core.Path.{_≡_, refl, sym, ap}
+use mathlib.Core.Bool.{Bool, true, false, cond, and-eq-true-iff}
+use mathlib.Core.List.{List}
+use mathlib.Core.Option.{Option, none, some}
+use native.Mathlib.Omega.{arith}
+use lib.Dec.{T, eqb, ltb}
+use borrow.Author.Tests.{eqb-true, eqb-false, ltb-true}
+use Rattle.words.specs.Words.{Bytes}
+use Rattle.lot.specs.declared.Sheet.{Sheet}
+use Rattle.lot.specs.Sheet.{plausible}
+use Rattle.lot.specs.Declaration.{declarationAt}
+use Rattle.sheet.specs.Kept.{sheetAt}
+use Rattle.message.specs.Message.{Five, readOf}
+use Rattle.protocol.specs.Entry.{Decl, fresh}
+use Rattle.protocol.specs.Steps.{Out, refused}
+use Rattle.protocol.specs.Book.{PerEntry, sameEntry, place, Call, publishing, senderOf, numberOf}
+use Rattle.protocol.specs.Thresholds.{rulesOf}
+use Rattle.protocol.specs.Claims.{Filled}
+use Rattle.protocol.proofs.Basics.{true-of, and-l}
+use Rattle.protocol.proofs.Moves.{filled-refl}
+use Rattle.protocol.proofs.Calls.{outcome-done}
+use Rattle.meaning.specs.Book.{Meaning, nOf, numbersOf, ownOf, seasonOf, sheetPlace, look, meant}
+use Rattle.meaning.specs.Legal.{legal, IsDecl, IsEntry, IsBook}
+use Rattle.meaning.proofs.Entries.{same-entry}
+use Rattle.meaning.proofs.Stores.{Stored, stored-none}
+use Rattle.meaning.proofs.OneForm.{stored-meant}
+use Rattle.meaning.proofs.Meant.{meant-is-book}
+use Rattle.meaning.proofs.Every.{written-legal, written-bytes, written-meant}
+use Rattle.counter.specs.declared.Outcome.{Outcome}
+use Rattle.counter.specs.Call.{giving, refusal, okBy, isDecl, rulesBy, letters, withEntry, entered, stepOf, called}
+use Rattle.counter.specs.Call.{published, asked, heardFrom, received}
+use Rattle.counter.specs.Calls.{Calling, publish, receive, search, answered}
+use Rattle.counter.proofs.Fits.{is-decl, Fits, outcome-fits, outcome-in-book, outcome-refused}
+
+-- what is plausible by a sheet is 20 bytes
+pub plausible-decl : (s : Sheet) (v : Decl) → T (okBy s v) → IsDecl v
+unfolding okBy
+plausible-decl s v t = is-decl v (true-of (isDecl v) (and-l (isDecl v) (plausible s (declarationAt v 0)) t))
+
+place-all : {A : Type 0} (Φ : ℕ → ℕ → A → Type 0) (f : PerEntry A) (j c : ℕ) (x : A) → Φ j c x → ((j₂ c₂ : ℕ) → Φ j₂ c₂ (f j₂ c₂))
+    → (j₂ c₂ : ℕ) → Φ j₂ c₂ (place f j c x j₂ c₂)
+place-all Φ f j c x a g j₂ c₂ = go (sameEntry j c j₂ c₂) refl
+  where
+    go : (t : Bool) → sameEntry j c j₂ c₂ ≡ t → Φ j₂ c₂ (cond t x (f j₂ c₂))
+    go true e = let p = same-entry j c j₂ c₂ e in rw (p .0, p .1) a
+    go false e = g j₂ c₂
+
+-- two books agree on n, S, own number, season, sheet
+pub record SameHeader (b d : List ℕ) : Type 0 where
+  pub n : nOf b ≡ nOf d
+  pub numbers : numbersOf b ≡ numbersOf d
+  pub own : ownOf b ≡ ownOf d
+  pub season : seasonOf b ≡ seasonOf d
+  pub sheet : sheetAt b sheetPlace ≡ sheetAt d sheetPlace
+
+-- bytes a after bytes b
+pub record Kept (b a : List ℕ) : Type 0 where
+  pub legal : legal a ≡ true
+  pub bytes : Bytes a
+  pub header : SameHeader a b
+  -- what stands in a slot stays
+  pub fills : (j c : ℕ) → Filled (look b j c) (look a j c)
+
+module _ (b : List ℕ) (h : legal b ≡ true) (bytes : Bytes b) where
+  pub kept-none : Kept b b
+  kept-none =
+      record {
+        legal = h;
+        bytes = bytes;
+        header = record { n = refl; numbers = refl; own = refl; season = refl; sheet = refl };
+        fills = λ j c. filled-refl (look b j c);
+      }
+
+  module _ (a : Call) where
+    -- the entry that the call names, and the step on it
+    abbrev j : ℕ
+    j = senderOf (ownOf b) a
+
+    abbrev c : ℕ
+    c = numberOf a
+
+    abbrev o : Out
+    o = stepOf b a
+
+    fits : Fits (nOf b) (ownOf b) j (o .entry)
+    unfolding stepOf meant rulesBy rulesOf
+    fits =
+        let I = meant-is-book b h bytes in
+        outcome-fits (rulesBy (meant b)) (numbersOf b) (ownOf b) (look b) a (plausible-decl (sheetAt b sheetPlace))
+        (record { entry = I .entries j c; others = I .others j c })
+
+    -- what the step of an accepted call leaves is what a book may mean
+    is-book : o .answer ≡ 0 → IsBook (withEntry (meant b) j c (o .entry))
+    unfolding stepOf meant rulesBy rulesOf
+    is-book z =
+        let I = meant-is-book b h bytes in
+        let t = outcome-in-book (rulesBy (meant b)) (numbersOf b) (ownOf b) (look b) a z in
+        let both = and-eq-true-iff (ltb j (nOf b)) (ltb c (numbersOf b)) .0 t in
+        let in-senders = ltb-true j (nOf b) (both .0) in
+        let in-numbers = ltb-true c (numbersOf b) (both .1) in
+        record {
+          n = I .n;
+          numbers = I .numbers;
+          own = I .own;
+          season = I .season;
+          cap = I .cap;
+          moisture = I .moisture;
+          conductivity = I .conductivity;
+          sheet = I .sheet;
+          entries = place-all (λ j c x. IsEntry (nOf b) x) (look b) j c (o .entry) (fits .entry) (I .entries);
+          others = place-all (λ j c x. (j ≡ ownOf b → ⊥) → x .published ≡ none) (look b) j c (o .entry) (fits .others) (I .others);
+          past-sender =
+              place-all (λ j c x. nOf b ≤ j → x ≡ fresh) (look b) j c (o .entry) (λ l. absurd (omega arith)) (I .past-sender);
+          past-number =
+              place-all (λ j c x. numbersOf b ≤ c → x ≡ fresh) (look b) j c (o .entry) (λ l. absurd (omega arith)) (I .past-number);
+        }
+
+    accepted-stored : o .answer ≡ 0 → Stored b (entered b j c o .book) j c (o .entry)
+    unfolding entered meant
+    accepted-stored z =
+        let B = withEntry (meant b) j c (o .entry) in
+        let M = written-meant B (is-book z) in
+        record {
+          legal = written-legal B (is-book z);
+          bytes = written-bytes B (is-book z);
+          n = ap (λ (B : Meaning). B .n) M;
+          numbers = ap (λ (B : Meaning). B .numbers) M;
+          own = ap (λ (B : Meaning). B .own) M;
+          season = ap (λ (B : Meaning). B .season) M;
+          sheet = ap (λ (B : Meaning). B .sheet) M;
+          entries = ap (λ (B : Meaning). B .entries) M;
+        }
+
+    refused-is : (o .answer ≡ 0 → ⊥) → o ≡ refused (o .answer) (look b j c)
+    unfolding stepOf meant
+    refused-is = outcome-refused (rulesBy (meant b)) (numbersOf b) (ownOf b) (look b) a
+
+    -- the named entry is as the step leaves it, the others and the header are as before
+    pub called-stored : Stored b (called b a .book) j c (o .entry)
+    unfolding called
+    called-stored = go (eqb (o .answer) 0) refl
+      where
+        go : (t : Bool) → eqb (o .answer) 0 ≡ t → Stored b (cond t (entered b j c o) (refusal (o .answer) b) .book) j c (o .entry)
+        go true e = accepted-stored (eqb-true (o .answer) 0 e)
+        go false e = rw (refused-is (eqb-false (o .answer) 0 e)) (stored-none b j c h bytes)
+
+    -- answer, message and delivery are the step's, a message being the writer's bytes
+    pub called-given : called b a .given ≡ giving (o .answer) (letters (seasonOf b) j c (o .message)) (o .delivery)
+    unfolding called entered
+    called-given = go (eqb (o .answer) 0) refl
+      where
+        gives : Out → Outcome
+        gives x = giving (x .answer) (letters (seasonOf b) j c (x .message)) (x .delivery)
+
+        go : (t : Bool) → eqb (o .answer) 0 ≡ t → cond t (entered b j c o) (refusal (o .answer) b) .given ≡ gives o
+        go true e = refl
+        go false e = sym (ap gives (refused-is (eqb-false (o .answer) 0 e)))
+
+    pub called-meant : meant (called b a .book) ≡ withEntry (meant b) j c (o .entry)
+    unfolding meant
+    called-meant = stored-meant b (called b a .book) j c (o .entry) called-stored
+
+    pub called-refused : (called b a .given .answer ≡ 0 → ⊥) → called b a .book ≡ b
+    unfolding called entered
+    called-refused = go (eqb (o .answer) 0) refl
+      where
+        go : (t : Bool) → eqb (o .answer) 0 ≡ t → (cond t (entered b j c o) (refusal (o .answer) b) .given .answer ≡ 0 → ⊥)
+            → cond t (entered b j c o) (refusal (o .answer) b) .book ≡ b
+        go true e f = absurd (f (eqb-true (o .answer) 0 e))
+        go false e f = refl
+
+    step-fills : Filled (look b j c) (o .entry)
+    unfolding stepOf meant
+    step-fills = outcome-done (rulesBy (meant b)) (numbersOf b) (ownOf b) a (look b) .moves .filled
+
+    pub called-keeps : Kept b (called b a .book)
+    called-keeps =
+        let s = called-stored in
+        record {
+          legal = s .legal;
+          bytes = s .bytes;
+          header = record { n = s .n; numbers = s .numbers; own = s .own; season = s .season; sheet = s .sheet };
+          fills = λ j₂ c₂. rw (s .entries)
+              (place-all (λ j c x. Filled (look b j c) x) (look b) j c (o .entry) step-fills (λ j c. filled-refl (look b j c)) j₂ c₂);
+        }
+
+  -- for every number and declaration, every house number and message
+  pub published-keeps : (c : ℕ) (v : Decl) → Kept b (published b c v .book)
+  unfolding published
+  published-keeps c v = rw h (called-keeps (publishing c v))
+
+  pub received-keeps : (p : ℕ) (message : List ℕ) → Kept b (received b p message .book)
+  unfolding received
+  received-keeps p message = rw h (go (readOf message .five))
+    where
+      in-season : (m : Five) (t : Bool) → Kept b (cond t (called b (asked p m)) (refusal 3 b) .book)
+      in-season m true = called-keeps (asked p m)
+      in-season m false = kept-none
+
+      go : (x : Option Five) → Kept b (heardFrom b p x .book)
+      go none = kept-none
+      go (some m) = in-season m (eqb (m .season) (seasonOf b))
+
+  -- every call on a legal book leaves a legal book with the same header
+  pub answered-keeps : (a : Calling) → Kept b (answered b a .book)
+  unfolding answered
+  answered-keeps (publish c v) = published-keeps c v
+  answered-keeps (receive p message) = received-keeps p message
+  answered-keeps search = kept-none
+
+-- ---- every refusal leaves the lent buffer byte for byte, whatever bytes it is
+
+pub published-refused : (b : List ℕ) → Bytes b → (c : ℕ) (v : Decl) → (published b c v .given .answer ≡ 0 → ⊥) → published b c v .book ≡ b
+unfolding published
+published-refused b bytes c v = go (legal b) refl
+  where
+    go : (t : Bool) → legal b ≡ t → (cond t (called b (publishing c v)) (refusal 1 b) .given .answer ≡ 0 → ⊥)
+        → cond t (called b (publishing c v)) (refusal 1 b) .book ≡ b
+    go true e f = called-refused b e bytes (publishing c v) f
+    go false e f = refl
+
+pub received-refused : (b : List ℕ) → Bytes b → (p : ℕ) (message : List ℕ) → (received b p message .given .answer ≡ 0 → ⊥)
+    → received b p message .book ≡ b
+unfolding received
+received-refused b bytes p message = go (legal b) refl (readOf message .five)
+  where
+    in-season : legal b ≡ true → (m : Five) (t : Bool) → (cond t (called b (asked p m)) (refusal 3 b) .given .answer ≡ 0 → ⊥)
+        → cond t (called b (asked p m)) (refusal 3 b) .book ≡ b
+    in-season e m true f = called-refused b e bytes (asked p m) f
+    in-season e m false f = refl
+
+    go : (t : Bool) → legal b ≡ t → (x : Option Five) → (cond t (heardFrom b p x) (refusal 1 b) .given .answer ≡ 0 → ⊥)
+        → cond t (heardFrom b p x) (refusal 1 b) .book ≡ b
+    go true e none f = refl
+    go true e (some m) f = in-season e m (eqb (m .season) (seasonOf b)) f
+    go false e x f = refl

@@ -1,0 +1,5 @@
+pub mod Mail
+pub mod Calls
+pub mod Steps
+pub mod Season
+pub mod Example
