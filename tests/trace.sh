@@ -46,7 +46,7 @@ if [ -f "$document" ]; then
     rows=$(sed 's/\*\*//g; s/`//g' docs/TRACE.md)
     while IFS= read -r sentence; do
         [ -n "$sentence" ] || continue
-        if ! printf '%s\n' "$rows" | grep -qF -- "$sentence"; then
+        if ! grep -qF -- "$sentence" <<<"$rows"; then
             echo "trace: no row for: $sentence"
             bad=1
         fi

@@ -131,5 +131,25 @@ pub all-hold : All rows
 unfolding countsOf judged sheetBytes bytesOf ofBits toBits le writtenOf readOf opened houses numbersOk lengthOf write received legal meant
     sheetAt isSheet slotAt entrySlot plausible declarationAt wire outcome receive recording takesSend takesEcho takesReady rulesOf tolerated
     quorum amplify deliver same
-all-hold =
-    ((refl, refl), ((refl, refl), ((refl, refl), (refl, (refl, (refl, (refl, (refl, (refl, ((refl, refl), ((refl, (refl, (refl, tt))), ((refl, (refl, (refl, tt))), ((refl, tt), tt)))))))))))))
+all-hold = (
+  (refl, refl),
+  (
+    (refl, refl),
+    (
+      (refl, refl),
+      (
+        refl,
+        (
+          refl,
+          (
+            refl,
+            (
+              refl,
+              (refl, (refl, ((refl, refl), ((refl, (refl, (refl, tt))), ((refl, (refl, (refl, tt))), ((refl, tt), tt)))))),
+            ),
+          ),
+        ),
+      ),
+    ),
+  ),
+)

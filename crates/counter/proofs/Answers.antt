@@ -7,7 +7,8 @@ use mathlib.Core.Option.{Option, none, some}
 use lib.Dec.{ltb}
 use borrow.Author.Tests.{lt-ltb, le-ltb}
 use Rattle.protocol.specs.Entry.{Decl, Kind, SEND, ECHO, READY, Entry, Rules, heard}
-use Rattle.protocol.specs.Steps.{Out, refused, settle, takesSend, takesEcho, takesReady, takes, may, recording, publishes, receiveAnswer, receive, publish}
+use Rattle.protocol.specs.Steps.{Out, refused, settle, takesSend, takesEcho, takesReady, takes, publishes}
+use Rattle.protocol.specs.Steps.{may, recording, receiveAnswer, receive, publish}
 use Rattle.protocol.specs.Book.{Book, publishing, receiving, outcome}
 
 module _ (R : Rules) (S own p : ℕ) (k : Kind) (j c : ℕ) (v : Decl) (E : Book) where

@@ -68,7 +68,8 @@ module _ (b : List ℕ) (h : legal b ≡ true) (p : ℕ) (k : Kind) (j c : ℕ) 
   message-taken = sym (called-accepted b (receiving p k j c v) z ∙ ap (entered b j c) step-takes)
 
 -- a SEND comes from the sender, whatever house number the code passes on
-pub send-taken : (b : List ℕ) → legal b ≡ true → (p kind j c : ℕ) (v : Decl) → kind ≡ 1 → stepOf b (receiving p (kindOf kind) j c v) .answer ≡ 0
+pub send-taken : (b : List ℕ) → legal b ≡ true → (p kind j c : ℕ) (v : Decl) → kind ≡ 1
+    → stepOf b (receiving p (kindOf kind) j c v) .answer ≡ 0
     → taken b j SEND j c v ≡ called b (receiving p (kindOf kind) j c v)
 unfolding taken takesSend
 send-taken b h p kind j c v e z =

@@ -56,7 +56,8 @@ module _ (b : List ℕ) (j c p kind : ℕ) (v : Decl) where
   from-voucher f r er = rw (may-vouch f) er
 
 -- 5
-module _ (b : List ℕ) (s : Sheet) (d : Declaration) (t : Bool) (decl : IsDecl (bytesOf d)) (es : s ≡ sheetAt b sheetPlace) (et : t ≡ plausible s d) where
+module _ (b : List ℕ) (s : Sheet) (d : Declaration) (t : Bool) (decl : IsDecl (bytesOf d))
+    (es : s ≡ sheetAt b sheetPlace) (et : t ≡ plausible s d) where
   pub ok-is : t ≡ okBy (sheetAt b sheetPlace) (bytesOf d)
   ok-is = et ∙ ap (λ (x : Sheet). plausible x d) es ∙ plausible-ok (sheetAt b sheetPlace) d decl
 

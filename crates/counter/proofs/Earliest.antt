@@ -52,7 +52,8 @@ module _ (f : ℕ → Option Place) where
   at-first zero x e = absurd (some-none x (sym e))
   at-first (suc m) x e = go (firstBelow f m) refl (λ h. at-first m x h)
     where
-      go : (o : Option Place) → firstBelow f m ≡ o → (firstBelow f m ≡ some x → (k : ℕ) × (k < m) × (f k ≡ some x) × (firstBelow f k ≡ none))
+      go : (o : Option Place) → firstBelow f m ≡ o
+          → (firstBelow f m ≡ some x → (k : ℕ) × (k < m) × (f k ≡ some x) × (firstBelow f k ≡ none))
           → (k : ℕ) × (k < suc m) × (f k ≡ some x) × (firstBelow f k ≡ none)
       go none h ih = (m, omega arith, rw h at e, h)
       go (some y) h ih = let z = ih (h ∙ (rw h at e)) in (z .0, omega arith, z .2, z .3)

@@ -43,7 +43,8 @@ module _ (b : List ℕ) (j c : ℕ) where
   entered-is o a s =
       λ i. result (giving (o .answer) (letters (seasonOf b) j c (o .message)) (o .delivery)) (stored-bytes b a j c (o .entry) s i)
 
-module _ (b : List ℕ) (h : legal b ≡ true) (bytes : Bytes b) (j c p : ℕ) (has : Has b j c) (hp : p < nOf b) (d : Declaration) (dv : IsDecl (bytesOf d)) where
+module _ (b : List ℕ) (h : legal b ≡ true) (bytes : Bytes b) (j c p : ℕ) (has : Has b j c) (hp : p < nOf b)
+    (d : Declaration) (dv : IsDecl (bytesOf d)) where
   abbrev v : Decl
   v = bytesOf d
 

@@ -26,11 +26,13 @@ module _ (b : List ℕ) (p : ℕ) (message : List ℕ) where
   unfolding received
   received-no-book h r q = rw h (ap (λ (x : Outcome). result x b) q)
 
-  pub received-malformed : legal b ≡ true → malformed ≡ readOf message → (r : Outcome) → r ≡ giving 2 none none → result r b ≡ received b p message
+  pub received-malformed : legal b ≡ true → malformed ≡ readOf message → (r : Outcome) → r ≡ giving 2 none none
+      → result r b ≡ received b p message
   unfolding received
   received-malformed h e r q =
       rw h (ap (λ (x : Outcome). result x b) q ∙ ap (λ (x : Told). heardFrom b p (x .five)) e)
 
-  pub received-message : legal b ≡ true → (m : Five) → gives m ≡ readOf message → (x : Result) → x ≡ heardFrom b p (some m) → x ≡ received b p message
+  pub received-message : legal b ≡ true → (m : Five) → gives m ≡ readOf message → (x : Result) → x ≡ heardFrom b p (some m)
+      → x ≡ received b p message
   unfolding received
   received-message h m e x q = rw h (q ∙ ap (λ (y : Told). heardFrom b p (y .five)) e)

@@ -43,7 +43,8 @@ pub extern "C" fn gm_open(
     season: u32,
     sheet: &[u8],
 ) -> u8
-    ensures { λ r. ⌜ _≡_ {A = Opened} (record { answer = r; book = now (book .exit) }) (opened (now (book .entry)) n s own season (now (sheet .entry))) ⌝ }
+    ensures { λ r. ⌜ _≡_ {A = Opened} (record { answer = r; book = now (book .exit) })
+        (opened (now (book .entry)) n s own season (now (sheet .entry))) ⌝ }
 {
     book::open_book(book, n, s, own, season, sheet)
 }
@@ -91,13 +92,8 @@ pub extern "C" fn gm_write(
 ) -> Written
     ensures { λ r. ⌜ r ≡ writtenOf kind season sender number (declarationAt (now (declaration .entry)) 0) ⌝ }
 {
-    message::write_message(
-        kind,
-        season,
-        sender,
-        number,
-        lot::declaration_at(declaration, 0),
-    )
+    let d = lot::declaration_at(declaration, 0);
+    message::write_message(kind, season, sender, number, d)
 }
 
 // The five things of a message, or answer 2.

@@ -29,7 +29,8 @@ returns c =
     let start = m .before .before .before in
     let a = start .args in
     t .take-send .ensures
-    ∙ send-taken (now (a .book)) (start .pre .0) (a .house) (a .kind) (a .sender) (a .number) (bytesOf (a .d)) (t .before .before .if2 .taken)
+    ∙ send-taken (now (a .book)) (start .pre .0) (a .house) (a .kind) (a .sender) (a .number) (bytesOf (a .d))
+    (t .before .before .if2 .taken)
     (sym (m .check-message .ensures) ∙ t .before .before .before .if1 .taken)
 
 take-voucher-requires : tie.Need-take-voucher-requires
@@ -62,7 +63,8 @@ returns-3 : tie.Need-returns-3
 returns-3 c =
     let m = c .before .before in
     let a = m .before .before .before .args in
-    called-refused (now (a .book)) (receiving (a .house) (kindOf (a .kind)) (a .sender) (a .number) (bytesOf (a .d))) (m .check-message .result) _
+    called-refused (now (a .book)) (receiving (a .house) (kindOf (a .kind)) (a .sender) (a .number) (bytesOf (a .d)))
+    (m .check-message .result) _
     (m .check-message .ensures) (c .before .if1 .left) (c .refuse .ensures)
 
 pub answer-message-spec : {M : Type 1} → statement M

@@ -29,16 +29,19 @@ returns c =
     let s = t .before in
     let start = s .before .before in
     let a = start .args in
-    let ok = ok-is (now (a .book)) (s .sheet-of .result) (a .d) (t .is-plausible .result) (start .pre .2) (s .sheet-of .ensures) (t .is-plausible .ensures) in
+    let ok = ok-is (now (a .book)) (s .sheet-of .result) (a .d) (t .is-plausible .result) (start .pre .2) (s .sheet-of .ensures)
+    (t .is-plausible .ensures) in
     rw (← ok, c .before .before .if1 .taken)
-    (c .check-from .ensures ∙ ap (λ (v : Decl). fromAnswer (now (a .book)) (a .house) (kindOf (a .kind)) (a .sender) (a .number) v) (c .before .bytes-of .ensures))
+    (c .check-from .ensures ∙ ap (λ (v : Decl). fromAnswer (now (a .book)) (a .house) (kindOf (a .kind)) (a .sender) (a .number) v)
+    (c .before .bytes-of .ensures))
 
 returns-2 : tie.Need-returns-2
 returns-2 c =
     let t = c .before in
     let s = t .before in
     let start = s .before .before in
-    let ok = ok-is (now (start .args .book)) (s .sheet-of .result) (start .args .d) (t .is-plausible .result) (start .pre .2) (s .sheet-of .ensures)
+    let ok = ok-is (now (start .args .book)) (s .sheet-of .result) (start .args .d) (t .is-plausible .result) (start .pre .2)
+    (s .sheet-of .ensures)
     (t .is-plausible .ensures) in
     rw (← ok, c .if1 .left)
 

@@ -34,21 +34,24 @@ returns c =
     let n = s .before .before in
     c .check-lot .ensures
     ∙ sym
-    (answer-past _ _ _ _ _ _ (omega (arith, n .n-of .ensures .0, s .before .if1 .taken)) (omega (arith, s .numbers-of .ensures .0, h .before .if2 .taken))
+    (answer-past _ _ _ _ _ _ (omega (arith, n .n-of .ensures .0, s .before .if1 .taken))
+    (omega (arith, s .numbers-of .ensures .0, h .before .if2 .taken))
     (omega (arith, n .n-of .ensures .0, h .if3 .taken)))
 
 returns-2 : tie.Need-returns-2
 returns-2 c =
     let s = c .before .before in
     let n = s .before .before in
-    house-missing _ _ _ _ _ _ (omega (arith, n .n-of .ensures .0, s .before .if1 .taken)) (omega (arith, s .numbers-of .ensures .0, c .before .if2 .taken))
+    house-missing _ _ _ _ _ _ (omega (arith, n .n-of .ensures .0, s .before .if1 .taken))
+    (omega (arith, s .numbers-of .ensures .0, c .before .if2 .taken))
     (omega (arith, n .n-of .ensures .0, c .if3 .left))
 
 returns-3 : tie.Need-returns-3
 returns-3 c =
     let s = c .before in
     let n = s .before .before in
-    number-missing _ _ _ _ _ _ (omega (arith, n .n-of .ensures .0, s .before .if1 .taken)) (omega (arith, s .numbers-of .ensures .0, c .if2 .left))
+    number-missing _ _ _ _ _ _ (omega (arith, n .n-of .ensures .0, s .before .if1 .taken))
+    (omega (arith, s .numbers-of .ensures .0, c .if2 .left))
 
 returns-4 : tie.Need-returns-4
 returns-4 c = sender-missing _ _ _ _ _ _ (omega (arith, c .before .n-of .ensures .0, c .if1 .left))

@@ -35,7 +35,8 @@ is-full-requires c κs =
     let s = c .before .before .before .before .before .before in
     let start = s .before .before in
     let b = now (start .args .book) in
-    let room = published-room b (start .args .number) (start .pre .0) (omega (arith, s .numbers-of .ensures .0, s .numbers-of .ensures .1, c .before .before .before .before .before .if1 .taken)) in
+    let room = published-room b (start .args .number) (start .pre .0)
+    (omega (arith, s .numbers-of .ensures .0, s .numbers-of .ensures .1, c .before .before .before .before .before .if1 .taken)) in
     omega (arith, c .slot-place .ensures .0, ap (λ (x : ℕ). slotPlace x (start .args .number)) (c .before .n-of .ensures .0))
 
 returns : tie.Need-returns
@@ -46,10 +47,14 @@ returns c =
     let k = s .before .before in
     let start = k .before .before in
     let b = now (start .args .book) in
-    let place = f .before .slot-place .ensures .0 ∙ ap (λ (x : ℕ). slotPlace x (start .args .number)) (f .before .before .n-of .ensures .0) in
-    let ok = ok-is b (s .sheet-of .result) (start .args .d) (p .is-plausible .result) (start .pre .1) (s .sheet-of .ensures) (p .is-plausible .ensures) in
-    published-already b (start .pre .0) (start .args .number) (bytesOf (start .args .d)) (omega (arith, k .numbers-of .ensures .0, s .before .if1 .taken))
-    (sym ok ∙ f .before .before .before .if2 .taken) (f .is-full .result) (f .is-full .ensures ∙ ap (λ (x : ℕ). isSome (slotAt b x)) place) (c .if3 .taken)
+    let place = f .before .slot-place .ensures .0 ∙ ap (λ (x : ℕ). slotPlace x (start .args .number))
+    (f .before .before .n-of .ensures .0) in
+    let ok = ok-is b (s .sheet-of .result) (start .args .d) (p .is-plausible .result) (start .pre .1) (s .sheet-of .ensures)
+    (p .is-plausible .ensures) in
+    published-already b (start .pre .0) (start .args .number) (bytesOf (start .args .d))
+    (omega (arith, k .numbers-of .ensures .0, s .before .if1 .taken))
+    (sym ok ∙ f .before .before .before .if2 .taken) (f .is-full .result)
+    (f .is-full .ensures ∙ ap (λ (x : ℕ). isSome (slotAt b x)) place) (c .if3 .taken)
 
 returns-2 : tie.Need-returns-2
 returns-2 c =
@@ -59,10 +64,14 @@ returns-2 c =
     let k = s .before .before in
     let start = k .before .before in
     let b = now (start .args .book) in
-    let place = f .before .slot-place .ensures .0 ∙ ap (λ (x : ℕ). slotPlace x (start .args .number)) (f .before .before .n-of .ensures .0) in
-    let ok = ok-is b (s .sheet-of .result) (start .args .d) (p .is-plausible .result) (start .pre .1) (s .sheet-of .ensures) (p .is-plausible .ensures) in
-    publication-accepted b (start .pre .0) (start .args .number) (bytesOf (start .args .d)) (omega (arith, k .numbers-of .ensures .0, s .before .if1 .taken))
-    (sym ok ∙ f .before .before .before .if2 .taken) (f .is-full .result) (f .is-full .ensures ∙ ap (λ (x : ℕ). isSome (slotAt b x)) place) (c .if3 .left)
+    let place = f .before .slot-place .ensures .0 ∙ ap (λ (x : ℕ). slotPlace x (start .args .number))
+    (f .before .before .n-of .ensures .0) in
+    let ok = ok-is b (s .sheet-of .result) (start .args .d) (p .is-plausible .result) (start .pre .1) (s .sheet-of .ensures)
+    (p .is-plausible .ensures) in
+    publication-accepted b (start .pre .0) (start .args .number) (bytesOf (start .args .d))
+    (omega (arith, k .numbers-of .ensures .0, s .before .if1 .taken))
+    (sym ok ∙ f .before .before .before .if2 .taken) (f .is-full .result)
+    (f .is-full .ensures ∙ ap (λ (x : ℕ). isSome (slotAt b x)) place) (c .if3 .left)
 
 returns-3 : tie.Need-returns-3
 returns-3 c =
@@ -71,8 +80,10 @@ returns-3 c =
     let k = s .before .before in
     let start = k .before .before in
     let b = now (start .args .book) in
-    let ok = ok-is b (s .sheet-of .result) (start .args .d) (p .is-plausible .result) (start .pre .1) (s .sheet-of .ensures) (p .is-plausible .ensures) in
-    lot-not-plausible b (start .pre .0) (start .args .number) (bytesOf (start .args .d)) (omega (arith, k .numbers-of .ensures .0, s .before .if1 .taken))
+    let ok = ok-is b (s .sheet-of .result) (start .args .d) (p .is-plausible .result) (start .pre .1) (s .sheet-of .ensures)
+    (p .is-plausible .ensures) in
+    lot-not-plausible b (start .pre .0) (start .args .number) (bytesOf (start .args .d))
+    (omega (arith, k .numbers-of .ensures .0, s .before .if1 .taken))
     (sym ok ∙ c .if2 .left)
 
 returns-4 : tie.Need-returns-4

@@ -22,7 +22,9 @@ n-of-requires : tie.Need-n-of-requires
 n-of-requires c κs = let h = header-room _ (c .before .before .before .before .before .before .pre .0) in omega arith
 
 slot-place-requires : tie.Need-slot-place-requires
-slot-place-requires c κs = let start = c .before .before .before .before .before .before .before in omega (arith, numbers-small _ (start .pre .0), start .pre .1)
+slot-place-requires c κs =
+    let start = c .before .before .before .before .before .before .before in
+    omega (arith, numbers-small _ (start .pre .0), start .pre .1)
 
 bytes-of-requires : tie.Need-bytes-of-requires
 bytes-of-requires c κs = search needs
@@ -42,7 +44,9 @@ cast-accept : tie.Need-cast-accept
 cast-accept c = search needs
 
 cast-accept-2 : tie.Need-cast-accept-2
-cast-accept-2 c = let start = c .before .before .before .before .before .before .before .before .before .before .before .before .before in omega (arith, numbers-small _ (start .pre .0), start .pre .1)
+cast-accept-2 c =
+    let start = c .before .before .before .before .before .before .before .before .before .before .before .before .before in
+    omega (arith, numbers-small _ (start .pre .0), start .pre .1)
 
 accept-requires : tie.Need-accept-requires
 unfolding isKind
@@ -61,7 +65,8 @@ returns c =
     let own = season .before .before in
     let known = own .before .before in
     let start = known .before in
-    publication-entered (now (start .args .book)) (start .pre .0) (λ i. omega (arith, known .slice-known .given i)) (start .args .number) (start .pre .1)
+    publication-entered (now (start .args .book)) (start .pre .0) (λ i. omega (arith, known .slice-known .given i)) (start .args .number)
+    (start .pre .1)
     (start .args .d) (start .pre .2) (n .n-of .result) (at .slot-place .result) (own .own-of .result) (season .season-of .result)
     (v .bytes-of .result) _ (c .accept .result) (n .n-of .ensures .0) (at .slot-place .ensures .0) (own .own-of .ensures .0)
     (season .season-of .ensures) (v .bytes-of .ensures) (put .put-slot .ensures) (c .accept .ensures)

@@ -41,7 +41,8 @@ returns-2 : tie.Need-returns-2
 returns-2 c =
     let m = c .before .before in
     let a = m .before .before .before .args in
-    called-refused (now (a .book)) (publishing (a .number) (bytesOf (a .d))) (m .check-publication .result) _ (m .check-publication .ensures)
+    called-refused (now (a .book)) (publishing (a .number) (bytesOf (a .d))) (m .check-publication .result) _
+    (m .check-publication .ensures)
     (c .before .if1 .left) (c .refuse .ensures)
 
 pub publish-legal-spec : {M : Type 1} → statement M

@@ -38,8 +38,10 @@ returns c =
     let l = d .before .before .before in
     let known = l .before .before in
     let start = known .before .before in
-    published-lent (now (start .args .book)) (start .args .number) (now (start .args .declaration)) (sym (l .is-legal .ensures) ∙ d .before .before .if1 .taken)
-    (start .pre) (λ i. omega (arith, known .shared-slice-known .given i)) (d .declaration-at .result) (d .declaration-at .ensures) _ (p .publish-legal .ensures)
+    published-lent (now (start .args .book)) (start .args .number) (now (start .args .declaration))
+    (sym (l .is-legal .ensures) ∙ d .before .before .if1 .taken)
+    (start .pre) (λ i. omega (arith, known .shared-slice-known .given i)) (d .declaration-at .result) (d .declaration-at .ensures) _
+    (p .publish-legal .ensures)
 
 refuse-requires : tie.Need-refuse-requires
 refuse-requires c κs = search needs
@@ -51,7 +53,8 @@ returns-2 : tie.Need-returns-2
 returns-2 c =
     let l = c .before .before in
     let a = l .before .before .before .before .args in
-    published-no-book (now (a .book)) (a .number) (now (a .declaration)) (sym (l .is-legal .ensures) ∙ c .before .if1 .left) _ (c .refuse .ensures)
+    published-no-book (now (a .book)) (a .number) (now (a .declaration)) (sym (l .is-legal .ensures) ∙ c .before .if1 .left) _
+    (c .refuse .ensures)
 
 pub publish-slice-spec : {M : Type 1} → statement M
 publish-slice-spec =

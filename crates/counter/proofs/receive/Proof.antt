@@ -69,7 +69,8 @@ returns-3 : tie.Need-returns-3
 returns-3 c =
     let l = c .before .before in
     let a = l .before .before .before .before .args in
-    received-no-book (now (a .book)) (a .house) (now (a .message)) (sym (l .is-legal .ensures) ∙ c .before .if1 .left) _ (c .refuse2 .ensures)
+    received-no-book (now (a .book)) (a .house) (now (a .message)) (sym (l .is-legal .ensures) ∙ c .before .if1 .left) _
+    (c .refuse2 .ensures)
 
 pub receive-spec : {M : Type 1} → statement M
 receive-spec =

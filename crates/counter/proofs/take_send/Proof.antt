@@ -42,7 +42,8 @@ returns c =
     let at = season .before .before in
     let known = at .before .before in
     let start = known .before in
-    send-entered (now (start .args .book)) (start .pre .0 .is-legal) (λ i. omega (arith, known .slice-known .given i)) (start .args .sender) (start .args .number)
+    send-entered (now (start .args .book)) (start .pre .0 .is-legal) (λ i. omega (arith, known .slice-known .given i))
+    (start .args .sender) (start .args .number)
     (start .args .sender) (start .pre .0) (start .pre .0 .sender) (start .args .d) (start .pre .1) (at .entry-at .result)
     (season .season-of .result) _ (c .accept .result) (at .entry-at .ensures) (season .season-of .ensures)
     (put .put-slot .ensures ∙ ap (putSlot (now (start .args .book)) (at .entry-at .result)) (v .bytes-of .ensures)) (c .accept .ensures)

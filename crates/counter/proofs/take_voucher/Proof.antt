@@ -53,7 +53,8 @@ marks-of-requires c κs =
     let n = at .before .before in
     let known = n .before .before in
     let start = known .before in (
-      heard-within (now (start .args .book)) (start .pre .0 .is-legal) (λ i. omega (arith, known .slice-known .given i)) (start .args .sender)
+      heard-within (now (start .args .book)) (start .pre .0 .is-legal) (λ i. omega (arith, known .slice-known .given i))
+          (start .args .sender)
           (start .args .number) (start .args .house) (start .pre .0) (start .pre .1) (start .args .d) (start .pre .2) (start .args .kind)
           (at .entry-at .result) (n .n-of .result) (slot .heard-slot .result) (v .bytes-of .result) _ (n .n-of .ensures .0)
           (at .entry-at .ensures) (v .bytes-of .ensures) (slot .heard-slot .ensures .0) (put .put-slot .ensures),
@@ -110,7 +111,8 @@ returns c =
     let n = at .before .before in
     let known = n .before .before in
     let start = known .before in
-    voucher-taken (now (start .args .book)) (start .pre .0 .is-legal) (λ i. omega (arith, known .slice-known .given i)) (start .args .sender)
+    voucher-taken (now (start .args .book)) (start .pre .0 .is-legal) (λ i. omega (arith, known .slice-known .given i))
+    (start .args .sender)
     (start .args .number) (start .args .house) (start .pre .0) (start .pre .1) (start .args .d) (start .pre .2) (start .args .kind)
     (at .entry-at .result) (n .n-of .result) (slot .heard-slot .result) (v .bytes-of .result) _ (n .n-of .ensures .0)
     (at .entry-at .ensures) (v .bytes-of .ensures) (slot .heard-slot .ensures .0) (put .put-slot .ensures) (season .season-of .result) _ _
