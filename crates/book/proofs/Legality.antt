@@ -31,7 +31,7 @@ module _ (b : List ℕ) (n : ℕ) where
   unfolding slotsOk
   slots-more k = rw (add-one k)
 
-  pub slots-at : (m k : ℕ) → slotsOk b n m ≡ true → k < m → slotOk b (slotPlace n k) ≡ true
+  slots-at : (m k : ℕ) → slotsOk b n m ≡ true → k < m → slotOk b (slotPlace n k) ≡ true
   unfolding slotsOk
   slots-at zero k h l = absurd (omega arith)
   slots-at (suc m) k h l =
@@ -56,7 +56,7 @@ module _ (b : List ℕ) where
   unfolding sized
   both h = and-eq-true-iff (allowed (nOf b) (numbersOf b) (ownOf b)) (eqb (length b) (lengthOf (nOf b) (numbersOf b))) .0 h
 
-  pub sized-long : sized b ≡ true → length b ≡ lengthOf (nOf b) (numbersOf b)
+  sized-long : sized b ≡ true → length b ≡ lengthOf (nOf b) (numbersOf b)
   sized-long h = eqb-true (length b) (lengthOf (nOf b) (numbersOf b)) (both h .1)
 
   pub sized-room : (r : Bool) (k : ℕ) → r ≡ sized b → r ≡ true → k ≤ 28 → k < length b

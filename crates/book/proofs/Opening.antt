@@ -1,6 +1,6 @@
 -- A blank buffer of the book's length is a fresh book; what opening answers.
 -- Assumes nothing.
-use Prim.Native.Nat.{ℕ, _*_, _-_}
+use Prim.Native.Nat.{ℕ, _*_, _-_, _<_}
 use mathlib.Core.Path.{_≡_, sym, _∙_}
 use mathlib.Core.Bool.{Bool, true, false}
 use mathlib.Core.List.{List}
@@ -13,16 +13,16 @@ use Rattle.sheet.proofs.OneForm.{bytes-of-sheet}
 use Rattle.meaning.specs.Layout.{headLength, slotCount, lengthOf}
 use Rattle.meaning.specs.Book.{head, write}
 use Rattle.meaning.specs.Opening.{freshBook, Opened, allowed, opened}
+use Rattle.meaning.proofs.Opening.{allowed-facts, fresh-written}
 use Rattle.book.specs.Parts.{blank}
-use Rattle.book.proofs.Blank.{fresh-bytes}
 
 module _ (b : List ℕ) (n s own season : ℕ) (sheet : List ℕ) where
-  pub blank-fresh : Bytes sheet → isSheet sheet ≡ true → length b ≡ lengthOf n s
+  blank-fresh : own < n → Bytes sheet → isSheet sheet ≡ true → length b ≡ lengthOf n s
       → blank (length b) n s own season sheet ≡ write (freshBook n s own season (sheetAt sheet 0))
   unfolding blank head lengthOf
-  blank-fresh x h l =
+  blank-fresh o x h l =
       let k : length b - headLength n ≡ 21 * slotCount n s = omega arith in
-      rw (k, fresh-bytes n s own season (sheetAt sheet 0), bytes-of-sheet sheet x h)
+      rw (k, fresh-written n s own season (sheetAt sheet 0) o, bytes-of-sheet sheet x h)
 
   -- the answers of `open_book`, by what its parts answered
   module _ (r : Bool) (e : r ≡ allowed n s own) where
@@ -44,5 +44,5 @@ module _ (b : List ℕ) (n s own season : ℕ) (sheet : List ℕ) where
             → _≡_ {A = Opened} (record { answer = 0; book = d }) (opened b n s own season sheet)
         unfolding opened
         opens-0 d y h w =
-            let z = w ∙ blank-fresh y (sym q ∙ u) (h ∙ k) in
+            let z = w ∙ blank-fresh (allowed-facts n s own (sym e ∙ t) .2) y (sym q ∙ u) (h ∙ k) in
             rw (← e, t, ← q, u, eq-eqb _ _ (h ∙ k)) (λ i. record { answer = 0; book = z i })

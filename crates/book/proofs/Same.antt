@@ -21,10 +21,10 @@ use Rattle.meaning.specs.Slot.{part}
 use Rattle.book.specs.Parts.{twoWordsAt}
 
 -- the test, for both outcomes
-pub same-of : (v w : List ℕ) → v ≡ w → same v w ≡ true
+same-of : (v w : List ℕ) → v ≡ w → same v w ≡ true
 same-of v w e = rw e (true-of (same w w) (same-refl w))
 
-pub same-not : (v w : List ℕ) → (v ≡ w → ⊥) → same v w ≡ false
+same-not : (v w : List ℕ) → (v ≡ w → ⊥) → same v w ≡ false
 same-not v w f = go (same v w) refl
   where
     go : (t : Bool) → same v w ≡ t → t ≡ false
@@ -33,13 +33,13 @@ same-not v w f = go (same v w) refl
 
 -- the part of a list from `at` on
 module _ (b : List ℕ) (at size : ℕ) (h : at + size ≤ length b) where
-  pub part-length : length (part b at size) ≡ size
+  part-length : length (part b at size) ≡ size
   part-length = simp (length-take, length-drop) (omega arith)
 
-  pub part-at : (i k : ℕ) → i < size → at + i ≡ k → getD (part b at size) i 0 ≡ getD b k 0
+  part-at : (i k : ℕ) → i < size → at + i ≡ k → getD (part b at size) i 0 ≡ getD b k 0
   part-at i k l e = rw (getD-take, getD-drop, e)
 
-  pub part-bytes : Bytes b → Bytes (part b at size)
+  part-bytes : Bytes b → Bytes (part b at size)
   part-bytes x i = elim (decLt i size) [
     | yes l ↦ omega (arith, part-at i (at + i) l refl, x (at + i))
     | no g ↦ omega (arith, List·getD-eq-default (part b at size) 0 {n = i} (omega (arith, part-length)))

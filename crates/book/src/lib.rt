@@ -264,6 +264,7 @@ fn is_allowed(n: u32, s: u32, own: u32) -> bool
 }
 
 // Answer 0 and a book's length, or answer 9 and 0.
+#[repr(C)]
 pub struct LengthAnswer {
     pub answer: u8,
     pub length: u64,

@@ -22,6 +22,7 @@ use lot::Declaration;
 use message::Reading;
 
 // What publishing and receiving give. An absent message or declaration is zeros.
+#[repr(C)]
 pub struct Outcome {
     pub answer: u8,
     pub gives: bool,
@@ -31,6 +32,7 @@ pub struct Outcome {
 }
 
 // What the waiting search gives: an entry, or a plain none (zeros), or answer 1.
+#[repr(C)]
 pub struct Waiting {
     pub answer: u8,
     pub waits: bool,

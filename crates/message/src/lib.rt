@@ -22,6 +22,7 @@ pub enum Reading {
 }
 
 // What writing gives: answer 0 and the message, or answer 2 and zeros.
+#[repr(C)]
 pub struct Written {
     pub answer: u8,
     pub message: [u8; 36],

@@ -1,0 +1,24 @@
+-- What the exported reader hands back: answer 2 and zeros, or answer 0 and the five things, the declaration as its 20 bytes.
+-- Assumes nothing.
+use Prim.Native.Nat.{ℕ}
+use mathlib.Core.Option.{Option, none, some}
+use lib.ListN.{replicate}
+use Rattle.lot.specs.Declaration.{bytesOf}
+use Rattle.message.specs.Message.{Five, Told}
+use Rattle.house.specs.declared.ReadAnswer.{ReadAnswer}
+
+abbrev pub readBack : ℕ → Option Five → ReadAnswer
+readBack answer none =
+    record { answer = answer; kind = 0; season = 0; sender = 0; number = 0; declaration = replicate 20 0 }
+readBack answer (some m) =
+    record {
+      answer = answer;
+      kind = m .kind;
+      season = m .season;
+      sender = m .sender;
+      number = m .number;
+      declaration = bytesOf (m .declaration);
+    }
+
+abbrev pub readAnswer : Told → ReadAnswer
+readAnswer t = readBack (t .answer) (t .five)

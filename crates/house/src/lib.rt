@@ -1,0 +1,144 @@
+// The eight calls that a house links, as they are exported to C and Rust.
+ghost use mathlib.Core.Path.{_≡_};
+ghost use Rattle.lot.specs.Declaration.{declarationAt};
+ghost use Rattle.sheet.specs.Kept.{judged};
+ghost use Rattle.message.specs.Message.{readOf, writtenOf};
+ghost use Rattle.meaning.specs.Opening.{Opened, opened, Length, lengthAnswer};
+ghost use Rattle.counter.specs.Call.{result, published, received};
+ghost use Rattle.counter.specs.Search.{waiting};
+ghost use Rattle.house.specs.Read.{readAnswer};
+use book::LengthAnswer;
+use counter::Outcome;
+use counter::Waiting;
+use lot::Declaration;
+use message::Reading;
+use message::Written;
+
+// What reading gives: answer 0 and the five things, or answer 2 and zeros.
+#[repr(C)]
+pub struct ReadAnswer {
+    pub answer: u8,
+    pub kind: u8,
+    pub season: u32,
+    pub sender: u8,
+    pub number: u8,
+    pub declaration: [u8; 20],
+}
+
+// The length of a book, or answer 9.
+#[no_mangle]
+pub extern "C" fn gm_length(n: u32, s: u32) -> LengthAnswer
+    ensures { λ r. ⌜ _≡_ {A = Length} (record { answer = r .answer; length = r .length }) (lengthAnswer n s) ⌝ }
+{
+    book::length_of(n, s)
+}
+
+// Opening: 9, 10, 11; else the whole buffer is written.
+#[no_mangle]
+pub extern "C" fn gm_open(
+    book: &mut [u8],
+    n: u32,
+    s: u32,
+    own: u32,
+    season: u32,
+    sheet: &[u8],
+) -> u8
+    ensures { λ r. ⌜ _≡_ {A = Opened} (record { answer = r; book = now (book .exit) }) (opened (now (book .entry)) n s own season (now (sheet .entry))) ⌝ }
+{
+    book::open_book(book, n, s, own, season, sheet)
+}
+
+// Publishing: 1, 4, 5, 8.
+#[no_mangle]
+pub extern "C" fn gm_publish(book: &mut [u8], number: u32, declaration: &[u8; 20]) -> Outcome
+    ensures { λ r. ⌜ result r (now (book .exit)) ≡ published (now (book .entry)) number (now (declaration .entry)) ⌝ }
+{
+    counter::publish(book, number, declaration)
+}
+
+// Receiving: 1 to 7 in order.
+#[no_mangle]
+pub extern "C" fn gm_receive(book: &mut [u8], house: u32, message: &[u8]) -> Outcome
+    ensures { λ r. ⌜ result r (now (book .exit)) ≡ received (now (book .entry)) house (now (message .entry)) ⌝ }
+{
+    counter::receive(book, house, message)
+}
+
+// The earliest waiting entry, or a plain none, or answer 1.
+#[no_mangle]
+pub extern "C" fn gm_waiting(book: &[u8]) -> Waiting
+    ensures { λ r. ⌜ r ≡ waiting (now (book .entry)) ⌝ }
+{
+    counter::earliest_waiting(book)
+}
+
+// Judging: 10, then 5, else 0.
+#[no_mangle]
+pub extern "C" fn gm_judge(sheet: &[u8], declaration: &[u8; 20]) -> u8
+    ensures { λ r. ⌜ r ≡ judged (now (sheet .entry)) (now (declaration .entry)) ⌝ }
+{
+    sheet::judge(sheet, declaration)
+}
+
+// The 36 bytes of a message, or answer 2.
+#[no_mangle]
+pub extern "C" fn gm_write(
+    kind: u8,
+    season: u32,
+    sender: u8,
+    number: u8,
+    declaration: &[u8; 20],
+) -> Written
+    ensures { λ r. ⌜ r ≡ writtenOf kind season sender number (declarationAt (now (declaration .entry)) 0) ⌝ }
+{
+    message::write_message(
+        kind,
+        season,
+        sender,
+        number,
+        lot::declaration_at(declaration, 0),
+    )
+}
+
+// The five things of a message, or answer 2.
+#[no_mangle]
+pub extern "C" fn gm_read(message: &[u8]) -> ReadAnswer
+    ensures { λ r. ⌜ r ≡ readAnswer (readOf (now (message .entry))) ⌝ }
+{
+    let Reading::Message {
+        kind,
+        season,
+        sender,
+        number,
+        lot,
+        colonies,
+        kilograms,
+        moisture,
+        conductivity,
+    } = message::read_message(message)
+    else {
+        return ReadAnswer {
+            answer: 2,
+            kind: 0,
+            season: 0,
+            sender: 0,
+            number: 0,
+            declaration: [0; 20],
+        };
+    };
+    let declaration = lot::bytes_of(Declaration {
+        lot,
+        colonies,
+        kilograms,
+        moisture,
+        conductivity,
+    });
+    ReadAnswer {
+        answer: 0,
+        kind,
+        season,
+        sender,
+        number,
+        declaration,
+    }
+}
