@@ -2,12 +2,13 @@
 -- byte, and an accepted call's bytes mean the book with the named entry as the step leaves it.
 -- Assumes nothing.
 use Prim.Native.Nat.{ℕ, _≤_}
-use mathlib.Core.Path.{_≡_, refl, sym, ap}
+use mathlib.Core.Path.{_≡_, refl, sym, ap, ap₂, _∙_}
 use mathlib.Core.Bool.{Bool, true, false, cond, and-eq-true-iff}
 use mathlib.Core.List.{List}
 use mathlib.Core.Option.{Option, none, some}
 use native.Mathlib.Omega.{arith}
 use lib.Dec.{T, eqb, ltb}
+use lib.ListN.{length}
 use borrow.Author.Tests.{eqb-true, eqb-false, ltb-true}
 use Rattle.words.specs.Words.{Bytes}
 use Rattle.lot.specs.declared.Sheet.{Sheet}
@@ -23,15 +24,17 @@ use Rattle.protocol.specs.Claims.{Filled}
 use Rattle.protocol.proofs.Basics.{true-of, and-l}
 use Rattle.protocol.proofs.Moves.{filled-refl}
 use Rattle.protocol.proofs.Calls.{outcome-done}
+use Rattle.meaning.specs.Layout.{lengthOf}
 use Rattle.meaning.specs.Book.{Meaning, nOf, numbersOf, ownOf, seasonOf, sheetPlace, look, meant}
 use Rattle.meaning.specs.Legal.{legal, IsDecl, IsEntry, IsBook}
+use Rattle.meaning.proofs.Legality.{legal-facts}
 use Rattle.meaning.proofs.Entries.{same-entry}
 use Rattle.meaning.proofs.Stores.{Stored, stored-none}
 use Rattle.meaning.proofs.OneForm.{stored-meant}
 use Rattle.meaning.proofs.Meant.{meant-is-book}
 use Rattle.meaning.proofs.Every.{written-legal, written-bytes, written-meant}
 use Rattle.counter.specs.declared.Outcome.{Outcome}
-use Rattle.counter.specs.Call.{giving, refusal, okBy, isDecl, rulesBy, letters, withEntry, entered, stepOf, called}
+use Rattle.counter.specs.Call.{Result, giving, refusal, okBy, isDecl, rulesBy, letters, withEntry, entered, stepOf, called}
 use Rattle.counter.specs.Call.{published, asked, heardFrom, received}
 use Rattle.counter.specs.Calls.{Calling, publish, receive, search, answered}
 use Rattle.counter.proofs.Fits.{is-decl, Fits, outcome-fits, outcome-in-book, outcome-refused}
@@ -74,6 +77,10 @@ module _ (b : List ℕ) (h : legal b ≡ true) (bytes : Bytes b) where
         header = record { n = refl; numbers = refl; own = refl; season = refl; sheet = refl };
         fills = λ j c. filled-refl (look b j c);
       }
+
+  pub kept-length : (a : List ℕ) → Kept b a → length a ≡ length b
+  kept-length a k =
+      legal-facts a (k .legal) .long ∙ ap₂ lengthOf (k .header .n) (k .header .numbers) ∙ sym (legal-facts b h .long)
 
   module _ (a : Call) where
     -- the entry that the call names, and the step on it
@@ -164,15 +171,6 @@ module _ (b : List ℕ) (h : legal b ≡ true) (bytes : Bytes b) where
     unfolding meant
     called-meant = stored-meant b (called b a .book) j c (o .entry) called-stored
 
-    pub called-refused : (called b a .given .answer ≡ 0 → ⊥) → called b a .book ≡ b
-    unfolding called entered
-    called-refused = go (eqb (o .answer) 0) refl
-      where
-        go : (t : Bool) → eqb (o .answer) 0 ≡ t → (cond t (entered b j c o) (refusal (o .answer) b) .given .answer ≡ 0 → ⊥)
-            → cond t (entered b j c o) (refusal (o .answer) b) .book ≡ b
-        go true e f = absurd (f (eqb-true (o .answer) 0 e))
-        go false e f = refl
-
     step-fills : Filled (look b j c) (o .entry)
     unfolding stepOf meant
     step-fills = outcome-done (rulesBy (meant b)) (numbersOf b) (ownOf b) a (look b) .moves .filled
@@ -214,27 +212,39 @@ module _ (b : List ℕ) (h : legal b ≡ true) (bytes : Bytes b) where
 
 -- ---- every refusal leaves the lent buffer byte for byte, whatever bytes it is
 
-pub published-refused : (b : List ℕ) → Bytes b → (c : ℕ) (v : Decl) → (published b c v .given .answer ≡ 0 → ⊥) → published b c v .book ≡ b
-unfolding published
-published-refused b bytes c v = go (legal b) refl
-  where
-    go : (t : Bool) → legal b ≡ t → (cond t (called b (publishing c v)) (refusal 1 b) .given .answer ≡ 0 → ⊥)
-        → cond t (called b (publishing c v)) (refusal 1 b) .book ≡ b
-    go true e f = called-refused b e bytes (publishing c v) f
-    go false e f = refl
+module _ (b : List ℕ) where
+  abbrev Leaves : Result → Type 0
+  Leaves r = (r .given .answer ≡ 0 → ⊥) → r .book ≡ b
 
-pub received-refused : (b : List ℕ) → Bytes b → (p : ℕ) (message : List ℕ) → (received b p message .given .answer ≡ 0 → ⊥)
-    → received b p message .book ≡ b
-unfolding received
-received-refused b bytes p message = go (legal b) refl (readOf message .five)
-  where
-    in-season : legal b ≡ true → (m : Five) (t : Bool) → (cond t (called b (asked p m)) (refusal 3 b) .given .answer ≡ 0 → ⊥)
-        → cond t (called b (asked p m)) (refusal 3 b) .book ≡ b
-    in-season e m true f = called-refused b e bytes (asked p m) f
-    in-season e m false f = refl
+  pub called-refused : (a : Call) → (called b a .given .answer ≡ 0 → ⊥) → called b a .book ≡ b
+  unfolding called entered
+  called-refused a = go (eqb (o .answer) 0) refl
+    where
+      o : Out
+      o = stepOf b a
 
-    go : (t : Bool) → legal b ≡ t → (x : Option Five) → (cond t (heardFrom b p x) (refusal 1 b) .given .answer ≡ 0 → ⊥)
-        → cond t (heardFrom b p x) (refusal 1 b) .book ≡ b
-    go true e none f = refl
-    go true e (some m) f = in-season e m (eqb (m .season) (seasonOf b)) f
-    go false e x f = refl
+      go : (t : Bool) → eqb (o .answer) 0 ≡ t
+          → Leaves (cond t (entered b (senderOf (ownOf b) a) (numberOf a) o) (refusal (o .answer) b))
+      go true e f = absurd (f (eqb-true (o .answer) 0 e))
+      go false e f = refl
+
+  pub published-refused : (c : ℕ) (v : Decl) → (published b c v .given .answer ≡ 0 → ⊥) → published b c v .book ≡ b
+  unfolding published
+  published-refused c v = go (legal b)
+    where
+      go : (t : Bool) → Leaves (cond t (called b (publishing c v)) (refusal 1 b))
+      go true f = called-refused (publishing c v) f
+      go false f = refl
+
+  pub received-refused : (p : ℕ) (message : List ℕ) → (received b p message .given .answer ≡ 0 → ⊥) → received b p message .book ≡ b
+  unfolding received
+  received-refused p message = go (legal b) (readOf message .five)
+    where
+      in-season : (m : Five) (t : Bool) → Leaves (cond t (called b (asked p m)) (refusal 3 b))
+      in-season m true f = called-refused (asked p m) f
+      in-season m false f = refl
+
+      go : (t : Bool) (x : Option Five) → Leaves (cond t (heardFrom b p x) (refusal 1 b))
+      go true none f = refl
+      go true (some m) f = in-season m (eqb (m .season) (seasonOf b)) f
+      go false x f = refl
