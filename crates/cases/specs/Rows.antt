@@ -26,7 +26,8 @@ use Rattle.meaning.specs.Layout.{numbersOk, lengthOf, entrySlot}
 use Rattle.meaning.specs.Book.{meant, write}
 use Rattle.meaning.specs.Legal.{legal}
 use Rattle.meaning.specs.Opening.{opened}
-use Rattle.counter.specs.Call.{giving, received}
+use Rattle.entry.specs.Entered.{giving}
+use Rattle.counter.specs.Call.{received}
 
 -- one call: a message of the kind from the house, on the entry of sender 0 and number 0; the message given, by its kind, and the delivery
 pub record Heard : Type 0 where

@@ -19,7 +19,8 @@ use Rattle.meaning.specs.Book.{numbersOf, ownOf, seasonOf, look, meant}
 use Rattle.meaning.specs.Legal.{legal}
 use Rattle.meaning.proofs.Entries.{same-entry}
 use Rattle.meaning.proofs.Stores.{stored-entry}
-use Rattle.counter.specs.Call.{Result, giving, refusal, okBy, rulesBy, letters, stepOf, called, published, asked, heardFrom, received}
+use Rattle.entry.specs.Entered.{Result, giving, okBy, rulesBy, letters}
+use Rattle.counter.specs.Call.{refusal, stepOf, called, published, asked, heardFrom, received}
 use Rattle.counter.proofs.Keeps.{SameHeader, called-stored, called-given}
 
 -- an entry other than that of sender j and number c

@@ -14,9 +14,10 @@ use Rattle.protocol.specs.Book.{Call, receiving, senderOf, numberOf}
 use Rattle.protocol.specs.Thresholds.{rulesOf}
 use Rattle.meaning.specs.Book.{nOf, numbersOf, ownOf, look, meant}
 use Rattle.meaning.specs.Legal.{legal}
-use Rattle.counter.specs.declared.Outcome.{Outcome}
-use Rattle.counter.specs.Call.{Result, result, giving, refusal, kindOf, rulesBy, entered, taken, stepOf, called}
-use Rattle.counter.specs.Places.{Has}
+use Rattle.entry.specs.declared.Outcome.{Outcome}
+use Rattle.entry.specs.Entered.{Result, result, giving, kindOf, rulesBy, entered, taken}
+use Rattle.counter.specs.Call.{refusal, stepOf, called}
+use Rattle.entry.specs.Places.{Has}
 use Rattle.counter.proofs.Answers.{answer-is, accepted-is}
 use Rattle.counter.proofs.Checking.{sender-missing, number-missing, house-missing}
 

@@ -20,23 +20,17 @@ use Rattle.meaning.specs.Slot.{slotAt}
 use Rattle.meaning.specs.Book.{nOf, numbersOf, ownOf, look, meant, sheetPlace}
 use Rattle.meaning.specs.Legal.{IsDecl}
 use Rattle.meaning.specs.Layout.{heardSlot}
-use Rattle.counter.specs.Call.{kindOf, okBy, rulesBy, fromAnswer, lotAnswer, stepOf}
-use Rattle.counter.specs.Places.{placeIn, Has, Begins}
+use Rattle.entry.specs.Entered.{kindOf, okBy, rulesBy}
+use Rattle.counter.specs.Call.{fromAnswer, lotAnswer, stepOf}
+use Rattle.entry.specs.Places.{placeIn, Has, Begins}
 use Rattle.counter.proofs.Answers.{no-sender, no-number, no-house, answer-is}
 use Rattle.counter.proofs.Declarations.{plausible-ok}
-use Rattle.counter.proofs.Marking.{kind-echo, kind-ready}
-use Rattle.counter.proofs.Seen.{from-base, heard-seen}
+use Rattle.entry.proofs.Marking.{kind-echo, kind-ready}
+use Rattle.entry.proofs.Seen.{from-base, heard-seen}
 
 module _ (b : List ℕ) (j c p kind : ℕ) (v : Decl) where
   abbrev k : Kind
   k = kindOf kind
-
-  pub slot-checked : Has b j c → p < nOf b → (base n slot r : ℕ) → Begins b j c base → n ≡ nOf b → slot ≡ heardSlot n k p
-      → r ≡ recording (slotAt b (base + 21 * slot)) v → r ≡ recording (heard k p (look b j c)) v
-  slot-checked has hp base n slot r at en es er =
-      let i = es ∙ ap (λ (x : ℕ). heardSlot x k p) en in
-      let place = ap (λ (x : ℕ). base + 21 * x) i ∙ from-base b j c has base (at .is) (heardSlot (nOf b) k p) in
-      er ∙ ap (λ (o : Option Decl). recording o v) (ap (slotAt b) place ∙ sym (heard-seen b j c has k p hp))
 
   -- 6
   pub from-sender : kind ≡ 1 → p ≡ j → (r : ℕ) → r ≡ recording (heard k p (look b j c)) v → r ≡ fromAnswer b p k j c v

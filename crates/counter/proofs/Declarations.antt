@@ -18,7 +18,7 @@ use Rattle.message.specs.Message.{Five, Told, wellFormed, fiveAt, gives, malfor
 use Rattle.message.proofs.RoundTrip.{fiveOr}
 use Rattle.protocol.specs.Entry.{Decl}
 use Rattle.meaning.specs.Legal.{IsDecl}
-use Rattle.counter.specs.Call.{allBytes, isDecl, okBy}
+use Rattle.entry.specs.Entered.{allBytes, isDecl, okBy}
 
 all-bytes : (v : List ℕ) → Bytes v → allBytes v ≡ true
 all-bytes [] b = refl

@@ -16,7 +16,7 @@ use Rattle.protocol.specs.Steps.{publishes, takesSend, takesEcho, takesReady, t
 use Rattle.protocol.specs.Book.{Book, Call, publishing, receiving, inBook, senderOf, numberOf, onEntry, outcome}
 use Rattle.protocol.proofs.Basics.{must-zero, upd-all, upd-other}
 use Rattle.meaning.specs.Legal.{IsDecl, IsSlot, IsEntry}
-use Rattle.counter.specs.Call.{allBytes, isDecl}
+use Rattle.entry.specs.Entered.{allBytes, isDecl}
 
 -- ---- 20 bytes
 

@@ -33,8 +33,9 @@ use Rattle.meaning.proofs.Stores.{Stored, stored-none}
 use Rattle.meaning.proofs.OneForm.{stored-meant}
 use Rattle.meaning.proofs.Meant.{meant-is-book}
 use Rattle.meaning.proofs.Every.{written-legal, written-bytes, written-meant}
-use Rattle.counter.specs.declared.Outcome.{Outcome}
-use Rattle.counter.specs.Call.{Result, giving, refusal, okBy, isDecl, rulesBy, letters, withEntry, entered, stepOf, called}
+use Rattle.entry.specs.declared.Outcome.{Outcome}
+use Rattle.entry.specs.Entered.{Result, giving, okBy, isDecl, rulesBy, letters, withEntry, entered}
+use Rattle.counter.specs.Call.{refusal, stepOf, called}
 use Rattle.counter.specs.Call.{published, asked, heardFrom, received}
 use Rattle.counter.specs.Calls.{Calling, publish, receive, search, answered}
 use Rattle.counter.proofs.Fits.{is-decl, Fits, outcome-fits, outcome-in-book, outcome-refused}

@@ -1,11 +1,5 @@
 pub mod Earliest
 pub mod Answers
-pub mod Seen
-pub mod Fullness
-pub mod Taken
-pub mod Room
-pub mod Marking
-pub mod Entered
 pub mod Declarations
 pub mod Checking
 pub mod Carried

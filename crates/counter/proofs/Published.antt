@@ -22,15 +22,16 @@ use Rattle.meaning.specs.Layout.{slotPlace}
 use Rattle.meaning.specs.Book.{nOf, numbersOf, ownOf, seasonOf, look, meant, sheetPlace}
 use Rattle.meaning.specs.Legal.{legal, IsDecl}
 use Rattle.meaning.proofs.Stores.{stored-published}
-use Rattle.counter.specs.declared.Outcome.{Outcome}
-use Rattle.counter.specs.Call.{Result, result, giving, wired, okBy, rulesBy, entered, publishedAt, stepOf, called, published}
-use Rattle.counter.specs.Places.{Has}
+use Rattle.entry.specs.declared.Outcome.{Outcome}
+use Rattle.entry.specs.Entered.{Result, result, giving, wired, okBy, rulesBy, entered, publishedAt}
+use Rattle.counter.specs.Call.{stepOf, called, published}
+use Rattle.entry.specs.Places.{Has}
 use Rattle.counter.proofs.Answers.{no-own-number, not-publishable, already-published, publishes-it}
 use Rattle.counter.proofs.Carried.{called-accepted}
-use Rattle.counter.proofs.Entered.{letter-wired, entered-is}
-use Rattle.counter.proofs.Fullness.{full-holds, empty-holds}
-use Rattle.counter.proofs.Room.{own-below}
-use Rattle.counter.proofs.Seen.{published-seen}
+use Rattle.entry.proofs.Entered.{letter-wired, entered-is}
+use Rattle.entry.proofs.Fullness.{full-holds, empty-holds}
+use Rattle.entry.proofs.Room.{own-below}
+use Rattle.entry.proofs.Seen.{published-seen}
 
 module _ (b : List ℕ) (h : legal b ≡ true) (c : ℕ) (v : Decl) where
   -- 4
@@ -90,20 +91,6 @@ module _ (b : List ℕ) (h : legal b ≡ true) (c : ℕ) (v : Decl) where
     pub publication-called : publishedAt b c v ≡ called b (publishing c v)
     unfolding publishedAt
     publication-called = sym (called-accepted b (publishing c v) z ∙ ap (entered b (ownOf b) c) step-is)
-
--- the own entry marked, and its SEND given
-pub publication-entered : (b : List ℕ) → legal b ≡ true → Bytes b → (c : ℕ) → c < numbersOf b → (d : Declaration) → IsDecl (bytesOf d)
-    → (n at own season : ℕ) (w b₁ : List ℕ) (o : Outcome) → n ≡ nOf b → at ≡ slotPlace n c → own ≡ ownOf b → season ≡ seasonOf b
-    → w ≡ bytesOf d → b₁ ≡ putSlot b at w → o ≡ giving 0 (given true (wired 1 season own c d)) (given false (bytesOf d))
-    → result o b₁ ≡ publishedAt b c (bytesOf d)
-unfolding publishedAt publishes
-publication-entered b h bytes c l d dv n at own season w b₁ o en ea eo es ew e₁ eq =
-    let v = bytesOf d in
-    let s = stored-published b h bytes v dv (nOf b) (numbersOf b) refl refl (ownOf b) c refl l in
-    let m = ap₂ (λ (x y : ℕ). given true (wired 1 x y c d)) es eo ∙ letter-wired (seasonOf b) (ownOf b) c true SEND d in
-    let place = ea ∙ ap (λ (x : ℕ). slotPlace x c) en in
-    ap₂ result (eq ∙ ap (λ (x : Option (List ℕ)). giving 0 x none) m) (e₁ ∙ (λ i. putSlot b (place i) (ew i)))
-    ∙ entered-is b (ownOf b) c (publishes v (look b (ownOf b) c)) (putSlot b (slotPlace (nOf b) c) v) s
 
 -- 1, or past it
 module _ (b : List ℕ) (c : ℕ) (v : List ℕ) where

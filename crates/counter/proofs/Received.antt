@@ -9,8 +9,9 @@ use borrow.Author.Tests.{eq-eqb, ne-eqb}
 use Rattle.message.specs.Message.{Five, Told, gives, malformed, readOf}
 use Rattle.meaning.specs.Book.{seasonOf}
 use Rattle.meaning.specs.Legal.{legal}
-use Rattle.counter.specs.declared.Outcome.{Outcome}
-use Rattle.counter.specs.Call.{Result, result, giving, asked, called, heardFrom, received}
+use Rattle.entry.specs.declared.Outcome.{Outcome}
+use Rattle.entry.specs.Entered.{Result, result, giving}
+use Rattle.counter.specs.Call.{asked, called, heardFrom, received}
 
 -- 3, or past it
 module _ (b : List ℕ) (p : ℕ) (m : Five) (season : ℕ) (e : season ≡ seasonOf b) where

@@ -16,11 +16,11 @@ use Rattle.meaning.proofs.Legality.{legal-facts}
 use Rattle.card.proofs.Wall.{houses-byte}
 use Rattle.counter.specs.declared.Found.{Found}
 use Rattle.counter.specs.declared.Found.the-variants.{At, Nothing}
-use Rattle.counter.specs.Places.{placeIn, Has, Begins}
+use Rattle.entry.specs.Places.{placeIn, Has, Begins}
 use Rattle.counter.specs.Search.{waits, Place, orElse, firstBelow, waitingAt, earliest, placeOf, found, waiting, Earliest}
 use Rattle.counter.proofs.Earliest.{first-at, waiting-some, waiting-none, earliest-exactly}
-use Rattle.counter.proofs.Room.{numbers-small}
-use Rattle.counter.proofs.Seen.{from-base, heard-seen, delivered-seen}
+use Rattle.entry.proofs.Room.{numbers-small}
+use Rattle.entry.proofs.Seen.{from-base, heard-seen, delivered-seen}
 
 not-some : (o : Option Decl) → not (isSome o) ≡ isNone o
 not-some none = refl

@@ -7,7 +7,7 @@ use borrow.Fn.World.{ArgsD, ResD}
 use borrow.Fn.Kinds.{endedOf}
 use denote.Triple.Clauses.{AtExit}
 use denote.Ref.{now}
-use Rattle.counter.specs.Call.{Result}
+use Rattle.entry.specs.Entered.{Result}
 use Rattle.counter.proofs.publish
 use Rattle.counter.proofs.publish.Reads as publish-reads
 use Rattle.counter.proofs.publish.Kinds as publish-kinds

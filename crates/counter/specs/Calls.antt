@@ -3,9 +3,10 @@
 use Prim.Native.Nat.{ℕ}
 use mathlib.Core.List.{List}
 use Rattle.protocol.specs.Entry.{Decl}
-use Rattle.counter.specs.declared.Outcome.{Outcome}
+use Rattle.entry.specs.declared.Outcome.{Outcome}
 use Rattle.counter.specs.declared.Waiting.{Waiting}
-use Rattle.counter.specs.Call.{Result, published, received}
+use Rattle.entry.specs.Entered.{Result}
+use Rattle.counter.specs.Call.{published, received}
 use Rattle.counter.specs.Search.{waiting}
 
 pub data Calling : Type 0 where

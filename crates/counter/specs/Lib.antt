@@ -1,4 +1,3 @@
 pub mod Call
-pub mod Places
 pub mod Search
 pub mod Calls

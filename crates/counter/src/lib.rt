@@ -1,35 +1,20 @@
 // The counter: publishing, receiving, and the earliest waiting entry.
 ghost use mathlib.Core.Path.{_≡_};
-ghost use mathlib.Core.Bool.{true, cond, _&&_};
-ghost use mathlib.Core.Option.{none, some};
-ghost use Prim.Native.Nat.{_+_, _*_, _<_, _≤_};
-ghost use lib.Dec.{leb};
+ghost use mathlib.Core.Bool.{true};
+ghost use mathlib.Core.Option.{some};
+ghost use Prim.Native.Nat.{_<_};
 ghost use lib.ListN.{length};
 ghost use Rattle.lot.specs.Declaration.{bytesOf};
-ghost use Rattle.message.specs.Message.{isKind};
-ghost use Rattle.protocol.specs.Entry.{SEND, heard, isNone};
-ghost use Rattle.protocol.specs.Steps.{given, recording};
 ghost use Rattle.protocol.specs.Book.{publishing, receiving};
-ghost use Rattle.meaning.specs.Slot.{slotAt, putSlot};
-ghost use Rattle.meaning.specs.Book.{nOf, numbersOf, look};
+ghost use Rattle.meaning.specs.Book.{nOf, numbersOf};
 ghost use Rattle.meaning.specs.Legal.{legal, IsDecl};
-ghost use Rattle.counter.specs.Call.{result, giving, orZeros, kindOf, wired, taken, fromAnswer, lotAnswer, stepOf};
-ghost use Rattle.counter.specs.Call.{fiveOf, called, heardFrom, received, publishedAt, published};
-ghost use Rattle.meaning.specs.Layout.{heardSlot};
-ghost use Rattle.counter.specs.Places.{Has, Within, Begins, marksAt};
+ghost use Rattle.entry.specs.Entered.{result, kindOf, fiveOf};
+ghost use Rattle.entry.specs.Places.{Has};
+ghost use Rattle.counter.specs.Call.{fromAnswer, lotAnswer, stepOf, called, heardFrom, received, published};
 ghost use Rattle.counter.specs.Search.{waits, earliest, placeOf, waiting};
+use entry::Outcome;
 use lot::Declaration;
 use message::Reading;
-
-// What publishing and receiving give. An absent message or declaration is zeros.
-#[repr(C)]
-pub struct Outcome {
-    pub answer: u8,
-    pub gives: bool,
-    pub message: [u8; 36],
-    pub delivers: bool,
-    pub declaration: [u8; 20],
-}
 
 // What the waiting search gives: an entry, or a plain none (zeros), or answer 1.
 #[repr(C)]
@@ -40,204 +25,6 @@ pub struct Waiting {
     pub sender: u8,
 }
 
-// Whether a message's vouchers now make a READY, and deliver.
-pub struct Marks {
-    pub gives: bool,
-    pub delivers: bool,
-}
-
-// ---- what a call gives
-
-// A refusal: the number, no message, no delivery.
-fn refuse(answer: u8) -> Outcome
-    ensures { λ r. ⌜ r ≡ giving answer none none ⌝ }
-{
-    Outcome {
-        answer,
-        gives: false,
-        message: [0; 36],
-        delivers: false,
-        declaration: [0; 20],
-    }
-}
-
-// The writer's bytes, or none.
-fn letter_of(gives: bool, kind: u8, season: u32, sender: u8, number: u8, d: Declaration) -> [u8; 36]
-    requires { ⌜ isKind kind ≡ true ⌝ }
-    ensures { λ r. ⌜ r ≡ orZeros 36 (given gives (wired kind season sender number d)) ⌝ }
-{
-    if gives {
-        let written = message::write_message(kind, season, sender, number, d);
-        return written.message;
-    }
-    [0; 36]
-}
-
-// The declaration's bytes, or none.
-fn lot_of(delivers: bool, d: Declaration) -> [u8; 20]
-    ensures { λ r. ⌜ r ≡ orZeros 20 (given delivers (bytesOf d)) ⌝ }
-{
-    if delivers {
-        return lot::bytes_of(d);
-    }
-    [0; 20]
-}
-
-// An acceptance: a message of the kind or none, the declaration delivered or not.
-fn accept(
-    gives: bool,
-    kind: u8,
-    season: u32,
-    sender: u8,
-    number: u8,
-    delivers: bool,
-    d: Declaration,
-) -> Outcome
-    requires { ⌜ isKind kind ≡ true ⌝ }
-    ensures { λ r. ⌜ r ≡ giving 0 (given gives (wired kind season sender number d)) (given delivers (bytesOf d)) ⌝ }
-{
-    let message = letter_of(gives, kind, season, sender, number, d);
-    let declaration = lot_of(delivers, d);
-    Outcome {
-        answer: 0,
-        gives,
-        message,
-        delivers,
-        declaration,
-    }
-}
-
-// ---- slots
-
-// The slot of an entry that a message of the kind from a house is recorded in.
-fn heard_slot(kind: u8, n: usize, house: usize) -> usize
-    requires { ⌜ (n < 256) × (house < 256) ⌝ }
-    ensures { λ r. ⌜ (r ≡ heardSlot n (kindOf kind) house) × (r ≤ 1 + n + house) ⌝ }
-{
-    if kind == 1 {
-        return 0;
-    }
-    if kind == 2 {
-        return 1 + house;
-    }
-    1 + n + house
-}
-
-// 0, or 7: this kind was already accepted from this house on this entry.
-fn record_answer(book: &[u8], at: usize, d: [u8; 20]) -> u8
-    requires { ⌜ at < length (now book) ⌝ }
-    ensures { λ r. ⌜ r ≡ recording (slotAt (now (book .entry)) at) d ⌝ }
-{
-    if book::is_full(book, at) {
-        return 7;
-    }
-    0
-}
-
-// Nothing is marked at `at` yet, and the vouchers are enough.
-fn is_reached(book: &[u8], at: usize, least: usize, votes: usize) -> bool
-    requires { ⌜ at < length (now book) ⌝ }
-    ensures { λ r. ⌜ r ≡ isNone (slotAt (now (book .entry)) at) && leb least votes ⌝ }
-{
-    if book::is_full(book, at) {
-        return false;
-    }
-    least <= votes
-}
-
-// Fills the slot at `at` where `yes` says so.
-fn mark(book: &mut [u8], at: usize, yes: bool, d: [u8; 20])
-    requires { ⌜ at + 21 ≤ length (now book) ⌝ }
-    ensures { λ _. ⌜ now (book .exit) ≡ cond yes (putSlot (now (book .entry)) at d) (now (book .entry)) ⌝ }
-{
-    if yes {
-        book::put_slot(book, at, d);
-    }
-}
-
-// ---- an accepted message
-
-// Where the entry of a sender and a number begins.
-fn entry_at(book: &[u8], sender: usize, number: usize) -> usize
-    requires { ⌜ Has (now book) sender number ⌝ }
-    ensures { λ r. ⌜ Begins (now (book .entry)) sender number r ⌝ }
-{
-    let n = book::n_of(book);
-    let s = book::numbers_of(book);
-    book::slot_place(n, book::entry_slot(n, s, number, sender, 0))
-}
-
-// Whether the vouchers of this kind for d now make a READY, and deliver.
-fn marks_of(book: &[u8], kind: u8, base: usize, d: [u8; 20]) -> Marks
-    requires { ⌜ Within (now book) base × (kind ≡ 1 → ⊥) ⌝ }
-    ensures { λ r. ⌜ r ≡ marksAt (now (book .entry)) (kindOf kind) base d ⌝ }
-{
-    let n = book::n_of(book);
-    let counts = card::counts_of(n);
-    let sent = base + 21 * (1 + 2 * n);
-    let votes = book::count_same(book, base + 21 * heard_slot(kind, n, 0), n, d);
-    if kind == 2 {
-        return Marks {
-            gives: is_reached(book, sent, counts.quorum, votes),
-            delivers: false,
-        };
-    }
-    Marks {
-        gives: is_reached(book, sent, counts.amplify, votes),
-        delivers: is_reached(book, sent + 21, counts.deliver, votes),
-    }
-}
-
-// An accepted SEND is recorded and gives an ECHO of it.
-fn take_send(book: &mut [u8], sender: u8, number: u8, d: Declaration) -> Outcome
-    requires { ⌜ Has (now book) sender number × IsDecl (bytesOf d) ⌝ }
-    ensures { λ r. ⌜ result r (now (book .exit)) ≡ taken (now (book .entry)) sender SEND sender number (bytesOf d) ⌝ }
-{
-    let base = entry_at(book, sender as usize, number as usize);
-    let season = book::season_of(book);
-    book::put_slot(book, base, lot::bytes_of(d));
-    accept(true, 2, season, sender, number, false, d)
-}
-
-// An accepted ECHO or READY is recorded, and marked as its vouchers now say.
-fn take_voucher(
-    book: &mut [u8],
-    house: usize,
-    kind: u8,
-    sender: u8,
-    number: u8,
-    d: Declaration,
-) -> Outcome
-    requires { ⌜ Has (now book) sender number × (house < nOf (now book)) × IsDecl (bytesOf d) × (kind ≡ 1 → ⊥) ⌝ }
-    ensures { λ r. ⌜ result r (now (book .exit)) ≡ taken (now (book .entry)) house (kindOf kind) sender number (bytesOf d) ⌝ }
-{
-    let n = book::n_of(book);
-    let base = entry_at(book, sender as usize, number as usize);
-    let season = book::season_of(book);
-    let v = lot::bytes_of(d);
-    book::put_slot(book, base + 21 * heard_slot(kind, n, house), v);
-    let m = marks_of(book, kind, base, v);
-    let sent = base + 21 * (1 + 2 * n);
-    mark(book, sent, m.gives, v);
-    mark(book, sent + 21, m.delivers, v);
-    accept(m.gives, 3, season, sender, number, m.delivers, d)
-}
-
-// ---- the order of answers
-
-// 7, or 0.
-fn check_slot(book: &[u8], house: usize, kind: u8, sender: usize, number: usize, v: [u8; 20]) -> u8
-    requires { ⌜ Has (now book) sender number × (house < nOf (now book)) ⌝ }
-    ensures { λ r. ⌜ r ≡ recording (heard (kindOf kind) house (look (now (book .entry)) sender number)) v ⌝ }
-{
-    let base = entry_at(book, sender, number);
-    record_answer(
-        book,
-        base + 21 * heard_slot(kind, book::n_of(book), house),
-        v,
-    )
-}
-
 // 6, then 7, else 0.
 fn check_from(book: &[u8], house: usize, kind: u8, sender: usize, number: usize, v: [u8; 20]) -> u8
     requires { ⌜ Has (now book) sender number × (house < nOf (now book)) ⌝ }
@@ -245,11 +32,11 @@ fn check_from(book: &[u8], house: usize, kind: u8, sender: usize, number: usize,
 {
     if kind == 1 {
         if house == sender {
-            return check_slot(book, house, kind, sender, number, v);
+            return entry::check_slot(book, house, kind, sender, number, v);
         }
         return 6;
     }
-    check_slot(book, house, kind, sender, number, v)
+    entry::check_slot(book, house, kind, sender, number, v)
 }
 
 // 5, then 6, then 7, else 0.
@@ -310,11 +97,11 @@ fn answer_message(
     let answer = check_message(book, house, kind, sender, number, d);
     if answer == 0 {
         if kind == 1 {
-            return take_send(book, sender, number, d);
+            return entry::take_send(book, sender, number, d);
         }
-        return take_voucher(book, house as usize, kind, sender, number, d);
+        return entry::take_voucher(book, house as usize, kind, sender, number, d);
     }
-    refuse(answer)
+    entry::refuse(answer)
 }
 
 // A well-formed message on a legal book, the step behind the legality test: 3 to 7 in order.
@@ -333,7 +120,7 @@ fn hear(
     if season == book::season_of(book) {
         return answer_message(book, house, kind, sender, number, d);
     }
-    refuse(3)
+    entry::refuse(3)
 }
 
 // Receiving: 1 to 7 in order.
@@ -353,7 +140,7 @@ pub fn receive(book: &mut [u8], house: u32, message: &[u8]) -> Outcome
             conductivity,
         } = message::read_message(message)
         else {
-            return refuse(2);
+            return entry::refuse(2);
         };
         let d = Declaration {
             lot,
@@ -364,7 +151,7 @@ pub fn receive(book: &mut [u8], house: u32, message: &[u8]) -> Outcome
         };
         return hear(book, house, kind, season, sender, number, d);
     }
-    refuse(1)
+    entry::refuse(1)
 }
 
 // ---- publishing
@@ -386,18 +173,6 @@ fn check_publication(book: &[u8], number: u32, d: Declaration) -> u8
     4
 }
 
-// Publishing marks the own entry and gives a SEND.
-fn enter_publication(book: &mut [u8], number: u32, d: Declaration) -> Outcome
-    requires { ⌜ (legal (now book) ≡ true) × (number < numbersOf (now book)) × IsDecl (bytesOf d) ⌝ }
-    ensures { λ r. ⌜ result r (now (book .exit)) ≡ publishedAt (now (book .entry)) number (bytesOf d) ⌝ }
-{
-    let own = book::own_of(book);
-    let season = book::season_of(book);
-    let at = book::slot_place(book::n_of(book), number as usize);
-    book::put_slot(book, at, lot::bytes_of(d));
-    accept(true, 1, season, own as u8, number as u8, false, d)
-}
-
 // A publication on a legal book: 4, 5, 8.
 fn publish_legal(book: &mut [u8], number: u32, d: Declaration) -> Outcome
     requires { ⌜ (legal (now book) ≡ true) × IsDecl (bytesOf d) ⌝ }
@@ -405,9 +180,9 @@ fn publish_legal(book: &mut [u8], number: u32, d: Declaration) -> Outcome
 {
     let answer = check_publication(book, number, d);
     if answer == 0 {
-        return enter_publication(book, number, d);
+        return entry::enter_publication(book, number, d);
     }
-    refuse(answer)
+    entry::refuse(answer)
 }
 
 // Publishing a slice of 20 bytes.
@@ -418,7 +193,7 @@ fn publish_slice(book: &mut [u8], number: u32, declaration: &[u8]) -> Outcome
     if book::is_legal(book) {
         return publish_legal(book, number, lot::declaration_at(declaration, 0));
     }
-    refuse(1)
+    entry::refuse(1)
 }
 
 // Publishing: 1, 4, 5, 8.
@@ -441,7 +216,7 @@ fn waits_at(book: &[u8], sender: usize, number: usize) -> bool
     requires { ⌜ Has (now book) sender number ⌝ }
     ensures { λ r. ⌜ r ≡ waits (now (book .entry)) sender number ⌝ }
 {
-    let base = entry_at(book, sender, number);
+    let base = entry::entry_at(book, sender, number);
     if book::is_full(book, base) {
         return !book::is_full(book, base + 21 * (2 + 2 * book::n_of(book)));
     }

@@ -8,7 +8,7 @@ use borrow.Fn.Kinds.{endedOf}
 use denote.Triple.Clauses.{AtExit}
 use denote.Ref.{now}
 use Rattle.meaning.specs.Opening.{Opened}
-use Rattle.counter.specs.Call.{Result}
+use Rattle.entry.specs.Entered.{Result}
 use Rattle.house.proofs.gm_length
 use Rattle.house.proofs.gm_length.Reads as length-reads
 use Rattle.house.proofs.gm_length.Kinds as length-kinds

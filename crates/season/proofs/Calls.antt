@@ -23,8 +23,9 @@ use Rattle.protocol.specs.Run as protocol
 use Rattle.protocol.specs.Thresholds.{rulesOf, wallOf}
 use Rattle.protocol.proofs.Basics.{upd-all}
 use Rattle.protocol.proofs.Calls.{outcome-done}
-use Rattle.counter.specs.declared.Outcome.{Outcome}
-use Rattle.counter.specs.Call.{refusal, giving, okBy, rulesBy, letters, stepOf, called}
+use Rattle.entry.specs.declared.Outcome.{Outcome}
+use Rattle.entry.specs.Entered.{giving, okBy, rulesBy, letters}
+use Rattle.counter.specs.Call.{refusal, stepOf, called}
 use Rattle.counter.proofs.Keeps.{plausible-decl, called-stored, called-given}
 use Rattle.season.specs.Run.{Houses, isHonest, Copy, Noted, Given, State, messageOf, deliveryOf, publicationOf, Named, nothing, entry}
 use Rattle.season.specs.Run.{noting, posted, ended}

@@ -19,7 +19,8 @@ use Rattle.protocol.specs.Steps.{Say, say}
 use Rattle.protocol.specs.Book.{receiving}
 use Rattle.protocol.specs.Run.{at, changeAt, tally}
 use Rattle.protocol.specs.Run as protocol
-use Rattle.counter.specs.Call.{kindNumber, kindOf, fiveOf, asked, letter, letters}
+use Rattle.entry.specs.Entered.{kindNumber, kindOf, fiveOf, letter, letters}
+use Rattle.counter.specs.Call.{asked}
 use Rattle.season.specs.Run.{Copy, toAll, posted, consumedCopy, onIt, isReady}
 
 kind-known : (k : Kind) → message.isKind (kindNumber k) ≡ true

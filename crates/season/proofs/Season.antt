@@ -22,7 +22,8 @@ use Rattle.protocol.specs.Thresholds.{rulesOf, wallOf, AtMost}
 use Rattle.protocol.proofs.Basics.{true-of, and-r}
 use Rattle.protocol.proofs.Invariant.{entry-refl}
 use Rattle.protocol.proofs.Season as protocol-season
-use Rattle.counter.specs.Call.{Result, isDecl, okBy, received}
+use Rattle.entry.specs.Entered.{Result, isDecl, okBy}
+use Rattle.counter.specs.Call.{received}
 use Rattle.season.specs.Run.{Houses, isHonest, Open, Copy, Noted, State, Step, start, run, onIt, isReady, copiesOf, copies, readies}
 use Rattle.season.specs.Run.{isBetween, between, consumedBetween, Drained}
 use Rattle.season.specs.Claims.{Delivered, Published, Bounded, Agreed, Complete, Few, Season, Claims}

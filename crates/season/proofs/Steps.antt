@@ -19,7 +19,8 @@ use Rattle.protocol.specs.Run.{at, changeAt}
 use Rattle.protocol.specs.Run as protocol
 use Rattle.protocol.specs.Thresholds.{wallOf, rulesOf}
 use Rattle.protocol.proofs.Basics.{T-of, and-l}
-use Rattle.counter.specs.Call.{called, published, asked, kindOf, heardFrom, received}
+use Rattle.entry.specs.Entered.{kindOf}
+use Rattle.counter.specs.Call.{called, published, asked, heardFrom, received}
 use Rattle.season.specs.Run.{Houses, isHonest, isWrong, Open, opens, Copy, Given, State, start, namedBy, entry, ended, publicationOf}
 use Rattle.season.specs.Run.{Step, publish, consume, wrong, publishes, receives, consumes, consumedCopy, step, run}
 use Rattle.season.proofs.Mail.{asked-is, Says, Mails, Both, mails-at, mails-consumed}

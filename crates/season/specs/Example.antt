@@ -10,7 +10,7 @@ use lib.ListN.{replicate}
 use Rattle.lot.specs.Declaration.{declarationAt}
 use Rattle.meaning.specs.Layout.{lengthOf, echoSlot, readySlot}
 use Rattle.meaning.specs.Book.{slotIn}
-use Rattle.counter.specs.Call.{wired}
+use Rattle.entry.specs.Entered.{wired}
 use Rattle.season.specs.Run.{Houses, Open, State, Step, publish, consume, wrong, start, run, copiesOf, copies, between, isBetween}
 use Rattle.season.specs.Run.{Drained}
 use Rattle.season.specs.Claims.{Few, Delivered, Published}

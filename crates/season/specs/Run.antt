@@ -14,8 +14,9 @@ use Rattle.message.specs.Message.{Five, readOf}
 use Rattle.meaning.specs.Opening.{Opened, opened}
 use Rattle.protocol.specs.Entry.{upd}
 use Rattle.protocol.specs.Run.{at, changeAt, noted, tally}
-use Rattle.counter.specs.declared.Outcome.{Outcome}
-use Rattle.counter.specs.Call.{Result, published, received}
+use Rattle.entry.specs.declared.Outcome.{Outcome}
+use Rattle.entry.specs.Entered.{Result}
+use Rattle.counter.specs.Call.{published, received}
 
 -- ---- the houses
 

@@ -1,7 +1,7 @@
 -- `counter::answer_message` meets its contract.
 -- Assumes nothing.
 use Rattle.counter.proofs.Carried.{called-refused, message-has, message-from, message-taken, send-taken}
-use Rattle.counter.specs.Call.{kindOf}
+use Rattle.entry.specs.Entered.{kindOf}
 use Rattle.protocol.specs.Book.{receiving}
 use Rattle.lot.specs.Declaration.{bytesOf}
 use denote.Ref.{now}

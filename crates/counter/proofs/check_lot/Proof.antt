@@ -1,8 +1,9 @@
 -- `counter::check_lot` meets its contract.
 -- Assumes nothing.
 use Rattle.counter.proofs.Checking.{ok-is}
-use Rattle.counter.proofs.Room.{header-room}
-use Rattle.counter.specs.Call.{kindOf, fromAnswer}
+use Rattle.entry.proofs.Room.{header-room}
+use Rattle.entry.specs.Entered.{kindOf}
+use Rattle.counter.specs.Call.{fromAnswer}
 use Rattle.protocol.specs.Entry.{Decl}
 use native.Mathlib.Omega.{arith}
 use denote.Ref.{now}

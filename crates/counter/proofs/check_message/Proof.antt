@@ -1,7 +1,7 @@
 -- `counter::check_message` meets its contract.
 -- Assumes nothing.
 use Rattle.counter.proofs.Checking.{sender-missing, number-missing, house-missing, answer-past}
-use Rattle.counter.proofs.Room.{header-room}
+use Rattle.entry.proofs.Room.{header-room}
 use native.Mathlib.Omega.{arith}
 use mathlib.Core.Path.{_≡_, sym, _∙_}
 use Rattle.counter.proofs.check_message.Statement.{statement}

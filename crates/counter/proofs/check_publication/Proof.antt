@@ -2,7 +2,7 @@
 -- Assumes nothing.
 use Rattle.counter.proofs.Published.{own-number-missing, lot-not-plausible, published-already, publication-accepted}
 use Rattle.counter.proofs.Checking.{ok-is}
-use Rattle.counter.proofs.Room.{header-room, published-room}
+use Rattle.entry.proofs.Room.{header-room, published-room}
 use Rattle.lot.specs.Declaration.{bytesOf}
 use Rattle.meaning.specs.Layout.{slotPlace}
 use Rattle.meaning.specs.Slot.{slotAt}

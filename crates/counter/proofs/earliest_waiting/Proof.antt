@@ -1,7 +1,7 @@
 -- `counter::earliest_waiting` meets its contract.
 -- Assumes nothing.
 use Rattle.counter.proofs.Searching.{found-small, waiting-found, waiting-no-book}
-use Rattle.counter.proofs.Room.{header-room}
+use Rattle.entry.proofs.Room.{header-room}
 use Rattle.counter.specs.Search.{placeOf}
 use native.Mathlib.Omega.{arith}
 use denote.Ref.{now}

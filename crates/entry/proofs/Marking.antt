@@ -1,0 +1,61 @@
+-- The marks that the code finds are those that the vouchers now make.
+-- Assumes nothing.
+use Prim.Native.Nat.{ℕ, _+_, _*_}
+use mathlib.Core.Path.{_≡_, sym, ap, _∙_}
+use mathlib.Core.Bool.{Bool, false, _&&_}
+use mathlib.Core.List.{List}
+use native.Mathlib.Decide.{ℕ-discrete}
+use native.Mathlib.Omega.{arith}
+use lib.Dec.{leb}
+use borrow.Author.Tests.{eq-eqb, ne-eqb}
+use Rattle.card.specs.declared.Counts.{Counts}
+use Rattle.card.specs.Card.{countsOf}
+use Rattle.card.specs.Count.{count}
+use Rattle.protocol.specs.Entry.{Decl, Kind, SEND, ECHO, READY, isNone, holds}
+use Rattle.meaning.specs.Slot.{slotAt}
+use Rattle.meaning.specs.Book.{nOf}
+use Rattle.meaning.specs.Layout.{heardSlot}
+use Rattle.entry.specs.declared.Marks.{Marks}
+use Rattle.entry.specs.Entered.{kindNumber, kindOf}
+use Rattle.entry.specs.Places.{votesFrom, marksAt}
+
+pub kind-echo : (kind : ℕ) → (kind ≡ 1 → ⊥) → kind ≡ 2 → kindOf kind ≡ ECHO
+kind-echo kind f e = rw (ne-eqb _ _ f, eq-eqb _ _ e)
+
+pub kind-ready : (kind : ℕ) → (kind ≡ 1 → ⊥) → (kind ≡ 2 → ⊥) → kindOf kind ≡ READY
+kind-ready kind f g = rw (ne-eqb _ _ f, ne-eqb _ _ g)
+
+pub not-send : (kind : ℕ) → (kind ≡ 1 → ⊥) → kindOf kind ≡ SEND → ⊥
+not-send kind f e = go (ℕ-discrete kind 2)
+  where
+    go : Dec (kind ≡ 2) → ⊥
+    go (yes g) = let z : _≡_ {A = ℕ} 2 1 = ap kindNumber (sym (kind-echo kind f g) ∙ e) in omega arith
+    go (no g) = let z : _≡_ {A = ℕ} 3 1 = ap kindNumber (sym (kind-ready kind f g) ∙ e) in omega arith
+
+-- what the code has found: n, the counts, the row's first slot, the vouchers in the row
+module _ (b : List ℕ) (kind base n : ℕ) (d : Decl) (counts : Counts) (row votes : ℕ) (en : n ≡ nOf b) (ec : counts ≡ countsOf n)
+    (er : row ≡ heardSlot n (kindOf kind) 0) (ev : votes ≡ count (λ p. holds (slotAt b (base + 21 * row + 21 * p)) d) n) where
+  votes-found : (k : Kind) → kindOf kind ≡ k → votes ≡ count (λ p. holds (slotAt b (base + 21 * heardSlot n k 0 + 21 * p)) d) n
+  votes-found k e =
+      ev ∙ ap (λ (x : ℕ). count (λ p. holds (slotAt b (base + 21 * x + 21 * p)) d) n) (er ∙ ap (λ (x : Kind). heardSlot n x 0) e)
+
+  pub echo-marks : (kind ≡ 1 → ⊥) → kind ≡ 2 → (r : Bool)
+      → r ≡ isNone (slotAt b (base + 21 * (1 + 2 * n))) && leb (counts .quorum) votes
+      → record { gives = r; delivers = false } ≡ marksAt b (kindOf kind) base d
+  unfolding marksAt
+  echo-marks f e r er′ =
+      let v = votes-found ECHO (kind-echo kind f e) in
+      let q = er′ ∙ (λ i. isNone (slotAt b (base + 21 * (1 + 2 * n))) && leb (ec i .quorum) (v i)) in
+      rw (kind-echo kind f e, ← en) (λ i. record { gives = q i; delivers = false })
+
+  pub ready-marks : (kind ≡ 1 → ⊥) → (kind ≡ 2 → ⊥) → (r t : Bool)
+      → r ≡ isNone (slotAt b (base + 21 * (1 + 2 * n))) && leb (counts .amplify) votes
+      → t ≡ isNone (slotAt b (base + 21 * (1 + 2 * n) + 21)) && leb (counts .deliver) votes
+      → record { gives = r; delivers = t } ≡ marksAt b (kindOf kind) base d
+  unfolding marksAt
+  ready-marks f g r t er′ et =
+      let v = votes-found READY (kind-ready kind f g) in
+      let z : base + 21 * (1 + 2 * n) + 21 ≡ base + 21 * (2 + 2 * n) = omega arith in
+      let q = er′ ∙ (λ i. isNone (slotAt b (base + 21 * (1 + 2 * n))) && leb (ec i .amplify) (v i)) in
+      let w = et ∙ (λ i. isNone (slotAt b (z i)) && leb (ec i .deliver) (v i)) in
+      rw (kind-ready kind f g, ← en) (λ i. record { gives = q i; delivers = w i })
