@@ -26,13 +26,19 @@ const VOUCHER: usize = 1;
 pub enum Call {
     Open,
     Publish,
-    Receive { house: u32, message: Vec<u8> },
+    Receive {
+        house: u32,
+        message: Vec<u8>,
+    },
     Waiting,
     Judge,
     Write,
     Read(Vec<u8>),
     /// Not a call of the reference: a plain pass over the book's bytes, beside the library's legality scan.
-    Pass { house: u32, message: Vec<u8> },
+    Pass {
+        house: u32,
+        message: Vec<u8>,
+    },
 }
 
 pub struct Case {
@@ -51,9 +57,18 @@ struct Filling {
     full: fn(usize) -> bool,
 }
 
-const EMPTY: Filling = Filling { name: "empty", full: |_| false };
-const HALF: Filling = Filling { name: "half full", full: |slot| slot % 2 == 1 };
-const FULL: Filling = Filling { name: "full", full: |_| true };
+const EMPTY: Filling = Filling {
+    name: "empty",
+    full: |_| false,
+};
+const HALF: Filling = Filling {
+    name: "half full",
+    full: |slot| slot % 2 == 1,
+};
+const FULL: Filling = Filling {
+    name: "full",
+    full: |_| true,
+};
 
 /// The slots of an entry: SEND, ECHOes, READYs, READY sent, delivered.
 fn first_slot(n: u32) -> usize {
@@ -75,7 +90,10 @@ fn heard_slot(n: u32, kind: Kind) -> usize {
 fn book(n: u32, filling: Filling, but: &[usize]) -> Vec<u8> {
     let (_, length) = reference::length(n, NUMBERS);
     let mut book = vec![0; length];
-    assert_eq!(reference::open(&mut book, n, NUMBERS, OWN, SEASON, &SHEET), 0);
+    assert_eq!(
+        reference::open(&mut book, n, NUMBERS, OWN, SEASON, &SHEET),
+        0
+    );
     for (k, slot) in book[29..].chunks_exact_mut(21).enumerate() {
         if (filling.full)(k) && !but.contains(&k) {
             slot[0] = 1;
@@ -92,7 +110,10 @@ fn message(kind: Kind) -> Vec<u8> {
 
 fn receive(kind: Kind) -> Call {
     let house = if kind == Kind::Send { SENDER } else { VOUCHER };
-    Call::Receive { house: house as u32, message: message(kind) }
+    Call::Receive {
+        house: house as u32,
+        message: message(kind),
+    }
 }
 
 /// A message that the reader refuses by its length alone, so that legality is nearly all of the call.
@@ -103,19 +124,44 @@ fn cut() -> Vec<u8> {
 }
 
 fn case(what: &str, n: u32, holds: &'static str, book: Vec<u8>, call: Call, answer: u8) -> Case {
-    Case { what: what.to_string(), n, holds, book, call, answer }
+    Case {
+        what: what.to_string(),
+        n,
+        holds,
+        book,
+        call,
+        answer,
+    }
 }
 
 fn accepted(n: u32, rows: &mut Vec<Case>) {
-    for (kind, name) in [(Kind::Send, "SEND"), (Kind::Echo, "ECHO"), (Kind::Ready, "READY")] {
+    for (kind, name) in [
+        (Kind::Send, "SEND"),
+        (Kind::Echo, "ECHO"),
+        (Kind::Ready, "READY"),
+    ] {
         for filling in [EMPTY, HALF, FULL] {
             let book = book(n, filling, &[heard_slot(n, kind)]);
-            rows.push(case(&format!("receive {name}"), n, filling.name, book, receive(kind), 0));
+            rows.push(case(
+                &format!("receive {name}"),
+                n,
+                filling.name,
+                book,
+                receive(kind),
+                0,
+            ));
         }
     }
     let sent = first_slot(n) + 1 + 2 * n as usize;
     let due = book(n, FULL, &[heard_slot(n, Kind::Ready), sent, sent + 1]);
-    rows.push(case("receive READY, both marks due", n, FULL.name, due, receive(Kind::Ready), 0));
+    rows.push(case(
+        "receive READY, both marks due",
+        n,
+        FULL.name,
+        due,
+        receive(Kind::Ready),
+        0,
+    ));
     for filling in [EMPTY, HALF, FULL] {
         let book = book(n, filling, &[NUMBER]);
         rows.push(case("publish", n, filling.name, book, Call::Publish, 0));
@@ -125,22 +171,67 @@ fn accepted(n: u32, rows: &mut Vec<Case>) {
 fn refused(n: u32, rows: &mut Vec<Case>) {
     let mut short = book(n, HALF, &[]);
     short.pop();
-    rows.push(case("refusal 1, a byte short", n, HALF.name, short, receive(Kind::Echo), 1));
+    rows.push(case(
+        "refusal 1, a byte short",
+        n,
+        HALF.name,
+        short,
+        receive(Kind::Echo),
+        1,
+    ));
     let mut bad = book(n, HALF, &[]);
     let last = bad.len() - 21;
     bad[last] = 2;
-    rows.push(case("refusal 1, last slot bad", n, HALF.name, bad, receive(Kind::Echo), 1));
+    rows.push(case(
+        "refusal 1, last slot bad",
+        n,
+        HALF.name,
+        bad,
+        receive(Kind::Echo),
+        1,
+    ));
     for filling in [EMPTY, HALF, FULL] {
-        let call = Call::Receive { house: VOUCHER as u32, message: cut() };
-        rows.push(case("refusal 2", n, filling.name, book(n, filling, &[]), call, 2));
+        let call = Call::Receive {
+            house: VOUCHER as u32,
+            message: cut(),
+        };
+        rows.push(case(
+            "refusal 2",
+            n,
+            filling.name,
+            book(n, filling, &[]),
+            call,
+            2,
+        ));
     }
-    rows.push(case("refusal 7", n, FULL.name, book(n, FULL, &[]), receive(Kind::Echo), 7));
+    rows.push(case(
+        "refusal 7",
+        n,
+        FULL.name,
+        book(n, FULL, &[]),
+        receive(Kind::Echo),
+        7,
+    ));
 }
 
 fn others(n: u32, rows: &mut Vec<Case>) {
-    rows.push(case("open", n, FULL.name, book(n, FULL, &[]), Call::Open, 0));
+    rows.push(case(
+        "open",
+        n,
+        FULL.name,
+        book(n, FULL, &[]),
+        Call::Open,
+        0,
+    ));
     for filling in [EMPTY, HALF, FULL] {
-        rows.push(case("waiting, none", n, filling.name, book(n, filling, &[]), Call::Waiting, 0));
+        rows.push(case(
+            "waiting, none",
+            n,
+            filling.name,
+            book(n, filling, &[]),
+            Call::Waiting,
+            0,
+        ));
     }
 }
 
@@ -159,12 +250,22 @@ pub fn all() -> Vec<Case> {
     ];
     for (what, call) in calls {
         let what = what.to_string();
-        rows.push(Case { what, n: 0, holds: "", book: Vec::new(), call, answer: 0 });
+        rows.push(Case {
+            what,
+            n: 0,
+            holds: "",
+            book: Vec::new(),
+            call,
+            answer: 0,
+        });
     }
     for n in [4, 16] {
         for filling in [EMPTY, HALF, FULL] {
             let what = "legality scan, beside a plain pass";
-            let call = Call::Pass { house: VOUCHER as u32, message: cut() };
+            let call = Call::Pass {
+                house: VOUCHER as u32,
+                message: cut(),
+            };
             rows.push(case(what, n, filling.name, book(n, filling, &[]), call, 2));
         }
     }

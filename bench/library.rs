@@ -57,8 +57,13 @@ unsafe extern "C" {
     ) -> Outcome;
     pub fn gm_waiting(book: *const u8, len: usize) -> Waiting;
     pub fn gm_judge(sheet: *const u8, sheet_len: usize, declaration: *const u8) -> u8;
-    pub fn gm_write(kind: u8, season: u32, sender: u8, number: u8, declaration: *const u8)
-        -> Written;
+    pub fn gm_write(
+        kind: u8,
+        season: u32,
+        sender: u8,
+        number: u8,
+        declaration: *const u8,
+    ) -> Written;
     pub fn gm_read(message: *const u8, message_len: usize) -> Read;
 }
 

@@ -46,7 +46,18 @@ fn by_library(case: &Case, count: u32) -> (String, Vec<u8>) {
         Call::Open => make(
             count,
             case,
-            |b| unsafe { gm_open(b.as_mut_ptr(), b.len(), n, NUMBERS, OWN, SEASON, sheet, sheet_len) },
+            |b| unsafe {
+                gm_open(
+                    b.as_mut_ptr(),
+                    b.len(),
+                    n,
+                    NUMBERS,
+                    OWN,
+                    SEASON,
+                    sheet,
+                    sheet_len,
+                )
+            },
             |answer| *answer,
         ),
         Call::Publish => make(
@@ -58,19 +69,41 @@ fn by_library(case: &Case, count: u32) -> (String, Vec<u8>) {
         Call::Receive { house, message } | Call::Pass { house, message } => make(
             count,
             case,
-            |b| unsafe { gm_receive(b.as_mut_ptr(), b.len(), *house, message.as_ptr(), message.len()) },
+            |b| unsafe {
+                gm_receive(
+                    b.as_mut_ptr(),
+                    b.len(),
+                    *house,
+                    message.as_ptr(),
+                    message.len(),
+                )
+            },
             Outcome::said,
         ),
-        Call::Waiting => {
-            make(count, case, |b| unsafe { gm_waiting(b.as_ptr(), b.len()) }, Waiting::said)
-        }
-        Call::Judge => make(count, case, |_| unsafe { gm_judge(sheet, sheet_len, d) }, |a| *a),
-        Call::Write => {
-            make(count, case, |_| unsafe { gm_write(ECHO, SEASON, sender, number, d) }, Written::said)
-        }
-        Call::Read(message) => {
-            make(count, case, |_| unsafe { gm_read(message.as_ptr(), message.len()) }, Read::said)
-        }
+        Call::Waiting => make(
+            count,
+            case,
+            |b| unsafe { gm_waiting(b.as_ptr(), b.len()) },
+            Waiting::said,
+        ),
+        Call::Judge => make(
+            count,
+            case,
+            |_| unsafe { gm_judge(sheet, sheet_len, d) },
+            |a| *a,
+        ),
+        Call::Write => make(
+            count,
+            case,
+            |_| unsafe { gm_write(ECHO, SEASON, sender, number, d) },
+            Written::said,
+        ),
+        Call::Read(message) => make(
+            count,
+            case,
+            |_| unsafe { gm_read(message.as_ptr(), message.len()) },
+            Read::said,
+        ),
     }
 }
 
@@ -85,11 +118,21 @@ fn by_reference(case: &Case, count: u32) -> (String, Vec<u8>) {
     match &case.call {
         Call::Open => {
             let open = black_box(reference::open as fn(&mut _, _, _, _, _, &[u8]) -> _);
-            make(count, case, |b| open(b, n, NUMBERS, OWN, SEASON, &SHEET), |said| *said)
+            make(
+                count,
+                case,
+                |b| open(b, n, NUMBERS, OWN, SEASON, &SHEET),
+                |said| *said,
+            )
         }
         Call::Publish => {
             let publish = black_box(reference::publish as fn(&mut _, _, &_) -> _);
-            make(count, case, |b| publish(b, NUMBER as u32, &DECLARATION), |said| *said)
+            make(
+                count,
+                case,
+                |b| publish(b, NUMBER as u32, &DECLARATION),
+                |said| *said,
+            )
         }
         Call::Receive { house, message } => {
             let receive = black_box(reference::receive as fn(&mut _, _, &[u8]) -> _);
@@ -105,7 +148,12 @@ fn by_reference(case: &Case, count: u32) -> (String, Vec<u8>) {
         }
         Call::Write => {
             let write = black_box(reference::write as fn(_, _, _, _, &_) -> _);
-            make(count, case, |_| write(ECHO, SEASON, sender, number, &DECLARATION), |said| *said)
+            make(
+                count,
+                case,
+                |_| write(ECHO, SEASON, sender, number, &DECLARATION),
+                |said| *said,
+            )
         }
         Call::Read(message) => {
             let read = black_box(reference::read as fn(&[u8]) -> _);
@@ -151,8 +199,16 @@ fn main() {
     match words[..] {
         ["list"] => {
             for (row, case) in rows.iter().enumerate() {
-                assert!(is_compared(case), "row {row}, {}: the two sides differ", case.what);
-                let n = if case.n == 0 { String::new() } else { case.n.to_string() };
+                assert!(
+                    is_compared(case),
+                    "row {row}, {}: the two sides differ",
+                    case.what
+                );
+                let n = if case.n == 0 {
+                    String::new()
+                } else {
+                    case.n.to_string()
+                };
                 println!("{row}|{}|{n}|{}|{}", case.what, case.holds, gives(case));
             }
         }
