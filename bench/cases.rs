@@ -1,0 +1,273 @@
+//! The rows of the table: for each a book, a call on it, and the answer it has to give.
+
+use reference::{write, Declaration, Kind};
+
+pub const NUMBERS: u32 = 4;
+pub const SEASON: u32 = 2026;
+pub const OWN: u32 = 0;
+
+/// Cap 20; moisture at most 20.0, conductivity between 0.125 and 1.0: both kinds of gate that have limits.
+pub const SHEET: [u8; 22] = [
+    0, 0, 0, 20, 1, 0, 0, 0, 0, 0x41, 0xA0, 0, 0, 2, 0x3E, 0, 0, 0, 0x3F, 0x80, 0, 0,
+];
+
+/// Document 01's own: lot 77, 40 colonies, 800 kg, 17.5, 0.5.
+pub const DECLARATION: Declaration = [
+    0, 0, 0, 77, 0, 0, 0, 40, 0, 0, 3, 0x20, 0x41, 0x8C, 0, 0, 0x3F, 0, 0, 0,
+];
+
+/// The entry that is named.
+pub const SENDER: usize = 2;
+/// The number of the entry, and of what is published.
+pub const NUMBER: usize = 1;
+/// The house that an ECHO or a READY comes from.
+const VOUCHER: usize = 1;
+
+pub enum Call {
+    Open,
+    Publish,
+    Receive {
+        house: u32,
+        message: Vec<u8>,
+    },
+    Waiting,
+    Judge,
+    Write,
+    Read(Vec<u8>),
+    /// Not a call of the reference: a plain pass over the book's bytes, beside the library's legality scan.
+    Pass {
+        house: u32,
+        message: Vec<u8>,
+    },
+}
+
+pub struct Case {
+    pub what: String,
+    /// Houses; 0 where the call takes no book.
+    pub n: u32,
+    pub holds: &'static str,
+    pub book: Vec<u8>,
+    pub call: Call,
+    pub answer: u8,
+}
+
+#[derive(Clone, Copy)]
+struct Filling {
+    name: &'static str,
+    full: fn(usize) -> bool,
+}
+
+const EMPTY: Filling = Filling {
+    name: "empty",
+    full: |_| false,
+};
+const HALF: Filling = Filling {
+    name: "half full",
+    full: |slot| slot % 2 == 1,
+};
+const FULL: Filling = Filling {
+    name: "full",
+    full: |_| true,
+};
+
+/// The slots of an entry: SEND, ECHOes, READYs, READY sent, delivered.
+fn first_slot(n: u32) -> usize {
+    let n = n as usize;
+    NUMBERS as usize + (NUMBER * n + SENDER) * (2 * n + 3)
+}
+
+/// The slot that a message of this kind is recorded in.
+fn heard_slot(n: u32, kind: Kind) -> usize {
+    first_slot(n)
+        + match kind {
+            Kind::Send => 0,
+            Kind::Echo => 1 + VOUCHER,
+            Kind::Ready => 1 + n as usize + VOUCHER,
+        }
+}
+
+/// A book with every slot that the filling names full, and those of `but` empty.
+fn book(n: u32, filling: Filling, but: &[usize]) -> Vec<u8> {
+    let (_, length) = reference::length(n, NUMBERS);
+    let mut book = vec![0; length];
+    assert_eq!(
+        reference::open(&mut book, n, NUMBERS, OWN, SEASON, &SHEET),
+        0
+    );
+    for (k, slot) in book[29..].chunks_exact_mut(21).enumerate() {
+        if (filling.full)(k) && !but.contains(&k) {
+            slot[0] = 1;
+            slot[1..].copy_from_slice(&DECLARATION);
+        }
+    }
+    book
+}
+
+fn message(kind: Kind) -> Vec<u8> {
+    let written = write(kind as u8, SEASON, SENDER as u8, NUMBER as u8, &DECLARATION);
+    written.message.expect("the kind is one of three").to_vec()
+}
+
+fn receive(kind: Kind) -> Call {
+    let house = if kind == Kind::Send { SENDER } else { VOUCHER };
+    Call::Receive {
+        house: house as u32,
+        message: message(kind),
+    }
+}
+
+/// A message that the reader refuses by its length alone, so that legality is nearly all of the call.
+fn cut() -> Vec<u8> {
+    let mut bytes = message(Kind::Echo);
+    bytes.pop();
+    bytes
+}
+
+fn case(what: &str, n: u32, holds: &'static str, book: Vec<u8>, call: Call, answer: u8) -> Case {
+    Case {
+        what: what.to_string(),
+        n,
+        holds,
+        book,
+        call,
+        answer,
+    }
+}
+
+fn accepted(n: u32, rows: &mut Vec<Case>) {
+    for (kind, name) in [
+        (Kind::Send, "SEND"),
+        (Kind::Echo, "ECHO"),
+        (Kind::Ready, "READY"),
+    ] {
+        for filling in [EMPTY, HALF, FULL] {
+            let book = book(n, filling, &[heard_slot(n, kind)]);
+            rows.push(case(
+                &format!("receive {name}"),
+                n,
+                filling.name,
+                book,
+                receive(kind),
+                0,
+            ));
+        }
+    }
+    let sent = first_slot(n) + 1 + 2 * n as usize;
+    let due = book(n, FULL, &[heard_slot(n, Kind::Ready), sent, sent + 1]);
+    rows.push(case(
+        "receive READY, both marks due",
+        n,
+        FULL.name,
+        due,
+        receive(Kind::Ready),
+        0,
+    ));
+    for filling in [EMPTY, HALF, FULL] {
+        let book = book(n, filling, &[NUMBER]);
+        rows.push(case("publish", n, filling.name, book, Call::Publish, 0));
+    }
+}
+
+fn refused(n: u32, rows: &mut Vec<Case>) {
+    let mut short = book(n, HALF, &[]);
+    short.pop();
+    rows.push(case(
+        "refusal 1, a byte short",
+        n,
+        HALF.name,
+        short,
+        receive(Kind::Echo),
+        1,
+    ));
+    let mut bad = book(n, HALF, &[]);
+    let last = bad.len() - 21;
+    bad[last] = 2;
+    rows.push(case(
+        "refusal 1, last slot bad",
+        n,
+        HALF.name,
+        bad,
+        receive(Kind::Echo),
+        1,
+    ));
+    for filling in [EMPTY, HALF, FULL] {
+        let call = Call::Receive {
+            house: VOUCHER as u32,
+            message: cut(),
+        };
+        rows.push(case(
+            "refusal 2",
+            n,
+            filling.name,
+            book(n, filling, &[]),
+            call,
+            2,
+        ));
+    }
+    rows.push(case(
+        "refusal 7",
+        n,
+        FULL.name,
+        book(n, FULL, &[]),
+        receive(Kind::Echo),
+        7,
+    ));
+}
+
+fn others(n: u32, rows: &mut Vec<Case>) {
+    rows.push(case(
+        "open",
+        n,
+        FULL.name,
+        book(n, FULL, &[]),
+        Call::Open,
+        0,
+    ));
+    for filling in [EMPTY, HALF, FULL] {
+        rows.push(case(
+            "waiting, none",
+            n,
+            filling.name,
+            book(n, filling, &[]),
+            Call::Waiting,
+            0,
+        ));
+    }
+}
+
+/// All rows, in the table's order.
+pub fn all() -> Vec<Case> {
+    let mut rows = Vec::new();
+    for part in [accepted, refused, others] {
+        for n in [4, 16] {
+            part(n, &mut rows);
+        }
+    }
+    let calls = [
+        ("judge", Call::Judge),
+        ("read", Call::Read(message(Kind::Echo))),
+        ("write", Call::Write),
+    ];
+    for (what, call) in calls {
+        let what = what.to_string();
+        rows.push(Case {
+            what,
+            n: 0,
+            holds: "",
+            book: Vec::new(),
+            call,
+            answer: 0,
+        });
+    }
+    for n in [4, 16] {
+        for filling in [EMPTY, HALF, FULL] {
+            let what = "legality scan, beside a plain pass";
+            let call = Call::Pass {
+                house: VOUCHER as u32,
+                message: cut(),
+            };
+            rows.push(case(what, n, filling.name, book(n, filling, &[]), call, 2));
+        }
+    }
+    rows
+}

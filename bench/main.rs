@@ -1,0 +1,227 @@
+//! Makes one kind of call many times on the same input, by the library, by the reference or by neither, so
+//! that the instructions can be counted from outside.
+//!
+//!     calls list              the rows, after comparing what both sides give on each
+//!     calls ROW SIDE COUNT    so many calls of a row by a side
+
+mod cases;
+mod library;
+
+use cases::{Call, Case, DECLARATION, NUMBER, NUMBERS, OWN, SEASON, SENDER, SHEET};
+use library::*;
+use std::fmt::Debug;
+use std::hint::black_box;
+
+const ECHO: u8 = 2;
+
+/// Restores the book and makes the call, so often; then once more, and gives what that call said, as text,
+/// and the book after it. The last one costs the same for any count, so a difference of two counts drops it.
+#[inline(always)]
+fn make<T, S: Debug>(
+    count: u32,
+    case: &Case,
+    call: impl Fn(&mut [u8]) -> T,
+    said: impl Fn(&T) -> S,
+) -> (String, Vec<u8>) {
+    let mut book = case.book.clone();
+    for _ in 0..count {
+        book.copy_from_slice(&case.book);
+        black_box(&call(black_box(&mut book[..])));
+    }
+    book.copy_from_slice(&case.book);
+    let last = call(&mut book);
+    (format!("{:?}", said(&last)), book)
+}
+
+fn neither(case: &Case, count: u32) -> (String, Vec<u8>) {
+    make(count, case, |_| (), |said| *said)
+}
+
+fn by_library(case: &Case, count: u32) -> (String, Vec<u8>) {
+    let d = DECLARATION.as_ptr();
+    let (sheet, sheet_len) = (SHEET.as_ptr(), SHEET.len());
+    let (sender, number, n) = (SENDER as u8, NUMBER as u8, case.n);
+    // Every pointer is to a live slice of the length beside it, and none overlaps the book.
+    match &case.call {
+        Call::Open => make(
+            count,
+            case,
+            |b| unsafe {
+                gm_open(
+                    b.as_mut_ptr(),
+                    b.len(),
+                    n,
+                    NUMBERS,
+                    OWN,
+                    SEASON,
+                    sheet,
+                    sheet_len,
+                )
+            },
+            |answer| *answer,
+        ),
+        Call::Publish => make(
+            count,
+            case,
+            |b| unsafe { gm_publish(b.as_mut_ptr(), b.len(), NUMBER as u32, d) },
+            Outcome::said,
+        ),
+        Call::Receive { house, message } | Call::Pass { house, message } => make(
+            count,
+            case,
+            |b| unsafe {
+                gm_receive(
+                    b.as_mut_ptr(),
+                    b.len(),
+                    *house,
+                    message.as_ptr(),
+                    message.len(),
+                )
+            },
+            Outcome::said,
+        ),
+        Call::Waiting => make(
+            count,
+            case,
+            |b| unsafe { gm_waiting(b.as_ptr(), b.len()) },
+            Waiting::said,
+        ),
+        Call::Judge => make(
+            count,
+            case,
+            |_| unsafe { gm_judge(sheet, sheet_len, d) },
+            |a| *a,
+        ),
+        Call::Write => make(
+            count,
+            case,
+            |_| unsafe { gm_write(ECHO, SEASON, sender, number, d) },
+            Written::said,
+        ),
+        Call::Read(message) => make(
+            count,
+            case,
+            |_| unsafe { gm_read(message.as_ptr(), message.len()) },
+            Read::said,
+        ),
+    }
+}
+
+/// A plain pass over the bytes: their sum.
+fn sum(bytes: &[u8]) -> u32 {
+    bytes.iter().map(|byte| u32::from(*byte)).sum()
+}
+
+/// Each call goes by a pointer that the compiler can't see through, so that it is a call here as it is there.
+fn by_reference(case: &Case, count: u32) -> (String, Vec<u8>) {
+    let (sender, number, n) = (SENDER as u8, NUMBER as u8, case.n);
+    match &case.call {
+        Call::Open => {
+            let open = black_box(reference::open as fn(&mut _, _, _, _, _, &[u8]) -> _);
+            make(
+                count,
+                case,
+                |b| open(b, n, NUMBERS, OWN, SEASON, &SHEET),
+                |said| *said,
+            )
+        }
+        Call::Publish => {
+            let publish = black_box(reference::publish as fn(&mut _, _, &_) -> _);
+            make(
+                count,
+                case,
+                |b| publish(b, NUMBER as u32, &DECLARATION),
+                |said| *said,
+            )
+        }
+        Call::Receive { house, message } => {
+            let receive = black_box(reference::receive as fn(&mut _, _, &[u8]) -> _);
+            make(count, case, |b| receive(b, *house, message), |said| *said)
+        }
+        Call::Waiting => {
+            let waiting = black_box(reference::waiting as fn(&_) -> _);
+            make(count, case, |b| waiting(b), |said| *said)
+        }
+        Call::Judge => {
+            let judge = black_box(reference::judge as fn(&[u8], &_) -> _);
+            make(count, case, |_| judge(&SHEET, &DECLARATION), |said| *said)
+        }
+        Call::Write => {
+            let write = black_box(reference::write as fn(_, _, _, _, &_) -> _);
+            make(
+                count,
+                case,
+                |_| write(ECHO, SEASON, sender, number, &DECLARATION),
+                |said| *said,
+            )
+        }
+        Call::Read(message) => {
+            let read = black_box(reference::read as fn(&[u8]) -> _);
+            make(count, case, |_| read(message), |said| *said)
+        }
+        Call::Pass { .. } => {
+            let sum = black_box(sum as fn(&_) -> _);
+            make(count, case, |b| sum(b), |said| *said)
+        }
+    }
+}
+
+/// What an accepted call sends and delivers, for the table.
+fn gives(case: &Case) -> &'static str {
+    let mut book = case.book.clone();
+    let outcome = match &case.call {
+        Call::Receive { house, message } => reference::receive(&mut book, *house, message),
+        Call::Publish => reference::publish(&mut book, NUMBER as u32, &DECLARATION),
+        _ => return "",
+    };
+    match (outcome.message.map(|message| message[3]), outcome.delivery) {
+        (None, None) => "",
+        (Some(1), _) => "SEND",
+        (Some(2), _) => "ECHO",
+        (Some(_), None) => "READY",
+        (None, Some(_)) => "delivery",
+        (Some(_), Some(_)) => "READY and delivery",
+    }
+}
+
+/// Both sides gave the same, byte for byte, and the answer that the row names.
+fn is_compared(case: &Case) -> bool {
+    let library = by_library(case, 0);
+    let answer = format!("{}", case.answer);
+    let is_answer = library.0 == answer || library.0.contains(&format!("answer: {answer},"));
+    is_answer && (matches!(case.call, Call::Pass { .. }) || library == by_reference(case, 0))
+}
+
+fn main() {
+    let rows = cases::all();
+    let words: Vec<String> = std::env::args().skip(1).collect();
+    let words: Vec<&str> = words.iter().map(String::as_str).collect();
+    match words[..] {
+        ["list"] => {
+            for (row, case) in rows.iter().enumerate() {
+                assert!(
+                    is_compared(case),
+                    "row {row}, {}: the two sides differ",
+                    case.what
+                );
+                let n = if case.n == 0 {
+                    String::new()
+                } else {
+                    case.n.to_string()
+                };
+                println!("{row}|{}|{n}|{}|{}", case.what, case.holds, gives(case));
+            }
+        }
+        [row, side, count] => {
+            let case = &rows[row.parse::<usize>().expect("a row's number")];
+            let count = count.parse().expect("a count");
+            let side = match side {
+                "library" => by_library,
+                "reference" => by_reference,
+                _ => neither,
+            };
+            black_box(side(case, count));
+        }
+        _ => panic!("calls list, or calls ROW SIDE COUNT"),
+    }
+}
