@@ -2,7 +2,7 @@
 -- Assumes nothing.
 use Prim.Native.Nat.{ℕ, zero, suc, _+_, _<_, _≤_}
 use mathlib.Core.Path.{_≡_, refl, sym, ap, ap₂, _∙_}
-use mathlib.Core.Bool.{Bool, true, false, not, _&&_, and-eq-true-iff}
+use mathlib.Core.Bool.{Bool, true, false, not, _&&_, and-eq-true-iff, and-comm}
 use mathlib.Core.List.{List}
 use native.Mathlib.Decide.{decLt}
 use native.Mathlib.Omega.{arith}
@@ -92,23 +92,33 @@ module _ (b : List ℕ) where
 -- ---- all parts
 
 module _ (b : List ℕ) where
-  legal-is : legal b ≡ sized b && (sheetLegalAt b sheetPlace && slotsOk b (nOf b) (slotCount (nOf b) (numbersOf b)))
+  legal-is : legal b ≡ sized b && (slotsOk b (nOf b) (slotCount (nOf b) (numbersOf b)) && sheetLegalAt b sheetPlace)
   unfolding legal sized allowed
-  legal-is = go (houses (nOf b)) (numbersOk (numbersOf b)) (ltb (ownOf b) (nOf b)) _ _
+  legal-is =
+      go (houses (nOf b)) (numbersOk (numbersOf b)) (ltb (ownOf b) (nOf b)) (eqb (length b) (lengthOf (nOf b) (numbersOf b)))
+      (sheetLegalAt b sheetPlace) (slotsOk b (nOf b) (slotCount (nOf b) (numbersOf b)))
     where
-      go : (u v w x y : Bool) → (u && (v && (w && (x && y)))) ≡ (u && (v && w) && x) && y
-      go true true true x y = refl
-      go true true false x y = refl
-      go true false w x y = refl
-      go false v w x y = refl
+      last : (x y z : Bool) → (x && (y && z)) ≡ (x && (z && y))
+      last true y z = and-comm y z
+      last false y z = refl
+
+      go : (u v w x y z : Bool) → (u && (v && (w && (x && (y && z))))) ≡ (u && (v && w) && x) && (z && y)
+      go true true true x y z = last x y z
+      go true true false x y z = refl
+      go true false w x y z = refl
+      go false v w x y z = refl
 
   -- the answers of `is_legal`, by what its parts answered
   pub legal-unsized : (r : Bool) → r ≡ sized b → r ≡ false → false ≡ legal b
   legal-unsized r e f = rw (legal-is, ← e, f)
 
-  module _ (r x : Bool) (e : r ≡ sized b) (t : r ≡ true) (q : x ≡ sheetLegalAt b sheetPlace) where
-    pub legal-unsheeted : x ≡ false → false ≡ legal b
-    legal-unsheeted f = rw (legal-is, ← e, t, ← q, f)
+  module _ (r y : Bool) (n s k : ℕ) (e : r ≡ sized b) (t : r ≡ true) (u : n ≡ nOf b) (v : s ≡ numbersOf b) (w : k ≡ slotCount n s)
+      (z : y ≡ slotsOk b n k) where
+    slots-are : y ≡ slotsOk b (nOf b) (slotCount (nOf b) (numbersOf b))
+    slots-are = z ∙ (λ i. slotsOk b (u i) ((w ∙ ap₂ slotCount u v) i))
 
-    pub legal-slots : (n s k : ℕ) (y : Bool) → n ≡ nOf b → s ≡ numbersOf b → k ≡ slotCount n s → x ≡ true → y ≡ slotsOk b n k → y ≡ legal b
-    legal-slots n s k y u v w f z = rw (legal-is, ← e, t, ← q, f, ← u, ← v, ← w) z
+    pub legal-bad-slot : y ≡ false → false ≡ legal b
+    legal-bad-slot f = rw (legal-is, ← e, t, ← slots-are, f)
+
+    pub legal-sheet : (x : Bool) → y ≡ true → x ≡ sheetLegalAt b sheetPlace → x ≡ legal b
+    legal-sheet x f q = rw (legal-is, ← e, t, ← slots-are, f) q

@@ -313,14 +313,14 @@ fn is_sized(b: &[u8]) -> bool
     false
 }
 
-// Whether the bytes are a legal book.
+// Whether the bytes are a legal book. The sheet comes last: the loop over the slots is then a test of its own, and runs tighter.
 pub fn is_legal(b: &[u8]) -> bool
     ensures { λ r. ⌜ r ≡ legal (now (b .entry)) ⌝ }
 {
     if is_sized(b) {
-        if sheet::is_sheet_at(b, SHEET) {
-            let n = n_of(b);
-            return are_slots_ok(b, n, slot_count(n, numbers_of(b)));
+        let n = n_of(b);
+        if are_slots_ok(b, n, slot_count(n, numbers_of(b))) {
+            return sheet::is_sheet_at(b, SHEET);
         }
     }
     false

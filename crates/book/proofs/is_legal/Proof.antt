@@ -1,15 +1,12 @@
 -- `book::is_legal` meets its contract.
 -- Assumes nothing.
-use Rattle.book.proofs.Legality.{sized-room, slots-room, legal-unsized, legal-unsheeted, legal-slots}
+use Rattle.book.proofs.Legality.{sized-room, slots-room, legal-unsized, legal-bad-slot, legal-sheet}
 use borrow.Author.Needs.{needs}
 use Rattle.book.proofs.is_legal.Statement.{statement}
 use Rattle.book.proofs.is_legal.Tie as tie
 
 is-sized-requires : tie.Need-is-sized-requires
 is-sized-requires c κs = search needs
-
-is-sheet-at-requires : tie.Need-is-sheet-at-requires
-is-sheet-at-requires c κs = search (needs, sized-room)
 
 n-of-requires : tie.Need-n-of-requires
 n-of-requires c κs = search (needs, sized-room)
@@ -23,11 +20,14 @@ slot-count-requires c κs = search needs
 are-slots-ok-requires : tie.Need-are-slots-ok-requires
 are-slots-ok-requires c κs = (search slots-room, search needs)
 
+is-sheet-at-requires : tie.Need-is-sheet-at-requires
+is-sheet-at-requires c κs = search (needs, sized-room)
+
 returns : tie.Need-returns
-returns c = search legal-slots
+returns c = search legal-sheet
 
 returns-2 : tie.Need-returns-2
-returns-2 c = search legal-unsheeted
+returns-2 c = search legal-bad-slot
 
 returns-3 : tie.Need-returns-3
 returns-3 c = search legal-unsized
@@ -37,11 +37,11 @@ is-legal-spec =
     tie.close
     (tie.spec
     is-sized-requires
-    is-sheet-at-requires
     n-of-requires
     numbers-of-requires
     slot-count-requires
     are-slots-ok-requires
+    is-sheet-at-requires
     returns
     returns-2
     returns-3)
