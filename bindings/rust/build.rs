@@ -4,7 +4,9 @@
 fn main() {
     println!("cargo::rerun-if-env-changed=GRASSMUNCH_LIB");
     let Ok(folder) = std::env::var("GRASSMUNCH_LIB") else {
-        println!("cargo::warning=GRASSMUNCH_LIB is not set: programs will not link (docs/HOUSE.md)");
+        println!(
+            "cargo::warning=GRASSMUNCH_LIB is not set: programs will not link (docs/HOUSE.md)"
+        );
         return;
     };
     println!("cargo::rerun-if-changed={folder}/libgrassmunch.a");

@@ -17,7 +17,9 @@ impl Outcome {
         Refusal::of(outcome.answer)?;
         Ok(Outcome {
             message: outcome.gives.then_some(outcome.message),
-            delivery: outcome.delivers.then(|| Declaration::from_bytes(outcome.declaration)),
+            delivery: outcome
+                .delivers
+                .then(|| Declaration::from_bytes(outcome.declaration)),
         })
     }
 }
@@ -173,7 +175,10 @@ impl Book {
     pub fn waiting(&self) -> Result<Option<Entry>, Refusal> {
         let waiting = ffi::waiting(&self.0);
         Refusal::of(waiting.answer)?;
-        let entry = Entry { number: waiting.number, sender: waiting.sender };
+        let entry = Entry {
+            number: waiting.number,
+            sender: waiting.sender,
+        };
         Ok(waiting.waits.then_some(entry))
     }
 }

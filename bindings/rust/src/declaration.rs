@@ -20,7 +20,13 @@ impl Declaration {
 
     /// The declaration of these five things: moisture in percent, conductivity in mS/cm.
     pub fn new(lot: u32, colonies: u32, kilograms: u32, moisture: f32, conductivity: f32) -> Self {
-        let words = [lot, colonies, kilograms, moisture.to_bits(), conductivity.to_bits()];
+        let words = [
+            lot,
+            colonies,
+            kilograms,
+            moisture.to_bits(),
+            conductivity.to_bits(),
+        ];
         let mut bytes = [0; Self::BYTES];
         for (place, word) in bytes.chunks_exact_mut(4).zip(words) {
             place.copy_from_slice(&word.to_be_bytes());

@@ -15,7 +15,9 @@ pub enum Kind {
 
 impl Kind {
     fn of(number: u8) -> Option<Kind> {
-        [Kind::Send, Kind::Echo, Kind::Ready].into_iter().find(|kind| *kind as u8 == number)
+        [Kind::Send, Kind::Echo, Kind::Ready]
+            .into_iter()
+            .find(|kind| *kind as u8 == number)
     }
 }
 
@@ -73,7 +75,13 @@ impl Message {
     /// The writer's 36 bytes. It refuses other kinds only, and a [`Kind`] is none of those.
     pub fn to_bytes(&self) -> [u8; Self::BYTES] {
         let declaration = self.declaration.as_bytes();
-        let written = ffi::write(self.kind as u8, self.season, self.sender, self.number, declaration);
+        let written = ffi::write(
+            self.kind as u8,
+            self.season,
+            self.sender,
+            self.number,
+            declaration,
+        );
         debug_assert_eq!(written.answer, 0);
         written.message
     }

@@ -99,7 +99,9 @@ impl Refusal {
         if answer == 0 {
             return Ok(());
         }
-        let known = Refusal::ALL.into_iter().find(|refusal| refusal.number() == answer);
+        let known = Refusal::ALL
+            .into_iter()
+            .find(|refusal| refusal.number() == answer);
         Err(known.unwrap_or(Unknown(answer)))
     }
 }
