@@ -11,8 +11,8 @@ enum { BOOK = 974 };
 static const uint8_t sheet[GM_SHEET_BYTES] = {0, 0, 0, 20, GM_GATE_AT_MOST, 0, 0, 0, 0, 0x41, 0xA0, 0, 0, GM_GATE_OPEN};
 static const uint8_t lot77[GM_DECLARATION_BYTES] = {0, 0, 0, 77, 0, 0, 0, 40, 0, 0, 3, 0x20, 0x41, 0x8C, 0, 0, 0x3F, 0, 0, 0};
 static const uint8_t heavy[GM_DECLARATION_BYTES] = {0, 0, 0, 77, 0, 0, 0, 40, 0, 0, 3, 0x21, 0x41, 0x8C, 0, 0, 0x3F, 0, 0, 0};
-static const uint8_t whole[GM_MESSAGE_BYTES] = {1, 0, 1, 1,  2, 0, 6, 0,  0, 7, 0xEA, 2,    1,    3, 0, 20, 0,    0,
-                                                0, 77, 0, 0, 0, 40, 0, 0, 3, 0x20, 0x41, 0x8C, 0, 0, 0x3F, 0, 0, 0};
+static const uint8_t whole[GM_MESSAGE_BYTES] = {1, 0, 1, GM_SEND, 2, 0, 6, 0, 0, 0x07, 0xEA, 2, 1, 3, 0, 20,
+                                                0, 0, 0, 77, 0, 0, 0, 40, 0, 0, 3, 0x20, 0x41, 0x8C, 0, 0, 0x3F, 0, 0, 0};
 
 static uint8_t book[BOOK], before[BOOK];
 static int wrong;
