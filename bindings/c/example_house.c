@@ -68,6 +68,7 @@ static void name_file(char *name, size_t size, uint32_t own, const char *end) {
     snprintf(name, size, "%s/house-%u.%s", folder, (unsigned)own, end);
 }
 
+/* A short write counts as a failure: the old file then stays. */
 static bool write_whole(int file, const void *bytes, size_t size) {
     return (size_t)write(file, bytes, size) == size;
 }
@@ -136,27 +137,27 @@ static void tell(const gm_outcome *gave) {
     printf("\n");
 }
 
-/* House 1 loses power once: after a READY was stored and before it leaves. */
-static bool power_cut(struct house *house, const gm_outcome *gave) {
+/* House 1 loses power once: after a READY was stored and before it leaves. What leaves is what the file has. */
+static bool power_cut(struct house *house, gm_outcome *gave) {
     static bool was_cut;
     if (was_cut || house->own != 1 || !gave->gives || gm_read(gave->message, GM_MESSAGE_BYTES).kind != GM_READY) {
         return true;
     }
     was_cut = true;
     memset(house->book, 0, sizeof house->book);
-    gm_outcome kept;
-    if (!recover(house, &kept)) {
+    memset(gave, 0, sizeof *gave);
+    if (!recover(house, gave)) {
         return false;
     }
     gm_waiting_answer next = gm_waiting(house->book, house->len);
     printf("house 1 loses power before its READY leaves; it recovers book and %s from its file; waiting: number %u of sender %u\n",
-           kind_of(kept.message), (unsigned)next.number, (unsigned)next.sender);
-    return memcmp(&kept, gave, sizeof kept) == 0;
+           kind_of(gave->message), (unsigned)next.number, (unsigned)next.sender);
+    return next.waits;
 }
 
 /* ---- a call: on a copy, stored, then the message leaves */
 
-static bool settle(struct house *house, const uint8_t *worked, const gm_outcome *gave) {
+static bool settle(struct house *house, const uint8_t *worked, gm_outcome *gave) {
     tell(gave);
     if (gave->answer != GM_ACCEPTED) {
         return memcmp(worked, house->book, house->len) == 0;
@@ -191,6 +192,9 @@ static bool receive(struct house *house, uint64_t from, const uint8_t *message) 
 static bool open_all(void) {
     gm_length_answer size = gm_length(HOUSES, NUMBERS);
     gm_outcome nothing = {0};
+    if (size.answer != GM_ACCEPTED) {
+        return false;
+    }
     printf("%d houses with %d numbers each, season %d: a book is %u bytes\n", HOUSES, NUMBERS, SEASON, (unsigned)size.length);
     for (uint32_t own = 0; own < HOUSES; own++) {
         struct house *house = &houses[own];

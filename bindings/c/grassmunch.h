@@ -82,32 +82,32 @@ typedef struct {
     uint8_t sender;
 } gm_waiting_answer;
 
-/* "A public answer gives that length, or answer 9." Answers: 9. */
+/* "A public answer gives that length, or answer 9." Answers 9, else 0. */
 gm_length_answer gm_length(uint32_t n, uint32_t s);
 
-/* "Opening writes the whole buffer: nothing heard, sent, delivered or published." Answers: 9, 10, 11. */
+/* "Opening writes the whole buffer: nothing heard, sent, delivered or published." Answers 9, 10, 11, else 0. */
 uint8_t gm_open(uint8_t *book, size_t len, uint32_t n, uint32_t s, uint32_t own, uint32_t season, const uint8_t *sheet,
                 size_t sheet_len);
 
-/* "Publishing marks the own entry and gives a SEND." Answers: 1, 4, 5, 8. */
+/* "Publishing marks the own entry and gives a SEND." Answers 1, 4, 5, 8, else 0. */
 gm_outcome gm_publish(uint8_t *book, size_t len, uint32_t number, const uint8_t declaration[20]);
 
 /* "An accepted SEND is recorded and gives an ECHO of it." An ECHO or READY is recorded, and may give a READY; a READY may deliver.
- * house is the house that the message came from. Answers: 1, 2, 3, 4, 5, 6, 7. */
+ * house is the house that the message came from. Answers 1, 2, 3, 4, 5, 6, 7, else 0. */
 gm_outcome gm_receive(uint8_t *book, size_t len, uint32_t house, const uint8_t *message, size_t message_len);
 
 /* "The earliest waiting entry is the one, lowest number first and then lowest sender, with a SEND heard and nothing delivered; or a
- * plain none; or answer 1." Answers: 1. */
+ * plain none; or answer 1." Answers 1, else 0. */
 gm_waiting_answer gm_waiting(const uint8_t *book, size_t len);
 
-/* "Judging takes a sheet and a declaration and answers 10, then 5, else 0." Answers: 10, 5. */
+/* "Judging takes a sheet and a declaration and answers 10, then 5, else 0." */
 uint8_t gm_judge(const uint8_t *sheet, size_t sheet_len, const uint8_t declaration[20]);
 
 /* "The writer takes kind, season, sender, number and declaration and hands back the 36 bytes, with no lent buffer; any sender and
- * number byte is written; for another kind it answers 2 and hands back no message." Answers: 2. */
+ * number byte is written; for another kind it answers 2 and hands back no message." Answers 2, else 0. */
 gm_written gm_write(uint8_t kind, uint32_t season, uint8_t sender, uint8_t number, const uint8_t declaration[20]);
 
-/* "Reading alone answers 2 or gives the same five things." Answers: 2. */
+/* "Reading alone answers 2 or gives the same five things." Answers 2, else 0. */
 gm_read_answer gm_read(const uint8_t *message, size_t message_len);
 
 /* A wide house number for gm_receive. One that 32 bits do not hold becomes the largest that they do, which is in no book: it is
