@@ -5,7 +5,7 @@
 # the kit's emulator. Rust is native: it links the archive on x86-64, and elsewhere bindings/rust/stand-in. Both examples write one
 # account and the same books. Says nothing where all passes.
 set -uo pipefail
-cd "$(dirname "${BASH_SOURCE[0]}")/.."
+cd "$(dirname "${BASH_SOURCE[0]}")/.." || exit 1
 root=$PWD
 export LC_ALL=C.UTF-8
 machine=$(uname -m)
@@ -109,7 +109,7 @@ else
 fi
 export CARGO_TARGET_DIR=$room/rust GRASSMUNCH_LIB=$room/lib
 export RUSTFLAGS='-D warnings' RUSTDOCFLAGS='-D warnings'
-cd bindings/rust
+cd bindings/rust || exit 1
 quiet 'the Rust crate' cargo build --offline --locked --lib --examples
 quiet 'the pages of the Rust crate' cargo doc --offline --locked --no-deps
 quiet 'a doc test' cargo test --offline --locked --doc
