@@ -1,0 +1,9 @@
+/* See stdint.h here. */
+#ifndef BARE_STDBOOL_H
+#define BARE_STDBOOL_H
+#ifndef __cplusplus
+#define bool _Bool
+#define true 1
+#define false 0
+#endif
+#endif

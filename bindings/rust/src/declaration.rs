@@ -1,0 +1,76 @@
+//! A declaration: 20 bytes, and the five things that they say.
+
+/// Lot, colonies, kilograms, moisture and conductivity, kept as the 20 bytes that are sent and compared.
+///
+/// "Two declarations are the same exactly when all 20 bytes are", and a NaN's bits stay as they are.
+///
+/// ```
+/// use grassmunch::Declaration;
+/// let declaration = Declaration::new(77, 40, 800, 17.5, 0.5);
+/// assert_eq!((declaration.lot(), declaration.colonies(), declaration.kilograms()), (77, 40, 800));
+/// assert_eq!((declaration.moisture(), declaration.conductivity()), (17.5, 0.5));
+/// assert_ne!(Declaration::new(1, 0, 0, 0.0, 0.0), Declaration::new(1, 0, 0, -0.0, 0.0));
+/// ```
+#[derive(Clone, Copy, Debug, PartialEq, Eq, Hash)]
+pub struct Declaration([u8; Declaration::BYTES]);
+
+impl Declaration {
+    /// Bytes of a declaration.
+    pub const BYTES: usize = 20;
+
+    /// The declaration of these five things: moisture in percent, conductivity in mS/cm.
+    pub fn new(lot: u32, colonies: u32, kilograms: u32, moisture: f32, conductivity: f32) -> Self {
+        let words = [
+            lot,
+            colonies,
+            kilograms,
+            moisture.to_bits(),
+            conductivity.to_bits(),
+        ];
+        let mut bytes = [0; Self::BYTES];
+        for (place, word) in bytes.chunks_exact_mut(4).zip(words) {
+            place.copy_from_slice(&word.to_be_bytes());
+        }
+        Declaration(bytes)
+    }
+
+    /// Any 20 bytes are a declaration.
+    pub fn from_bytes(bytes: [u8; Self::BYTES]) -> Self {
+        Declaration(bytes)
+    }
+
+    /// Its 20 bytes.
+    pub fn as_bytes(&self) -> &[u8; Self::BYTES] {
+        &self.0
+    }
+
+    /// The lot.
+    pub fn lot(&self) -> u32 {
+        self.word(0)
+    }
+
+    /// The colonies.
+    pub fn colonies(&self) -> u32 {
+        self.word(1)
+    }
+
+    /// The kilograms.
+    pub fn kilograms(&self) -> u32 {
+        self.word(2)
+    }
+
+    /// Moisture in percent.
+    pub fn moisture(&self) -> f32 {
+        f32::from_bits(self.word(3))
+    }
+
+    /// Conductivity in mS/cm.
+    pub fn conductivity(&self) -> f32 {
+        f32::from_bits(self.word(4))
+    }
+
+    fn word(&self, place: usize) -> u32 {
+        let at = 4 * place;
+        u32::from_be_bytes([self.0[at], self.0[at + 1], self.0[at + 2], self.0[at + 3]])
+    }
+}

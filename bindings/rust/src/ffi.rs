@@ -1,0 +1,146 @@
+//! The archive's eight calls and the structs that they hand back, as bindings/c/grassmunch.h has them: the one file with `unsafe`.
+//!
+//! The safe functions here take slices and arrays, so that pointers and lengths are right; and a book by `&mut`, so that it
+//! overlaps no other argument. The archive's contracts have no `requires`: every call is allowed with every input.
+#![allow(unsafe_code)]
+
+use std::mem::{offset_of, size_of};
+
+/// What [`length`] hands back.
+#[repr(C)]
+pub struct LengthAnswer {
+    pub answer: u8,
+    pub length: u64,
+}
+
+/// What [`publish`] and [`receive`] hand back.
+#[repr(C)]
+pub struct Outcome {
+    pub answer: u8,
+    pub gives: bool,
+    pub message: [u8; 36],
+    pub delivers: bool,
+    pub declaration: [u8; 20],
+}
+
+/// What [`write`] hands back.
+#[repr(C)]
+pub struct Written {
+    pub answer: u8,
+    pub message: [u8; 36],
+}
+
+/// What [`read`] hands back.
+#[repr(C)]
+pub struct ReadAnswer {
+    pub answer: u8,
+    pub kind: u8,
+    pub season: u32,
+    pub sender: u8,
+    pub number: u8,
+    pub declaration: [u8; 20],
+}
+
+/// What [`waiting`] hands back.
+#[repr(C)]
+pub struct WaitingAnswer {
+    pub answer: u8,
+    pub waits: bool,
+    pub number: u8,
+    pub sender: u8,
+}
+
+const _: () = {
+    assert!(size_of::<usize>() == 8);
+    assert!(size_of::<LengthAnswer>() == 16 && offset_of!(LengthAnswer, length) == 8);
+    assert!(size_of::<Outcome>() == 59 && offset_of!(Outcome, gives) == 1);
+    assert!(offset_of!(Outcome, message) == 2 && offset_of!(Outcome, delivers) == 38);
+    assert!(offset_of!(Outcome, declaration) == 39);
+    assert!(size_of::<Written>() == 37 && offset_of!(Written, message) == 1);
+    assert!(size_of::<ReadAnswer>() == 32 && offset_of!(ReadAnswer, kind) == 1);
+    assert!(offset_of!(ReadAnswer, season) == 4 && offset_of!(ReadAnswer, sender) == 8);
+    assert!(offset_of!(ReadAnswer, number) == 9 && offset_of!(ReadAnswer, declaration) == 10);
+    assert!(size_of::<WaitingAnswer>() == 4 && offset_of!(WaitingAnswer, waits) == 1);
+    assert!(offset_of!(WaitingAnswer, number) == 2 && offset_of!(WaitingAnswer, sender) == 3);
+};
+
+// SAFETY: these are the archive's signatures (crates/house/src/lib.rt); a slice crosses as a pointer and a length.
+unsafe extern "C" {
+    safe fn gm_length(n: u32, s: u32) -> LengthAnswer;
+    fn gm_open(
+        book: *mut u8,
+        len: usize,
+        n: u32,
+        s: u32,
+        own: u32,
+        season: u32,
+        sheet: *const u8,
+        sheet_len: usize,
+    ) -> u8;
+    safe fn gm_write(
+        kind: u8,
+        season: u32,
+        sender: u8,
+        number: u8,
+        declaration: &[u8; 20],
+    ) -> Written;
+    fn gm_publish(book: *mut u8, len: usize, number: u32, declaration: &[u8; 20]) -> Outcome;
+    fn gm_receive(
+        book: *mut u8,
+        len: usize,
+        house: u32,
+        message: *const u8,
+        message_len: usize,
+    ) -> Outcome;
+    fn gm_waiting(book: *const u8, len: usize) -> WaitingAnswer;
+    fn gm_judge(sheet: *const u8, sheet_len: usize, declaration: &[u8; 20]) -> u8;
+    fn gm_read(message: *const u8, message_len: usize) -> ReadAnswer;
+}
+
+/// "A public answer gives that length, or answer 9."
+pub fn length(n: u32, s: u32) -> LengthAnswer {
+    gm_length(n, s)
+}
+
+/// Opening: 9, 10, 11.
+pub fn open(book: &mut [u8], n: u32, s: u32, own: u32, season: u32, sheet: &[u8]) -> u8 {
+    let (at, len) = (book.as_mut_ptr(), book.len());
+    // SAFETY: `book` is valid for reads and writes of `len` bytes and lent to nobody else, `sheet` for reads of its length.
+    unsafe { gm_open(at, len, n, s, own, season, sheet.as_ptr(), sheet.len()) }
+}
+
+/// Publishing: 1, 4, 5, 8.
+pub fn publish(book: &mut [u8], number: u32, declaration: &[u8; 20]) -> Outcome {
+    // SAFETY: `book` is valid for reads and writes of its length and lent to nobody else.
+    unsafe { gm_publish(book.as_mut_ptr(), book.len(), number, declaration) }
+}
+
+/// Receiving: 1 to 7 in order.
+pub fn receive(book: &mut [u8], house: u32, message: &[u8]) -> Outcome {
+    let (at, len) = (book.as_mut_ptr(), book.len());
+    // SAFETY: `book` is valid for reads and writes of `len` bytes and lent to nobody else, `message` for reads of its length.
+    unsafe { gm_receive(at, len, house, message.as_ptr(), message.len()) }
+}
+
+/// The earliest waiting entry, or a plain none, or answer 1.
+pub fn waiting(book: &[u8]) -> WaitingAnswer {
+    // SAFETY: `book` is valid for reads of its length.
+    unsafe { gm_waiting(book.as_ptr(), book.len()) }
+}
+
+/// Judging: 10, then 5, else 0.
+pub fn judge(sheet: &[u8], declaration: &[u8; 20]) -> u8 {
+    // SAFETY: `sheet` is valid for reads of its length.
+    unsafe { gm_judge(sheet.as_ptr(), sheet.len(), declaration) }
+}
+
+/// The 36 bytes of a message, or answer 2.
+pub fn write(kind: u8, season: u32, sender: u8, number: u8, declaration: &[u8; 20]) -> Written {
+    gm_write(kind, season, sender, number, declaration)
+}
+
+/// The five things of a message, or answer 2.
+pub fn read(message: &[u8]) -> ReadAnswer {
+    // SAFETY: `message` is valid for reads of its length.
+    unsafe { gm_read(message.as_ptr(), message.len()) }
+}

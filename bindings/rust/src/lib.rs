@@ -1,0 +1,20 @@
+//! The house book, safe to use from Rust: a [`Book`] that owns its bytes, over the proved archive.
+//!
+//! Each call answers `Ok`, which is document 01's answer 0, or a [`Refusal`] with the answer's number and sentence. Sentences in
+//! quotes are document 01's. `GRASSMUNCH_LIB` names the folder with libgrassmunch.a; docs/HOUSE.md says how to make it, which
+//! call when, and why a book is stored before its message leaves.
+#![deny(missing_docs)]
+#![deny(unsafe_code)]
+
+mod book;
+mod declaration;
+mod ffi;
+mod message;
+mod refusal;
+mod sheet;
+
+pub use book::{Book, Entry, Outcome};
+pub use declaration::Declaration;
+pub use message::{Kind, Message};
+pub use refusal::Refusal;
+pub use sheet::{Gate, Sheet};

@@ -1,0 +1,88 @@
+//! One message: 36 bytes, and the five things that they say.
+
+use crate::{Declaration, Refusal, ffi};
+
+/// What a message says of its declaration.
+#[derive(Clone, Copy, Debug, PartialEq, Eq, Hash)]
+pub enum Kind {
+    /// 1: the sender publishes it.
+    Send = 1,
+    /// 2: a house heard it from the sender.
+    Echo = 2,
+    /// 3: a house is ready to deliver it.
+    Ready = 3,
+}
+
+impl Kind {
+    fn of(number: u8) -> Option<Kind> {
+        [Kind::Send, Kind::Echo, Kind::Ready]
+            .into_iter()
+            .find(|kind| *kind as u8 == number)
+    }
+}
+
+/// The five things of a message.
+///
+/// ```
+/// use grassmunch::{Declaration, Kind, Message};
+/// let message = Message {
+///     kind: Kind::Send,
+///     season: 2026,
+///     sender: 2,
+///     number: 1,
+///     declaration: Declaration::new(77, 40, 800, 17.5, 0.5),
+/// };
+/// let bytes = message.to_bytes();
+/// assert_eq!(bytes[..13], [1, 0, 1, 1, 2, 0, 6, 0, 0, 0x07, 0xEA, 2, 1]);
+/// assert_eq!(Message::read(&bytes), Ok(message));
+/// ```
+#[derive(Clone, Copy, Debug, PartialEq, Eq, Hash)]
+pub struct Message {
+    /// SEND, ECHO or READY.
+    pub kind: Kind,
+    /// The season.
+    pub season: u32,
+    /// The entry's sender.
+    pub sender: u8,
+    /// The entry's number.
+    pub number: u8,
+    /// The declaration.
+    pub declaration: Declaration,
+}
+
+impl Message {
+    /// Bytes of a message.
+    pub const BYTES: usize = 36;
+
+    /// "Reading alone answers 2 or gives the same five things."
+    ///
+    /// ```
+    /// use grassmunch::{Message, Refusal};
+    /// assert_eq!(Message::read(&[]), Err(Refusal::Malformed));
+    /// ```
+    pub fn read(bytes: &[u8]) -> Result<Message, Refusal> {
+        let read = ffi::read(bytes);
+        Refusal::of(read.answer)?;
+        Ok(Message {
+            kind: Kind::of(read.kind).ok_or(Refusal::Malformed)?,
+            season: read.season,
+            sender: read.sender,
+            number: read.number,
+            declaration: Declaration::from_bytes(read.declaration),
+        })
+    }
+
+    /// The writer's 36 bytes. It refuses other kinds only, and a [`Kind`] is none of those.
+    pub fn to_bytes(&self) -> [u8; Self::BYTES] {
+        let declaration = self.declaration.as_bytes();
+        let written = ffi::write(
+            self.kind as u8,
+            self.season,
+            self.sender,
+            self.number,
+            declaration,
+        );
+        debug_assert_eq!(written.answer, 0);
+        written.message
+    }
+}

@@ -1,0 +1,115 @@
+//! The answers other than 0, with document 01's number and sentence.
+
+use std::fmt;
+
+/// Why a call was refused. Answer 0, accepted, is `Ok`; a refusal left the book byte for byte.
+///
+/// ```
+/// use grassmunch::Refusal;
+/// assert_eq!(Refusal::NotPlausible.number(), 5);
+/// assert_eq!(Refusal::NotPlausible.to_string(), "answer 5: not plausible");
+/// ```
+#[derive(Clone, Copy, Debug, PartialEq, Eq, Hash)]
+#[non_exhaustive]
+pub enum Refusal {
+    /// 1: the lent bytes are no legal book.
+    NoLegalBook,
+    /// 2: malformed message.
+    Malformed,
+    /// 3: season differs from the book's.
+    OtherSeason,
+    /// 4: house number, sender or entry number not in the book.
+    NotInBook,
+    /// 5: not plausible.
+    NotPlausible,
+    /// 6: SEND not from the entry's sender.
+    NotFromSender,
+    /// 7: this kind was already accepted from this house on this entry, same declaration or not.
+    AlreadyAccepted,
+    /// 8: already published at this number.
+    AlreadyPublished,
+    /// 9: n, S or own number not allowed.
+    NotAllowed,
+    /// 10: sheet not legal.
+    SheetNotLegal,
+    /// 11: buffer length is not the book's length. A [`Book`](crate::Book) has its length, so no call here gives it.
+    WrongLength,
+    /// A number that this crate does not know: the archive is of another version.
+    Unknown(u8),
+}
+
+use Refusal::*;
+
+impl Refusal {
+    /// Document 01's refusals, 1 to 11 in order.
+    pub const ALL: [Refusal; 11] = [
+        NoLegalBook,
+        Malformed,
+        OtherSeason,
+        NotInBook,
+        NotPlausible,
+        NotFromSender,
+        AlreadyAccepted,
+        AlreadyPublished,
+        NotAllowed,
+        SheetNotLegal,
+        WrongLength,
+    ];
+
+    /// Document 01's number.
+    pub fn number(self) -> u8 {
+        match self {
+            NoLegalBook => 1,
+            Malformed => 2,
+            OtherSeason => 3,
+            NotInBook => 4,
+            NotPlausible => 5,
+            NotFromSender => 6,
+            AlreadyAccepted => 7,
+            AlreadyPublished => 8,
+            NotAllowed => 9,
+            SheetNotLegal => 10,
+            WrongLength => 11,
+            Unknown(number) => number,
+        }
+    }
+
+    /// Document 01's sentence.
+    pub fn sentence(self) -> &'static str {
+        match self {
+            NoLegalBook => "the lent bytes are no legal book",
+            Malformed => "malformed message",
+            OtherSeason => "season differs from the book's",
+            NotInBook => "house number, sender or entry number not in the book",
+            NotPlausible => "not plausible",
+            NotFromSender => "SEND not from the entry's sender",
+            AlreadyAccepted => {
+                "this kind was already accepted from this house on this entry, same declaration or not"
+            }
+            AlreadyPublished => "already published at this number",
+            NotAllowed => "n, S or own number not allowed",
+            SheetNotLegal => "sheet not legal",
+            WrongLength => "buffer length is not the book's length",
+            Unknown(_) => "no answer of document 01",
+        }
+    }
+
+    /// `Ok` at 0, and otherwise the refusal of this number.
+    pub(crate) fn of(answer: u8) -> Result<(), Refusal> {
+        if answer == 0 {
+            return Ok(());
+        }
+        let known = Refusal::ALL
+            .into_iter()
+            .find(|refusal| refusal.number() == answer);
+        Err(known.unwrap_or(Unknown(answer)))
+    }
+}
+
+impl fmt::Display for Refusal {
+    fn fmt(&self, f: &mut fmt::Formatter<'_>) -> fmt::Result {
+        write!(f, "answer {}: {}", self.number(), self.sentence())
+    }
+}
+
+impl std::error::Error for Refusal {}

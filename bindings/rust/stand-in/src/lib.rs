@@ -1,0 +1,172 @@
+//! The eight calls of the archive, answered by reference/: nothing here is proved, and no house links it.
+//!
+//! The archive is for x86-64. On another processor the tests link this in its place, so that the Rust crate's own code
+//! (declarations, sheets, refusals, the example) runs there too. That crate lends slices, so no pointer here is null.
+
+use std::slice::{from_raw_parts, from_raw_parts_mut};
+
+#[repr(C)]
+pub struct LengthAnswer {
+    answer: u8,
+    length: u64,
+}
+
+#[repr(C)]
+pub struct Outcome {
+    answer: u8,
+    gives: bool,
+    message: [u8; 36],
+    delivers: bool,
+    declaration: [u8; 20],
+}
+
+#[repr(C)]
+pub struct Written {
+    answer: u8,
+    message: [u8; 36],
+}
+
+#[repr(C)]
+pub struct ReadAnswer {
+    answer: u8,
+    kind: u8,
+    season: u32,
+    sender: u8,
+    number: u8,
+    declaration: [u8; 20],
+}
+
+#[repr(C)]
+pub struct WaitingAnswer {
+    answer: u8,
+    waits: bool,
+    number: u8,
+    sender: u8,
+}
+
+fn outcome(got: reference::Outcome) -> Outcome {
+    Outcome {
+        answer: got.answer,
+        gives: got.message.is_some(),
+        message: got.message.unwrap_or([0; 36]),
+        delivers: got.delivery.is_some(),
+        declaration: got.delivery.unwrap_or([0; 20]),
+    }
+}
+
+#[unsafe(no_mangle)]
+extern "C" fn gm_length(n: u32, s: u32) -> LengthAnswer {
+    let (answer, length) = reference::length(n, s);
+    LengthAnswer {
+        answer,
+        length: length as u64,
+    }
+}
+
+#[unsafe(no_mangle)]
+unsafe extern "C" fn gm_open(
+    book: *mut u8,
+    len: usize,
+    n: u32,
+    s: u32,
+    own: u32,
+    season: u32,
+    sheet: *const u8,
+    sheet_len: usize,
+) -> u8 {
+    let (book, sheet) = unsafe {
+        (
+            from_raw_parts_mut(book, len),
+            from_raw_parts(sheet, sheet_len),
+        )
+    };
+    reference::open(book, n, s, own, season, sheet)
+}
+
+#[unsafe(no_mangle)]
+unsafe extern "C" fn gm_publish(
+    book: *mut u8,
+    len: usize,
+    number: u32,
+    declaration: &[u8; 20],
+) -> Outcome {
+    outcome(reference::publish(
+        unsafe { from_raw_parts_mut(book, len) },
+        number,
+        declaration,
+    ))
+}
+
+#[unsafe(no_mangle)]
+unsafe extern "C" fn gm_receive(
+    book: *mut u8,
+    len: usize,
+    house: u32,
+    message: *const u8,
+    message_len: usize,
+) -> Outcome {
+    let (book, message) = unsafe {
+        (
+            from_raw_parts_mut(book, len),
+            from_raw_parts(message, message_len),
+        )
+    };
+    outcome(reference::receive(book, house, message))
+}
+
+#[unsafe(no_mangle)]
+unsafe extern "C" fn gm_waiting(book: *const u8, len: usize) -> WaitingAnswer {
+    let got = reference::waiting(unsafe { from_raw_parts(book, len) });
+    let (number, sender) = got
+        .entry
+        .map_or((0, 0), |entry| (entry.number, entry.sender));
+    WaitingAnswer {
+        answer: got.answer,
+        waits: got.entry.is_some(),
+        number,
+        sender,
+    }
+}
+
+#[unsafe(no_mangle)]
+unsafe extern "C" fn gm_judge(sheet: *const u8, sheet_len: usize, declaration: &[u8; 20]) -> u8 {
+    reference::judge(unsafe { from_raw_parts(sheet, sheet_len) }, declaration)
+}
+
+#[unsafe(no_mangle)]
+extern "C" fn gm_write(
+    kind: u8,
+    season: u32,
+    sender: u8,
+    number: u8,
+    declaration: &[u8; 20],
+) -> Written {
+    let got = reference::write(kind, season, sender, number, declaration);
+    Written {
+        answer: got.answer,
+        message: got.message.unwrap_or([0; 36]),
+    }
+}
+
+#[unsafe(no_mangle)]
+unsafe extern "C" fn gm_read(message: *const u8, message_len: usize) -> ReadAnswer {
+    let got = reference::read(unsafe { from_raw_parts(message, message_len) });
+    got.message.map_or(
+        ReadAnswer {
+            answer: got.answer,
+            kind: 0,
+            season: 0,
+            sender: 0,
+            number: 0,
+            declaration: [0; 20],
+        },
+        |read| ReadAnswer {
+            answer: got.answer,
+            kind: read.kind as u8,
+            season: read.season,
+            sender: read.sender,
+            number: read.number,
+            declaration: read.declaration,
+        },
+    )
+}
