@@ -1,0 +1,97 @@
+//! The checks, in the order in which they run: those that count out their cases, and those that draw them.
+
+use crate::linked::Linked;
+use crate::{drawn, edges};
+use reference::testing::both::Both;
+use reference::testing::{books, openings, pairs, readings, refusals, rows, scheduler, trips};
+use reference::Reference;
+
+/// The proved library and the ordinary one.
+pub type Pair = Both<Linked, Reference>;
+
+/// A name, and a check that takes a seed and how large it is to be.
+pub type Check = (&'static str, fn(&mut Pair, u64, usize));
+
+/// Checks that are the same at any size; the seed is for noise.
+pub const COUNTED: [Check; 14] = [
+    ("the rows and run cases of document 01", |pair, _, _| {
+        rows::card(pair);
+        rows::judged(pair);
+        rows::messages(pair);
+        assert_eq!(rows::copies(pair, &[]), 36, "four honest houses");
+        assert_eq!(rows::copies(pair, &[3]), 28, "three honest houses");
+    }),
+    ("each pair of errors", |pair, _, _| {
+        pairs::receiving(pair);
+        pairs::publishing(pair);
+        pairs::opening(pair);
+        pairs::judging(pair);
+    }),
+    ("the attack of two wrong houses of four", |pair, _, _| {
+        assert_eq!(scheduler::directed_disagreement(pair), [2]);
+    }),
+    ("lengths of books", |pair, _, _| openings::lengths(pair)),
+    ("all sizes", |pair, _, _| edges::sizes(pair)),
+    ("foreign numbers", |pair, _, _| edges::strangers(pair)),
+    ("messages of every length", |pair, seed, _| {
+        edges::messages(pair, seed);
+    }),
+    ("what reading refuses", |pair, seed, _| {
+        trips::malformed(pair, seed);
+    }),
+    ("books that are not legal", |pair, _, _| {
+        books::illegal_books(pair);
+    }),
+    ("every bit of a book", |pair, seed, _| {
+        edges::damaged_books(pair, seed);
+    }),
+    ("products", |pair, _, _| readings::products(pair)),
+    ("NaN of every kind", |pair, seed, _| edges::nans(pair, seed)),
+    ("edge readings and limits", |pair, _, _| {
+        readings::at_open_gates(pair);
+        readings::at_limits(pair);
+        readings::sheets(pair);
+    }),
+    ("declarations counted apart", |pair, _, _| {
+        readings::counted_apart(pair);
+    }),
+];
+
+/// Checks that draw their cases: more with a larger size.
+pub const DRAWN: [Check; 9] = [
+    ("calls on any legal book", |pair, seed, scale| {
+        refusals::calls(pair, seed, 100 + 100 * scale);
+    }),
+    ("damaged books", |pair, seed, scale| {
+        drawn::damaged_books(pair, seed, 100 * scale);
+    }),
+    ("judging at edges", |pair, seed, scale| {
+        drawn::judging(pair, seed, 2_000 * scale);
+    }),
+    ("noise", |pair, seed, scale| {
+        books::noise(pair, seed, 500 * scale);
+    }),
+    ("openings", |pair, seed, scale| {
+        openings::openings(pair, seed, 200 + 200 * scale);
+    }),
+    ("the earliest waiting entry", |pair, seed, scale| {
+        books::waiting(pair, seed, 200 * scale);
+    }),
+    ("round trips", |pair, seed, scale| {
+        trips::round(pair, seed, 500 * scale);
+    }),
+    ("whole seasons", seasons),
+    ("two wrong houses of four disagree", |pair, seed, scale| {
+        let found = scheduler::disagreements(pair, seed, 25 * scale as u64);
+        assert!(found > 0, "no disagreement was found");
+    }),
+];
+
+/// Seasons with up to seven houses, and some with more.
+fn seasons(pair: &mut Pair, seed: u64, scale: usize) {
+    for n in 1..=7 {
+        for s in [1, 2, 4] {
+            scheduler::seasons(pair, seed, n, s, scale as u64);
+        }
+    }
+}
