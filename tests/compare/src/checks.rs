@@ -1,7 +1,7 @@
 //! The checks, in the order in which they run: those that count out their cases, and those that draw them.
 
 use crate::linked::Linked;
-use crate::{drawn, edges};
+use crate::{drawn, edges, entries};
 use reference::testing::both::Both;
 use reference::testing::{books, openings, pairs, readings, refusals, rows, scheduler, trips};
 use reference::Reference;
@@ -13,7 +13,7 @@ pub type Pair = Both<Linked, Reference>;
 pub type Check = (&'static str, fn(&mut Pair, u64, usize));
 
 /// Checks that are the same at any size; the seed is for noise.
-pub const COUNTED: [Check; 14] = [
+pub const COUNTED: [Check; 15] = [
     ("the rows and run cases of document 01", |pair, _, _| {
         rows::card(pair);
         rows::judged(pair);
@@ -45,6 +45,9 @@ pub const COUNTED: [Check; 14] = [
     ("every bit of a book", |pair, seed, _| {
         edges::damaged_books(pair, seed);
     }),
+    ("every state of one entry", |pair, seed, _| {
+        entries::states(pair, seed, 5);
+    }),
     ("products", |pair, _, _| readings::products(pair)),
     ("NaN of every kind", |pair, seed, _| edges::nans(pair, seed)),
     ("edge readings and limits", |pair, _, _| {
@@ -58,40 +61,43 @@ pub const COUNTED: [Check; 14] = [
 ];
 
 /// Checks that draw their cases: more with a larger size.
-pub const DRAWN: [Check; 9] = [
+pub const DRAWN: [Check; 10] = [
     ("calls on any legal book", |pair, seed, scale| {
-        refusals::calls(pair, seed, 100 + 100 * scale);
+        refusals::calls(pair, seed, 200 * scale);
     }),
     ("damaged books", |pair, seed, scale| {
-        drawn::damaged_books(pair, seed, 100 * scale);
+        drawn::damaged_books(pair, seed, 200 * scale);
     }),
     ("judging at edges", |pair, seed, scale| {
-        drawn::judging(pair, seed, 2_000 * scale);
+        drawn::judging(pair, seed, 4_000 * scale);
     }),
     ("noise", |pair, seed, scale| {
         books::noise(pair, seed, 500 * scale);
     }),
     ("openings", |pair, seed, scale| {
-        openings::openings(pair, seed, 200 + 200 * scale);
+        openings::openings(pair, seed, 300 * scale);
     }),
     ("the earliest waiting entry", |pair, seed, scale| {
-        books::waiting(pair, seed, 200 * scale);
+        books::waiting(pair, seed, 300 * scale);
     }),
     ("round trips", |pair, seed, scale| {
         trips::round(pair, seed, 500 * scale);
     }),
-    ("whole seasons", seasons),
+    ("seasons of up to seven houses", |pair, seed, scale| {
+        for (n, s) in (1..=7).flat_map(|n| (1..=4).map(move |s| (n, s))) {
+            let of_wrong = scheduler::seasons(pair, seed, n, s, 2 * scale as u64);
+            let took_part = n < 4 || s * 2 * (scale as u8) < 16 || of_wrong > 0;
+            assert!(took_part, "no wrong sender was ever delivered at n = {n}");
+        }
+    }),
+    ("seasons of up to sixteen houses", |pair, seed, scale| {
+        for n in 8..=16 {
+            let s = 1 + (seed.wrapping_add(u64::from(n)) % 4) as u8;
+            scheduler::seasons(pair, seed, n, s, scale.div_ceil(8) as u64);
+        }
+    }),
     ("two wrong houses of four disagree", |pair, seed, scale| {
-        let found = scheduler::disagreements(pair, seed, 25 * scale as u64);
+        let found = scheduler::disagreements(pair, seed, 50 * scale as u64);
         assert!(found > 0, "no disagreement was found");
     }),
 ];
-
-/// Seasons with up to seven houses, and some with more.
-fn seasons(pair: &mut Pair, seed: u64, scale: usize) {
-    for n in 1..=7 {
-        for s in [1, 2, 4] {
-            scheduler::seasons(pair, seed, n, s, scale as u64);
-        }
-    }
-}

@@ -8,6 +8,7 @@
 mod checks;
 mod drawn;
 mod edges;
+mod entries;
 mod linked;
 mod pipe;
 
@@ -22,7 +23,7 @@ use std::time::{Duration, Instant};
 const SEED: u64 = 2026;
 
 /// How large a round of the gate is, and a round of the long run.
-const GATE: usize = 4;
+const GATE: usize = 8;
 const ROUND: usize = 1;
 
 fn main() {
