@@ -2,7 +2,7 @@
 # The proved library against document 01 in ordinary Rust, call by call: says how many calls were compared, and all
 # that was said where one differs. COMPARE_TIMES=1 shows each check with its calls and its time.
 set -uo pipefail
-cd "$(dirname "${BASH_SOURCE[0]}")/.."
+cd "$(dirname "${BASH_SOURCE[0]}")/.." || exit 1
 
 if ! bash tests/compare/build; then
     echo 'compare: not built'
