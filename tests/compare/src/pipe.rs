@@ -2,9 +2,9 @@
 
 use reference::{Declaration, DECLARATION};
 use std::io::{BufReader, Read, Write};
-use std::process::{Child, ChildStdin, ChildStdout, Command, Stdio};
+use std::process::{Child, ChildStdin, ChildStdout, Command, ExitStatus, Stdio};
 use std::sync::atomic::{AtomicU64, Ordering};
-use std::sync::Arc;
+use std::sync::{Arc, Mutex};
 use std::time::Duration;
 
 /// The eight calls, under the driver's numbers.
@@ -38,7 +38,7 @@ const PATIENCE: Duration = Duration::from_secs(30);
 
 /// The driver, kept open.
 pub struct Pipe {
-    child: Child,
+    child: Arc<Mutex<Child>>,
     to: Option<ChildStdin>,
     from: BufReader<ChildStdout>,
     calls: u32,
@@ -47,15 +47,19 @@ pub struct Pipe {
     turns: Arc<AtomicU64>,
 }
 
-/// Ends everything where a reply is not whole for so long: a short one would be waited for without end.
-fn watch(turns: Arc<AtomicU64>) {
+/// Ends the driver where a reply is not whole for so long: a short one would be waited for without end, and
+/// a call that hangs too.
+fn watch(turns: &AtomicU64, child: &Mutex<Child>) {
     let mut before = 0;
     loop {
         std::thread::sleep(PATIENCE);
         let now = turns.load(Ordering::Relaxed);
         if now == before && now % 2 == 1 {
             eprintln!("the driver: no whole reply to request {}", now / 2);
-            std::process::exit(1);
+            if let Ok(mut child) = child.lock() {
+                child.kill().expect("the driver can be ended");
+            }
+            return;
         }
         before = now;
     }
@@ -75,11 +79,13 @@ impl Pipe {
         }
         let mut child = command.spawn().expect("the driver starts");
         let from = child.stdout.take().expect("a pipe from the driver");
+        let to = child.stdin.take();
         let turns = Arc::new(AtomicU64::new(0));
-        let watched = turns.clone();
-        std::thread::spawn(move || watch(watched));
+        let child = Arc::new(Mutex::new(child));
+        let watched = (turns.clone(), child.clone());
+        std::thread::spawn(move || watch(&watched.0, &watched.1));
         Pipe {
-            to: child.stdin.take(),
+            to,
             from: BufReader::with_capacity(1 << 17, from),
             child,
             calls: 0,
@@ -135,20 +141,26 @@ impl Pipe {
 
     /// The driver is no longer there, or about to go.
     fn gone(&mut self, how: &str) -> ! {
+        panic!("the driver: {how}; {}", self.wait());
+    }
+
+    /// How the driver ends, with nothing more to take.
+    fn wait(&mut self) -> ExitStatus {
         self.to = None;
-        let end = self.child.wait().expect("the driver's end");
-        panic!("the driver: {how}; {end}");
+        let mut child = self.child.lock().expect("the driver");
+        child.wait().expect("the driver's end")
     }
 
     /// Ends the driver: it has nothing more to say, and ends well.
     pub fn end(&mut self) {
+        self.turns.fetch_add(1, Ordering::Relaxed);
         self.to = None;
         let mut rest = vec![];
         self.from
             .read_to_end(&mut rest)
             .expect("the end of the pipe");
         assert!(rest.is_empty(), "the driver said more than it was asked");
-        let end = self.child.wait().expect("the driver's end");
+        let end = self.wait();
         assert!(end.success(), "the driver: {end}");
     }
 }
@@ -162,7 +174,10 @@ impl Drop for Pipe {
         let (head, rest) = self.request.split_at(45);
         let length = u32::from_be_bytes([head[37], head[38], head[39], head[40]]) as usize;
         let (book, bytes) = rest.split_at(length);
-        eprintln!("the last request, number {}: {head:02X?}", self.calls);
+        eprintln!(
+            "the last request, after {} replies: {head:02X?}",
+            self.calls
+        );
         eprintln!(
             "  a book of {length} bytes: {:02X?} ..",
             &book[..length.min(29)]
