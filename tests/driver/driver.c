@@ -175,7 +175,9 @@ int main(void)
     for (u32 calls = 0; take(head, HEAD, 1); calls++) {
         u32 x[4];
         for (int i = 0; i < 4; i++) x[i] = number_at(head + 1 + 4 * i);
-        lent declaration = lend(0, DECLARATION), book = lend(1, number_at(head + 37)), bytes = lend(2, number_at(head + 41));
+        lent declaration = lend(0, DECLARATION);
+        lent book = lend(1, number_at(head + 37));
+        lent bytes = lend(2, number_at(head + 41));
         memcpy(declaration.at, head + 17, DECLARATION);
         take(book.at, book.length, 0);
         take(bytes.at, bytes.length, 0);

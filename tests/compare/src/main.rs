@@ -45,7 +45,7 @@ fn pair(words: &[String]) -> Pair {
     }
 }
 
-/// Says which check it was and how to repeat it, where one panics.
+/// Says which check it was and with which seed, where one panics.
 struct Running {
     name: &'static str,
     seed: u64,
