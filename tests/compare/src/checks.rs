@@ -1,0 +1,107 @@
+//! The checks, in the order in which they run: those that count out their cases, and those that draw them.
+
+use crate::linked::Linked;
+use crate::{drawn, edges, entries};
+use reference::testing::both::Both;
+use reference::testing::{books, openings, pairs, readings, refusals, rows, scheduler, trips};
+use reference::Reference;
+
+/// The proved library and the ordinary one.
+pub type Pair = Both<Linked, Reference>;
+
+/// A name, and a check that takes a seed and how large it is to be.
+pub type Check = (&'static str, fn(&mut Pair, u64, usize));
+
+/// Checks that are the same at any size; the seed is for noise.
+pub const COUNTED: [Check; 15] = [
+    ("the rows and run cases of document 01", |pair, _, _| {
+        rows::card(pair);
+        rows::judged(pair);
+        rows::messages(pair);
+        assert_eq!(rows::copies(pair, &[]), 36, "four honest houses");
+        assert_eq!(rows::copies(pair, &[3]), 28, "three honest houses");
+    }),
+    ("each pair of errors", |pair, _, _| {
+        pairs::receiving(pair);
+        pairs::publishing(pair);
+        pairs::opening(pair);
+        pairs::judging(pair);
+    }),
+    ("the attack of two wrong houses of four", |pair, _, _| {
+        assert_eq!(scheduler::directed_disagreement(pair), [2]);
+    }),
+    ("lengths of books", |pair, _, _| openings::lengths(pair)),
+    ("all sizes", |pair, _, _| edges::sizes(pair)),
+    ("foreign numbers", |pair, _, _| edges::strangers(pair)),
+    ("messages of every length", |pair, seed, _| {
+        edges::messages(pair, seed);
+    }),
+    ("what reading refuses", |pair, seed, _| {
+        trips::malformed(pair, seed);
+    }),
+    ("books that are not legal", |pair, _, _| {
+        books::illegal_books(pair);
+    }),
+    ("every bit of a book", |pair, seed, _| {
+        edges::damaged_books(pair, seed);
+    }),
+    ("every state of one entry", |pair, seed, _| {
+        entries::states(pair, seed, 5);
+    }),
+    ("products", |pair, _, _| readings::products(pair)),
+    ("NaN of every kind", |pair, seed, _| edges::nans(pair, seed)),
+    ("edge readings and limits", |pair, _, _| {
+        readings::at_open_gates(pair);
+        readings::at_limits(pair);
+        readings::sheets(pair);
+    }),
+    ("declarations counted apart", |pair, _, _| {
+        readings::counted_apart(pair);
+    }),
+];
+
+/// Checks that draw their cases: more with a larger size.
+pub const DRAWN: [Check; 10] = [
+    ("calls on any legal book", |pair, seed, scale| {
+        refusals::calls(pair, seed, 200 * scale);
+    }),
+    ("damaged books", |pair, seed, scale| {
+        drawn::damaged_books(pair, seed, 200 * scale);
+    }),
+    ("judging at edges", |pair, seed, scale| {
+        drawn::judging(pair, seed, 4_000 * scale);
+    }),
+    ("noise", |pair, seed, scale| {
+        books::noise(pair, seed, 500 * scale);
+    }),
+    ("openings", |pair, seed, scale| {
+        openings::openings(pair, seed, 300 * scale);
+    }),
+    ("the earliest waiting entry", |pair, seed, scale| {
+        books::waiting(pair, seed, 300 * scale);
+    }),
+    ("round trips", |pair, seed, scale| {
+        trips::round(pair, seed, 500 * scale);
+    }),
+    ("seasons of up to seven houses", |pair, seed, scale| {
+        let mut of_wrong = 0;
+        for (n, s) in (1..=7).flat_map(|n| (1..=4).map(move |s| (n, s))) {
+            of_wrong += scheduler::seasons(pair, seed, n, s, 2 * scale as u64);
+        }
+        assert!(of_wrong > 0, "no wrong sender was ever delivered");
+    }),
+    ("seasons of up to sixteen houses", |pair, seed, scale| {
+        for n in 8..=16 {
+            let s = 1 + (seed.wrapping_add(u64::from(n)) % 4) as u8;
+            scheduler::seasons(pair, seed, n, s, scale.div_ceil(8) as u64);
+        }
+    }),
+    ("two wrong houses of four disagree", |pair, seed, scale| {
+        let seasons = (50 * scale).max(ENOUGH_TO_DISAGREE);
+        let found = scheduler::disagreements(pair, seed, seasons as u64);
+        assert!(found > 0, "no disagreement was found");
+    }),
+];
+
+/// Of so many seasons about 25 show a disagreement, whatever the seed; of fifty at times none does.
+const ENOUGH_TO_DISAGREE: usize = 400;

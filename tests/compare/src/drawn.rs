@@ -1,0 +1,138 @@
+//! Judging at edges drawn at random, and legal books with one thing damaged: what the two libraries say of
+//! them has to be the same, whatever it is.
+
+use reference::testing::forms::{
+    declaration, fresh_book, message, random_book, random_pool, random_reading, SEASON,
+};
+use reference::testing::random::Random;
+use reference::Library;
+
+/// A cap, colonies and kilograms whose product is near the kilograms, near 2^32 or near 2^64.
+fn near_product(random: &mut Random) -> [u32; 3] {
+    let a = match random.below(4) {
+        0 => u32::MAX - random.below(3) as u32,
+        1 => 1 << random.below(32),
+        2 => 1 + random.below(100_000) as u32,
+        _ => random.word().max(1),
+    };
+    let full = (1u64 << 32) / u64::from(a);
+    let b = match random.below(4) {
+        0 => (full + random.below(3) as u64).saturating_sub(1) as u32,
+        1 => u32::MAX - random.below(3) as u32,
+        2 => random.below(70_000) as u32,
+        _ => random.word(),
+    };
+    let product = u64::from(a) * u64::from(b);
+    let near = (random.below(3) as u32).wrapping_sub(1);
+    let kilograms = match random.below(4) {
+        0 => random.word(),
+        1 => product.min(u64::from(u32::MAX)) as u32,
+        _ => (product as u32).wrapping_add(near),
+    };
+    [a, b, kilograms]
+}
+
+/// A gate's nine bytes, its limits near this reading; at times in no legal form.
+fn near_gate(random: &mut Random, reading: u32) -> [u8; 9] {
+    let mut limit = || match random.below(4) {
+        0 => random_reading(random),
+        1 => reading ^ 0x8000_0000,
+        _ => reading.wrapping_add(random.below(5) as u32).wrapping_sub(2),
+    };
+    let (low, high) = (limit(), limit());
+    let (kind, low, high) = match random.below(16) {
+        0..=2 => (0, 0, 0),
+        3..=6 => (1, 0, high),
+        7..=14 if f32::from_bits(low) > f32::from_bits(high) => (2, high, low),
+        7..=14 => (2, low, high),
+        _ => (random.below(4) as u8, low, high),
+    };
+    let mut gate = [kind; 9];
+    gate[1..5].copy_from_slice(&low.to_be_bytes());
+    gate[5..].copy_from_slice(&high.to_be_bytes());
+    gate
+}
+
+/// A reading near an edge: of the subnormals, of the zeros, of the infinities; or a NaN; or any.
+fn edge(random: &mut Random) -> u32 {
+    let near = [0, 0x0080_0000, 0x3F80_0000, 0x7F80_0000, 0x7FC0_0000];
+    let sign = (random.below(2) as u32) << 31;
+    match random.below(3) {
+        0 => random_reading(random),
+        1 => random.word() & 0x00FF_FFFF | sign,
+        _ => {
+            let place = random.pick(&near) + 2;
+            (place + random.below(5) as u32).wrapping_sub(4) ^ sign
+        }
+    }
+}
+
+/// Judges at edges; and in some rounds publishes and receives what was judged.
+pub fn judging(library: &mut impl Library, seed: u64, rounds: usize) {
+    let mut random = Random::new(seed);
+    let mut answers = [0usize; 12];
+    for _ in 0..rounds {
+        let [cap, colonies, kilograms] = near_product(&mut random);
+        let readings = [0, 1].map(|_| edge(&mut random));
+        let mut sheet = [0; 22];
+        sheet[..4].copy_from_slice(&cap.to_be_bytes());
+        for (place, reading) in sheet[4..].chunks_exact_mut(9).zip(readings) {
+            place.copy_from_slice(&near_gate(&mut random, reading));
+        }
+        let v = declaration(random.word(), colonies, kilograms, readings);
+        let judged = library.judge(&sheet, &v);
+        answers[usize::from(judged)] += 1;
+        if random.chance(1, 4) {
+            let mut book = fresh_book(1, 1, 0, SEASON, &sheet);
+            let expected = if judged == 10 { 1 } else { judged };
+            let published = library.publish(&mut book, 0, &v).answer;
+            let send = message(1, SEASON, 0, 0, &v);
+            let received = library.receive(&mut book, 0, &send).answer;
+            assert_eq!([published, received], [expected; 2], "as it is judged");
+        }
+    }
+    let seen = [0, 5, 10].iter().all(|&answer| answers[answer] > 0);
+    assert!(seen, "too few rounds to tell: {answers:?}");
+}
+
+/// A legal book with one bit flipped, cut, lengthened, or with two pieces exchanged.
+fn damaged(random: &mut Random, book: &[u8]) -> Vec<u8> {
+    let mut book = book.to_vec();
+    let place = random.below(book.len());
+    match random.below(8) {
+        0 => book.truncate(place),
+        1 => book.truncate(book.len() - 1),
+        2 => {
+            let more = 1 + random.below(64);
+            book.extend(random.bytes(more));
+        }
+        3 => book.rotate_left(1 + place % 21),
+        4 => book[place % 29] ^= 1 << random.below(8),
+        5 => {
+            let slot = 29 + (place - place % 21) % (book.len() - 29);
+            let presence = random.pick(&[0, 1, 2, 255]);
+            book[slot] = presence;
+        }
+        _ => book[place] ^= 1 << random.below(8),
+    }
+    book
+}
+
+/// Legal books, reachable or not, each damaged in several ways.
+pub fn damaged_books(library: &mut impl Library, seed: u64, books: usize) {
+    let mut random = Random::new(seed);
+    for _ in 0..books {
+        let pool = random_pool(&mut random);
+        let book = random_book(&mut random, &pool);
+        let season = u32::from_be_bytes([book[3], book[4], book[5], book[6]]);
+        for _ in 0..4 {
+            let mut book = damaged(&mut random, &book);
+            let v = random.pick(&pool);
+            let [sender, number, kind] = [3, 2, 3].map(|most| random.below(most) as u8);
+            let bytes = message(1 + kind, season, sender, number, &v);
+            library.waiting(&book);
+            library.publish(&mut book, u32::from(number), &v);
+            library.receive(&mut book, u32::from(sender), &bytes);
+        }
+    }
+}

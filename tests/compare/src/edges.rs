@@ -1,0 +1,207 @@
+//! Every size, every length, every bit and every foreign number, where they can be counted out.
+
+use reference::testing::forms::{
+    declaration, fresh_book, honey, message, open_sheet, sheet, OPEN, SEASON,
+};
+use reference::testing::random::Random;
+use reference::{Gate, Library};
+
+/// All 64 sizes: opened with each own number, in buffers that fit and that do not; then the last entry,
+/// from the publication to the delivery.
+pub fn sizes(library: &mut impl Library) {
+    for (n, s) in (1..=16).flat_map(|n| (1..=4).map(move |s| (n, s))) {
+        let (answer, length) = library.length(n, s);
+        assert_eq!(answer, 0, "the length of {n} and {s}");
+        let mut book = vec![];
+        for (own, buffer, expected) in (0..n)
+            .map(|own| (own, length, 0))
+            .chain([(n, length, 9), (0, length - 1, 11), (0, length + 1, 11)])
+            .chain([(0, 49_152, 11), (n - 1, length, 0)])
+        {
+            book = vec![0xEE; buffer];
+            let answer = library.open(&mut book, n, s, own, SEASON, &open_sheet());
+            assert_eq!(answer, expected, "opening {n} and {s} as {own}");
+        }
+        last_entry(library, &mut book, n, s);
+    }
+}
+
+/// The entry of the last sender and number in that sender's own book.
+fn last_entry(library: &mut impl Library, book: &mut [u8], n: u32, s: u32) {
+    let v = honey(77, 40, 800);
+    let bytes = |kind| message(kind, SEASON, n as u8 - 1, s as u8 - 1, &v);
+    let published = [0, 1].map(|_| library.publish(book, s - 1, &v).answer);
+    assert_eq!(published, [0, 8], "publishing twice at {n} and {s}");
+    let sends = [0, 1].map(|_| library.receive(book, n - 1, &bytes(1)).answer);
+    assert_eq!(sends, [0, 7], "a SEND twice at {n} and {s}");
+    let mut deliveries = 0;
+    for (kind, house) in [2, 3]
+        .iter()
+        .flat_map(|kind| (0..n).map(move |h| (kind, h)))
+    {
+        let outcome = library.receive(book, house, &bytes(*kind));
+        assert_eq!(outcome.answer, 0, "kind {kind} from {house} of {n}");
+        deliveries += usize::from(outcome.delivery.is_some());
+        let waits = library.waiting(book).entry.is_some();
+        assert_eq!(waits, deliveries == 0, "waiting until the delivery");
+    }
+    assert_eq!(deliveries, 1, "deliveries at {n} and {s}");
+}
+
+/// Numbers around every power of two, and all that a byte holds and some more.
+fn numbers() -> Vec<u32> {
+    let powers = (0..32).map(|k| 1u32 << k);
+    let around = powers.flat_map(|p| [p - 1, p, p + 1, u32::MAX - p, u32::MAX - p + 1]);
+    let mut all: Vec<u32> = (0..=300).chain(around).chain([u32::MAX]).collect();
+    all.sort_unstable();
+    all.dedup();
+    all
+}
+
+/// "House number, sender or entry number not in the book", up to the largest; and n, S and own number.
+pub fn strangers(library: &mut impl Library) {
+    let v = honey(77, 40, 800);
+    let book = fresh_book(4, 2, 1, SEASON, &open_sheet());
+    for number in numbers() {
+        for kind in 1..=3 {
+            let sender = if number < 4 { number as u8 } else { 3 };
+            let bytes = message(kind, SEASON, sender, 1, &v);
+            let answer = library.receive(&mut book.clone(), number, &bytes).answer;
+            assert_eq!(answer, if number < 4 { 0 } else { 4 }, "house {number}");
+        }
+        let answer = library.publish(&mut book.clone(), number, &v).answer;
+        assert_eq!(answer, if number < 2 { 0 } else { 4 }, "number {number}");
+        for [n, s, own] in [[number, 2, 0], [4, number, 0], [4, 2, number]] {
+            library.length(n, s);
+            library.open(&mut book.clone(), n, s, own, number, &open_sheet());
+        }
+    }
+    for byte in 0..=255 {
+        for (sender, number) in [(byte, 1), (1, byte), (byte, byte)] {
+            let bytes = message(2, SEASON, sender, number, &v);
+            let answer = library.receive(&mut book.clone(), 0, &bytes).answer;
+            let there = sender < 4 && number < 2;
+            assert_eq!(answer, if there { 0 } else { 4 }, "{sender} and {number}");
+        }
+    }
+}
+
+/// Messages of every length 0 to 64 and some longer, cut or lengthened with zeros, noise and a second
+/// message, by reader and receiver; and every other byte in every place, of every kind.
+pub fn messages(library: &mut impl Library, seed: u64) {
+    let mut random = Random::new(seed);
+    let book = fresh_book(4, 2, 1, SEASON, &open_sheet());
+    let lengths = (0..=64).chain([72, 100, 255, 256, 292, 1_000, 65_000]);
+    for (kind, length) in (1..=3).flat_map(|kind| lengths.clone().map(move |l| (kind, l))) {
+        let whole = message(kind, SEASON, 2, 1, &honey(77, 40, 800));
+        let noise = random.bytes(length);
+        for more in [&vec![0; length], &noise, &whole.repeat(length / 36 + 1)] {
+            let mut bytes = whole.to_vec();
+            bytes.extend(more);
+            bytes.truncate(length);
+            let expected = if length == 36 { 0 } else { 2 };
+            assert_eq!(library.read(&bytes).answer, expected, "{length} bytes");
+            let received = library.receive(&mut book.clone(), 2, &bytes);
+            assert_eq!(received.answer, expected, "{length} bytes");
+        }
+        library.read(&noise);
+        library.receive(&mut book.clone(), 2, &noise);
+    }
+    for (place, change) in (0..36).flat_map(|place| (1..=255).map(move |change| (place, change))) {
+        let mut bytes = message(random.pick(&[1, 2, 3]), SEASON, 2, 1, &honey(77, 40, 800));
+        bytes[place] ^= change;
+        library.receive(&mut book.clone(), 2, &bytes);
+    }
+}
+
+/// The three calls that take a book, on these bytes.
+fn on_book(library: &mut impl Library, random: &mut Random, book: &[u8]) {
+    let v = honey(77, 40, 800);
+    let kind = random.pick(&[1, 2, 3]);
+    let season = book.get(3..7).map_or(SEASON, |season| {
+        u32::from_be_bytes(season.try_into().expect("four bytes"))
+    });
+    library.publish(&mut book.to_vec(), 0, &v);
+    library.receive(&mut book.to_vec(), 0, &message(kind, season, 0, 0, &v));
+    library.waiting(book);
+}
+
+/// A small book, half full, with every bit flipped and with every byte at 0, 2 and 255; cut to every
+/// length; and lengthened, with zeros and with noise.
+pub fn damaged_books(library: &mut impl Library, seed: u64) {
+    let mut random = Random::new(seed);
+    let gates = [Gate::AtMost(20.0), Gate::Between(-0.0, 2.0)];
+    let mut book = fresh_book(1, 1, 0, SEASON, &sheet(20, gates[0], gates[1]));
+    for slot in book[29..].chunks_exact_mut(21).step_by(2) {
+        slot[0] = 1;
+        slot[1..].copy_from_slice(&honey(77, 40, 799));
+    }
+    for place in 0..book.len() {
+        let bits = (0..8).map(|bit| book[place] ^ 1 << bit);
+        for byte in bits.chain([0, 2, 255]) {
+            let mut other = book.clone();
+            other[place] = byte;
+            on_book(library, &mut random, &other);
+        }
+        on_book(library, &mut random, &book[..place]);
+    }
+    for more in (1..=64).chain([1_000, 65_000]) {
+        for tail in [vec![0; more], random.bytes(more)] {
+            on_book(library, &mut random, &[&book[..], &tail].concat());
+        }
+    }
+}
+
+/// NaNs of both signs, quiet and signalling, with every bit of the payload: as readings, judged,
+/// published, received, read and written; and as limits. The infinities are among them.
+pub fn nans(library: &mut impl Library, seed: u64) {
+    let mut random = Random::new(seed);
+    let payloads = (0..23).map(|bit| 1u32 << bit);
+    let more = [0, 0x003F_FFFF, 0x007F_FFFF, random.word() >> 9 | 1];
+    let usual = [17.5f32.to_bits(), 0.5f32.to_bits()];
+    for payload in payloads.chain(more) {
+        for bits in [0x7F80_0000 | payload, 0xFF80_0000 | payload] {
+            for readings in [[bits, usual[1]], [usual[0], bits], [bits, bits]] {
+                as_readings(library, &declaration(77, 40, 800, readings));
+            }
+            let limit = f32::from_bits(bits);
+            for gate in [Gate::AtMost(limit), Gate::Between(limit, limit)] {
+                as_limit(library, gate);
+            }
+            as_limit(library, Gate::Between(limit, 1.0));
+            as_limit(library, Gate::Between(1.0, limit));
+        }
+    }
+}
+
+/// A declaration that no gate lets through, and that is read and written unchanged.
+fn as_readings(library: &mut impl Library, v: &[u8; 20]) {
+    let wide = Gate::Between(f32::MIN, f32::MAX);
+    for gate in [OPEN, Gate::AtMost(f32::MAX), wide] {
+        let sheet = sheet(20, gate, gate);
+        assert_eq!(library.judge(&sheet, v), 5, "{v:02X?}");
+        let mut book = fresh_book(4, 1, 0, SEASON, &sheet);
+        assert_eq!(library.publish(&mut book, 0, v).answer, 5, "{v:02X?}");
+        for kind in 1..=3 {
+            let bytes = message(kind, SEASON, 2, 0, v);
+            assert_eq!(library.receive(&mut book, 2, &bytes).answer, 5, "{v:02X?}");
+            let read = library.read(&bytes).message.expect("a message");
+            assert_eq!(read.declaration, *v, "read unchanged");
+            let written = library.write(kind, SEASON, 2, 0, v);
+            assert_eq!(written.message, Some(bytes), "written unchanged");
+        }
+    }
+}
+
+/// A gate that makes no legal sheet, in both places, and no legal book.
+fn as_limit(library: &mut impl Library, gate: Gate) {
+    let v = honey(77, 40, 800);
+    for sheet in [sheet(20, gate, OPEN), sheet(20, OPEN, gate)] {
+        assert_eq!(library.judge(&sheet, &v), 10, "{gate:?}");
+        let mut book = fresh_book(1, 1, 0, SEASON, &sheet);
+        assert_eq!(library.publish(&mut book, 0, &v).answer, 1, "{gate:?}");
+        assert_eq!(library.waiting(&book).answer, 1, "{gate:?}");
+        let answer = library.open(&mut book, 1, 1, 0, SEASON, &sheet);
+        assert_eq!(answer, 10, "{gate:?}");
+    }
+}

@@ -1,0 +1,71 @@
+//! Every state of one entry that counts for a message: reachable or not, with all that may come of it.
+
+use reference::testing::forms::{declaration, fresh_book, message, open_sheet, SEASON};
+use reference::testing::random::Random;
+use reference::{Declaration, Library};
+
+/// The entry's number and sender are the last ones, in a book with two numbers.
+const NUMBERS: u8 = 2;
+
+/// Three declarations: two plausible ones that differ in the sign of a zero, and one that no run records.
+fn three() -> [Declaration; 3] {
+    let with = |bits| declaration(77, 40, 800, [17.5f32.to_bits(), bits]);
+    [with(0x0000_0000), with(0x8000_0000), with(0x7FA0_0001)]
+}
+
+/// Up to so many houses: SENDs, ECHOes and READYs from each house on every state of the slots that they
+/// are counted by, each slot empty or with one of two declarations. The other slots are drawn.
+pub fn states(library: &mut impl Library, seed: u64, most: u8) {
+    let mut random = Random::new(seed);
+    let (mut given, mut delivered) = (0, 0);
+    for n in 1..=most {
+        let houses = usize::from(n);
+        let first = usize::from(NUMBERS) + (2 * houses - 1) * (2 * houses + 3);
+        let marks = [first + 2 * houses + 1, first + 2 * houses + 2];
+        let of_kind = [
+            vec![first],
+            (first + 1..=first + houses).collect(),
+            (first + 1 + houses..=first + 2 * houses).collect(),
+        ];
+        for (kind, slots) in (1..).zip(&of_kind) {
+            let counted = [&slots[..], &marks].concat();
+            for state in 0..3usize.pow(counted.len() as u32) {
+                let book = book(&mut random, n, first, &counted, state);
+                for house in 0..n {
+                    for v in &three()[..2] {
+                        let bytes = message(kind, SEASON, n - 1, NUMBERS - 1, v);
+                        let outcome = library.receive(&mut book.clone(), u32::from(house), &bytes);
+                        given += usize::from(outcome.message.is_some());
+                        delivered += usize::from(outcome.delivery.is_some());
+                    }
+                }
+                library.waiting(&book);
+            }
+        }
+    }
+    assert!(given > 0 && delivered > 0, "nothing came of any state");
+}
+
+/// A legal book whose counted slots are as this state says, and whose entry is else drawn.
+fn book(random: &mut Random, n: u8, first: usize, counted: &[usize], state: usize) -> Vec<u8> {
+    let mut book = fresh_book(n, NUMBERS, n - 1, SEASON, &open_sheet());
+    let of = three();
+    let other = 1 + random.below(2);
+    let mut put = |slot: usize, v: Option<&Declaration>| {
+        let slot = &mut book[29 + 21 * slot..][..21];
+        slot.fill(0);
+        if let Some(v) = v {
+            slot[0] = 1;
+            slot[1..].copy_from_slice(v);
+        }
+    };
+    for slot in first..first + 2 * usize::from(n) + 3 {
+        put(slot, of.get(random.below(5)));
+    }
+    let mut rest = state;
+    for &slot in counted {
+        put(slot, [None, Some(&of[0]), Some(&of[other])][rest % 3]);
+        rest /= 3;
+    }
+    book
+}

@@ -1,0 +1,201 @@
+// Makes the library's eight calls for a program at the other end of two pipes, until its input ends.
+//
+// A request is 45 bytes: the call (1), four numbers (4 each), a declaration (20), the lengths of the book and of
+// the bytes (4 each); then the book, then the bytes, which are a sheet or a message. A reply is the call (1), how
+// many calls came before it (4), the length of the answer (1), the answer field by field, and then the book, the
+// bytes and the declaration as they are afterwards. Numbers are big-endian. What a call does not take is not used.
+//
+// Each argument is lent with its last byte against a wall: to read or write behind it ends the program.
+
+// The kit has a C library and no headers for it.
+typedef unsigned char u8;
+typedef unsigned int u32;
+typedef unsigned long u64;
+long read(int file, void *to, u64 length);
+long write(int file, const void *from, u64 length);
+int mprotect(void *from, u64 length, int allowed);
+void *memcpy(void *to, const void *from, u64 length);
+void *memset(void *to, int byte, u64 length);
+void _exit(int status);
+
+// The structs of the library. A bool stands as a byte here, so that the other end sees any byte that is left in it.
+typedef struct { u8 answer; u64 length; } gm_length_answer;
+typedef struct { u8 answer, gives, message[36], delivers, declaration[20]; } gm_outcome;
+typedef struct { u8 answer, message[36]; } gm_written;
+typedef struct { u8 answer, kind; u32 season; u8 sender, number, declaration[20]; } gm_read_answer;
+typedef struct { u8 answer, waits, number, sender; } gm_waiting_answer;
+
+gm_length_answer gm_length(u32 n, u32 s);
+u8 gm_open(u8 *book, u64 length, u32 n, u32 s, u32 own, u32 season, const u8 *sheet, u64 sheet_length);
+gm_outcome gm_publish(u8 *book, u64 length, u32 number, const u8 *declaration);
+gm_outcome gm_receive(u8 *book, u64 length, u32 house, const u8 *message, u64 message_length);
+gm_waiting_answer gm_waiting(const u8 *book, u64 length);
+u8 gm_judge(const u8 *sheet, u64 sheet_length, const u8 *declaration);
+gm_written gm_write(u8 kind, u32 season, u8 sender, u8 number, const u8 *declaration);
+gm_read_answer gm_read(const u8 *message, u64 message_length);
+
+enum { LENGTH, OPEN, PUBLISH, RECEIVE, WAITING, JUDGE, WRITE, READ, CALLS };
+enum { BAD_REQUEST = 2, BAD_PIPE = 3, NO_WALL = 4, WROTE_BEFORE = 5 };
+enum { HEAD = 45, DECLARATION = 20, PAINT = 0xA5 };
+
+// A room is as long as the largest page of any machine, so that its wall is one page or several.
+enum { ROOM = 65536, MARGIN = 64, ROOMS = 3 };
+static u8 ground[(2 * ROOMS + 1) * ROOM];
+
+// An argument in its room: it ends at the wall, and stands behind a painted margin.
+typedef struct { u8 *at; u64 length; } lent;
+
+static lent lend(int room, u64 length)
+{
+    if (length > ROOM - MARGIN) _exit(BAD_REQUEST);
+    u8 *first = (u8 *)(((u64)ground + ROOM - 1) / ROOM * ROOM);
+    lent l = { first + (2 * room + 1) * ROOM - length, length };
+    memset(l.at - MARGIN, PAINT, MARGIN);
+    return l;
+}
+
+static void build_walls(void)
+{
+    for (int room = 0; room < ROOMS; room++)
+        if (mprotect(lend(room, 0).at, ROOM, 0) != 0) _exit(NO_WALL);
+}
+
+static void check_margin(lent l)
+{
+    for (int i = 1; i <= MARGIN; i++)
+        if (l.at[-i] != PAINT) _exit(WROTE_BEFORE);
+}
+
+// Takes so many bytes. Only before a request may the input end, and then 0 is given.
+static int take(u8 *to, u64 length, int may_end)
+{
+    for (u64 had = 0; had < length;) {
+        long got = read(0, to + had, length - had);
+        if (got == 0 && had == 0 && may_end) return 0;
+        if (got <= 0) _exit(BAD_PIPE);
+        had += got;
+    }
+    return 1;
+}
+
+// The reply as it grows: three rooms and a head are always enough.
+static u8 reply[ROOMS * ROOM + 128];
+static u64 filled;
+
+static void put(const u8 *from, u64 length)
+{
+    memcpy(reply + filled, from, length);
+    filled += length;
+}
+
+static void put_number(u64 number, int bytes)
+{
+    while (bytes-- > 0) reply[filled++] = number >> 8 * bytes;
+}
+
+static void send_reply(void)
+{
+    for (u64 had = 0; had < filled;) {
+        long gone = write(1, reply + had, filled - had);
+        if (gone <= 0) _exit(BAD_PIPE);
+        had += gone;
+    }
+}
+
+static u32 number_at(const u8 *from)
+{
+    return (u32)from[0] << 24 | from[1] << 16 | from[2] << 8 | from[3];
+}
+
+// No bytes are lent by a null pointer and by another in turns.
+static u8 *pointer(lent l, u32 turn)
+{
+    return l.length == 0 && turn % 2 == 0 ? 0 : l.at;
+}
+
+static void put_outcome(gm_outcome o)
+{
+    put_number(o.answer, 1);
+    put_number(o.gives, 1);
+    put(o.message, sizeof o.message);
+    put_number(o.delivers, 1);
+    put(o.declaration, sizeof o.declaration);
+}
+
+static void put_length(gm_length_answer a)
+{
+    put_number(a.answer, 1);
+    put_number(a.length, 8);
+}
+
+static void put_waiting(gm_waiting_answer a)
+{
+    put_number(a.answer, 1);
+    put_number(a.waits, 1);
+    put_number(a.number, 1);
+    put_number(a.sender, 1);
+}
+
+static void put_written(gm_written w)
+{
+    put_number(w.answer, 1);
+    put(w.message, sizeof w.message);
+}
+
+static void put_read(gm_read_answer a)
+{
+    put_number(a.answer, 1);
+    put_number(a.kind, 1);
+    put_number(a.season, 4);
+    put_number(a.sender, 1);
+    put_number(a.number, 1);
+    put(a.declaration, sizeof a.declaration);
+}
+
+// Makes one call and puts its answer.
+static void make(u8 call, const u32 x[4], u8 *book, u64 book_length, const u8 *bytes, u64 length, const u8 *declaration)
+{
+    switch (call) {
+    case LENGTH: put_length(gm_length(x[0], x[1])); return;
+    case OPEN: put_number(gm_open(book, book_length, x[0], x[1], x[2], x[3], bytes, length), 1); return;
+    case PUBLISH: put_outcome(gm_publish(book, book_length, x[0], declaration)); return;
+    case RECEIVE: put_outcome(gm_receive(book, book_length, x[0], bytes, length)); return;
+    case WAITING: put_waiting(gm_waiting(book, book_length)); return;
+    case JUDGE: put_number(gm_judge(bytes, length, declaration), 1); return;
+    case WRITE: put_written(gm_write(x[0], x[1], x[2], x[3], declaration)); return;
+    case READ: put_read(gm_read(bytes, length)); return;
+    default: _exit(BAD_REQUEST);
+    }
+}
+
+int main(void)
+{
+    build_walls();
+    u8 head[HEAD];
+    for (u32 calls = 0; take(head, HEAD, 1); calls++) {
+        u32 x[4];
+        for (int i = 0; i < 4; i++) x[i] = number_at(head + 1 + 4 * i);
+        lent declaration = lend(0, DECLARATION);
+        lent book = lend(1, number_at(head + 37));
+        lent bytes = lend(2, number_at(head + 41));
+        memcpy(declaration.at, head + 17, DECLARATION);
+        take(book.at, book.length, 0);
+        take(bytes.at, bytes.length, 0);
+
+        filled = 0;
+        put_number(head[0], 1);
+        put_number(calls, 4);
+        put_number(0, 1);
+        u64 before = filled;
+        make(head[0], x, pointer(book, calls), book.length, pointer(bytes, calls), bytes.length, declaration.at);
+        reply[before - 1] = filled - before;
+        check_margin(declaration);
+        check_margin(book);
+        check_margin(bytes);
+        put(book.at, book.length);
+        put(bytes.at, bytes.length);
+        put(declaration.at, declaration.length);
+        send_reply();
+    }
+    return 0;
+}
