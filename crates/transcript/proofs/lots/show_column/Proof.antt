@@ -1,9 +1,9 @@
--- `transcript::show_column` meets its contract: the card has the column that it shows.
+-- `transcript::lots::show_column` meets its contract: the card has the column that it shows.
 -- Assumes nothing.
 use mathlib.Core.Path.{_∙_, sym}
 use borrow.Author.Needs.{needs}
-use Rattle.transcript.proofs.show_column.Statement.{statement}
-use Rattle.transcript.proofs.show_column.Tie as tie
+use Rattle.transcript.proofs.lots.show_column.Statement.{statement}
+use Rattle.transcript.proofs.lots.show_column.Tie as tie
 
 is-houses-requires : tie.Need-is-houses-requires
 is-houses-requires c κs = search needs

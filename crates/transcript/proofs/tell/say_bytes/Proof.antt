@@ -1,10 +1,10 @@
--- `transcript::say_bytes` meets its contract: the loop ends at the last byte.
+-- `transcript::tell::say_bytes` meets its contract: the loop ends at the last byte.
 -- Assumes nothing.
 use Prim.Native.Nat.{_≤_, _-_}
 use lib.ListN.{length}
 use borrow.Author.Needs.{needs}
-use Rattle.transcript.proofs.say_bytes.Statement.{statement}
-use Rattle.transcript.proofs.say_bytes.Tie as tie
+use Rattle.transcript.proofs.tell.say_bytes.Statement.{statement}
+use Rattle.transcript.proofs.tell.say_bytes.Tie as tie
 
 abbrev Inv-loop : tie.InvT-loop
 Inv-loop bytes i₀ t3 t4 i = i ≤ length bytes

@@ -1,0 +1,263 @@
+// The wall card, the starred lots judged, the sample message written and read.
+use crate::tell::AT_17_5;
+use crate::tell::SEND;
+use crate::tell::copy;
+use crate::tell::end_answer;
+use crate::tell::lot_77;
+use crate::tell::open;
+use crate::tell::put_byte;
+use crate::tell::sample;
+use crate::tell::say;
+use crate::tell::say_bytes;
+use crate::tell::say_number;
+use lot::Declaration;
+use lot::Gate;
+use lot::Sheet;
+use message::Reading;
+
+// A column of the wall card.
+fn show_column(n: u32) {
+    if card::is_houses(n) {
+        let counts = card::counts_of(n as usize);
+        say(b"  ");
+        say_number(n as u64);
+        say(b" houses: t ");
+        say_number(counts.t as u64);
+        say(b", echo quorum ");
+        say_number(counts.quorum as u64);
+        say(b"\n");
+    }
+}
+
+pub fn show_card() {
+    say(b"The wall card\n");
+    show_column(4);
+    show_column(5);
+    show_column(16);
+}
+
+// The length of a book of n houses and S numbers.
+fn show_length_of(n: u32, s: u32) {
+    let found = book::length_of(n, s);
+    say(b"  ");
+    say_number(n as u64);
+    say(b" houses, numbers ");
+    say_number(s as u64);
+    if found.answer == 0 {
+        say(b": answer 0, ");
+        say_number(found.length);
+        say(b" bytes\n");
+        return;
+    }
+    end_answer(found.answer);
+}
+
+pub fn show_lengths() {
+    say(b"\nThe length of a book\n");
+    show_length_of(4, 1);
+    show_length_of(16, 4);
+    show_length_of(17, 1);
+    show_length_of(16, 5);
+}
+
+fn say_verdict(answer: u8) {
+    if answer == 0 {
+        say(b": answer 0, plausible\n");
+        return;
+    }
+    end_answer(answer);
+}
+
+// A lot judged by a sheet with this cap and moisture gate, conductivity open.
+fn show_lot(text: &[u8], cap: u32, moisture: Gate, d: Declaration) {
+    say(text);
+    let written = sheet::write_sheet(Sheet {
+        cap,
+        moisture,
+        conductivity: Gate::Open,
+    });
+    if written.answer == 0 {
+        let sheet_bytes = written.bytes;
+        let declaration = lot::bytes_of(d);
+        say_verdict(sheet::judge(&sheet_bytes, &declaration));
+        return;
+    }
+    say_verdict(written.answer);
+}
+
+pub fn show_lots() {
+    say(b"\nLots judged: conductivity 0.5, its gate open\n");
+    show_lot(
+        b"  cap 20, 40 colonies, 800 kg, moisture 17.5, open",
+        20,
+        Gate::Open,
+        sample(),
+    );
+    show_lot(
+        b"  cap 20, 40 colonies, 801 kg, moisture 17.5, open",
+        20,
+        Gate::Open,
+        lot_77(40, 801, AT_17_5),
+    );
+    show_lot(
+        b"  cap 2, 4 colonies, 9 kg, moisture 17.5, open",
+        2,
+        Gate::Open,
+        lot_77(4, 9, AT_17_5),
+    );
+    show_lot(
+        b"  cap 20, no colonies, no kg, moisture 17.5, open",
+        20,
+        Gate::Open,
+        lot_77(0, 0, AT_17_5),
+    );
+}
+
+pub fn show_gates() {
+    show_lot(
+        b"  cap 20, 40 colonies, 800 kg, moisture 20.0, at most 20.0",
+        20,
+        Gate::AtMost(20.0),
+        lot_77(40, 800, 0x41a0_0000),
+    );
+    show_lot(
+        b"  cap 20, 40 colonies, 800 kg, moisture NaN, open",
+        20,
+        Gate::Open,
+        lot_77(40, 800, 0x7fc0_0000),
+    );
+}
+
+fn show_declaration(d: Declaration) {
+    say(b"    lot ");
+    say_number(d.lot as u64);
+    say(b", ");
+    say_number(d.colonies as u64);
+    say(b" colonies, ");
+    say_number(d.kilograms as u64);
+    say(b" kg, bytes");
+    say_bytes(&lot::bytes_of(d));
+}
+
+fn show_reading(bytes: &[u8]) {
+    let Reading::Message {
+        kind,
+        season,
+        sender,
+        number,
+        lot,
+        colonies,
+        kilograms,
+        moisture,
+        conductivity,
+    } = message::read_message(bytes)
+    else {
+        say(b"  reads: answer 2, malformed message\n");
+        return;
+    };
+    say(b"  reads: answer 0, kind ");
+    say_number(kind as u64);
+    say(b", season ");
+    say_number(season as u64);
+    say(b", sender ");
+    say_number(sender as u64);
+    say(b", number ");
+    say_number(number as u64);
+    say(b"\n");
+    show_declaration(Declaration {
+        lot,
+        colonies,
+        kilograms,
+        moisture,
+        conductivity,
+    });
+}
+
+// The sample message, written, and what was written read again.
+pub fn show_sample() {
+    say(b"\nThe sample message\n");
+    let written = message::write_message(SEND, 2026, 2, 1, sample());
+    say(b"  written");
+    end_answer(written.answer);
+    say(b"   ");
+    let bytes = written.message;
+    say_bytes(&bytes);
+    show_reading(&bytes);
+}
+
+// ---- malformed messages
+
+fn reader_answer(bytes: &[u8]) -> u8 {
+    let Reading::Message {
+        kind,
+        season,
+        sender,
+        number,
+        lot,
+        colonies,
+        kilograms,
+        moisture,
+        conductivity,
+    } = message::read_message(bytes)
+    else {
+        return 2;
+    };
+    0
+}
+
+// What the reader answers, and what a book's receiver.
+fn show_heard(bytes: &[u8], book: &mut [u8]) {
+    say(b" reader: answer ");
+    say_number(reader_answer(bytes) as u64);
+    let o = counter::receive(book, 2, bytes);
+    say(b"; receiver");
+    end_answer(o.answer);
+}
+
+// So many bytes of these.
+fn show_cut(bytes: &[u8], length: u8, book: &mut [u8]) {
+    let first = 0;
+    let end = length as usize;
+    if end <= bytes.len() {
+        show_heard(&bytes[first..end], book);
+    }
+}
+
+fn show_length(bytes: &[u8], length: u8, book: &mut [u8]) {
+    say(b"  ");
+    say_number(length as u64);
+    say(b" bytes,");
+    show_cut(bytes, length, book);
+}
+
+// What the writer answers for a kind; and for a message's bytes with that kind, what reader and receiver do.
+fn show_kind(bytes: &mut [u8], kind: u8, book: &mut [u8]) {
+    put_byte(bytes, 3, kind);
+    say(b"  kind ");
+    say_number(kind as u64);
+    say(b", writer: answer ");
+    let written = message::write_message(kind, 2026, 2, 0, sample());
+    say_number(written.answer as u64);
+    say(b";");
+    show_cut(bytes, 36, book);
+}
+
+// 35 and 37 bytes, kinds 0 and 4; then the message as it should be.
+fn show_malformed(bytes: &mut [u8], book: &mut [u8]) {
+    show_length(bytes, 35, book);
+    show_length(bytes, 37, book);
+    show_kind(bytes, 0, book);
+    show_kind(bytes, 4, book);
+    show_kind(bytes, 1, book);
+}
+
+pub fn show_bytes(bytes: &mut [u8], book: &mut [u8]) {
+    say(
+        b"\nMalformed: a SEND of sender 2, cut, lengthened, with another kind, and as it should be\n",
+    );
+    open(book, 4, 1, 0, 20);
+    let written = message::write_message(SEND, 2026, 2, 0, sample());
+    let message = written.message;
+    copy(bytes, 0, message);
+    show_malformed(bytes, book);
+}
