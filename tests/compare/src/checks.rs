@@ -91,8 +91,9 @@ pub const DRAWN: [Check; 10] = [
         assert!(of_wrong > 0, "no wrong sender was ever delivered");
     }),
     ("seasons of up to sixteen houses", |pair, seed, scale| {
+        // The gate's seed has the largest book among them.
         for n in 8..=16 {
-            let s = 1 + (seed.wrapping_add(u64::from(n)) % 4) as u8;
+            let s = 1 + (seed.wrapping_add(u64::from(n) + 1) % 4) as u8;
             scheduler::seasons(pair, seed, n, s, scale.div_ceil(8) as u64);
         }
     }),
