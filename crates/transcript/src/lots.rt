@@ -9,23 +9,24 @@ use crate::tell::put_byte;
 use crate::tell::sample;
 use crate::tell::say;
 use crate::tell::say_bytes;
-use crate::tell::say_number;
+use crate::tell::say_with;
+use card::Counts;
 use lot::Declaration;
 use lot::Gate;
 use lot::Sheet;
 use message::Reading;
 
+fn say_column(n: u32, counts: Counts) {
+    say_with(b"  ", n as u64);
+    say_with(b" houses: t ", counts.t as u64);
+    say_with(b", echo quorum ", counts.quorum as u64);
+    say(b"\n");
+}
+
 // A column of the wall card.
 fn show_column(n: u32) {
     if card::is_houses(n) {
-        let counts = card::counts_of(n as usize);
-        say(b"  ");
-        say_number(n as u64);
-        say(b" houses: t ");
-        say_number(counts.t as u64);
-        say(b", echo quorum ");
-        say_number(counts.quorum as u64);
-        say(b"\n");
+        say_column(n, card::counts_of(n as usize));
     }
 }
 
@@ -39,13 +40,10 @@ pub fn show_card() {
 // The length of a book of n houses and S numbers.
 fn show_length_of(n: u32, s: u32) {
     let found = book::length_of(n, s);
-    say(b"  ");
-    say_number(n as u64);
-    say(b" houses, numbers ");
-    say_number(s as u64);
+    say_with(b"  ", n as u64);
+    say_with(b" houses, numbers ", s as u64);
     if found.answer == 0 {
-        say(b": answer 0, ");
-        say_number(found.length);
+        say_with(b": answer 0, ", found.length);
         say(b" bytes\n");
         return;
     }
@@ -129,12 +127,9 @@ pub fn show_gates() {
 }
 
 fn show_declaration(d: Declaration) {
-    say(b"    lot ");
-    say_number(d.lot as u64);
-    say(b", ");
-    say_number(d.colonies as u64);
-    say(b" colonies, ");
-    say_number(d.kilograms as u64);
+    say_with(b"    lot ", d.lot as u64);
+    say_with(b", ", d.colonies as u64);
+    say_with(b" colonies, ", d.kilograms as u64);
     say(b" kg, bytes");
     say_bytes(&lot::bytes_of(d));
 }
@@ -155,14 +150,10 @@ fn show_reading(bytes: &[u8]) {
         say(b"  reads: answer 2, malformed message\n");
         return;
     };
-    say(b"  reads: answer 0, kind ");
-    say_number(kind as u64);
-    say(b", season ");
-    say_number(season as u64);
-    say(b", sender ");
-    say_number(sender as u64);
-    say(b", number ");
-    say_number(number as u64);
+    say_with(b"  reads: answer 0, kind ", kind as u64);
+    say_with(b", season ", season as u64);
+    say_with(b", sender ", sender as u64);
+    say_with(b", number ", number as u64);
     say(b"\n");
     show_declaration(Declaration {
         lot,
@@ -207,8 +198,7 @@ fn reader_answer(bytes: &[u8]) -> u8 {
 
 // What the reader answers, and what a book's receiver.
 fn show_heard(bytes: &[u8], book: &mut [u8]) {
-    say(b" reader: answer ");
-    say_number(reader_answer(bytes) as u64);
+    say_with(b" reader: answer ", reader_answer(bytes) as u64);
     let o = counter::receive(book, 2, bytes);
     say(b"; receiver");
     end_answer(o.answer);
@@ -224,8 +214,7 @@ fn show_cut(bytes: &[u8], length: u8, book: &mut [u8]) {
 }
 
 fn show_length(bytes: &[u8], length: u8, book: &mut [u8]) {
-    say(b"  ");
-    say_number(length as u64);
+    say_with(b"  ", length as u64);
     say(b" bytes,");
     show_cut(bytes, length, book);
 }
@@ -233,11 +222,9 @@ fn show_length(bytes: &[u8], length: u8, book: &mut [u8]) {
 // What the writer answers for a kind; and for a message's bytes with that kind, what reader and receiver do.
 fn show_kind(bytes: &mut [u8], kind: u8, book: &mut [u8]) {
     put_byte(bytes, 3, kind);
-    say(b"  kind ");
-    say_number(kind as u64);
-    say(b", writer: answer ");
+    say_with(b"  kind ", kind as u64);
     let written = message::write_message(kind, 2026, 2, 0, sample());
-    say_number(written.answer as u64);
+    say_with(b", writer: answer ", written.answer as u64);
     say(b";");
     show_cut(bytes, 36, book);
 }

@@ -12,7 +12,7 @@ use crate::tell::open;
 use crate::tell::open_sheet;
 use crate::tell::publish;
 use crate::tell::say;
-use crate::tell::say_number;
+use crate::tell::say_with;
 
 // ---- the opening complaint
 
@@ -112,10 +112,8 @@ pub fn show_zeros(book: &mut [u8]) {
 
 // An entry, to the end of the line.
 fn say_entry(text: &[u8], number: u8, sender: u8) {
-    say(text);
-    say_number(number as u64);
-    say(b", sender ");
-    say_number(sender as u64);
+    say_with(text, number as u64);
+    say_with(b", sender ", sender as u64);
     say(b"\n");
 }
 

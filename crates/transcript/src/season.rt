@@ -13,8 +13,8 @@ use crate::tell::put_byte;
 use crate::tell::sample;
 use crate::tell::say;
 use crate::tell::say_message;
-use crate::tell::say_number;
 use crate::tell::say_outcome;
+use crate::tell::say_with;
 use entry::Outcome;
 
 // The bytes of a book at n = 4, S = 1.
@@ -79,8 +79,7 @@ fn publish_at(books: &mut [u8], house: u8) -> Outcome {
     let at = place(house);
     let end = at + BOOK;
     if end <= books.len() {
-        say(b"  house ");
-        say_number(house as u64);
+        say_with(b"  house ", house as u64);
         return publish(&mut books[at..end], sample());
     }
     nothing()
@@ -90,12 +89,10 @@ fn receive_at(books: &mut [u8], house: u8, from: u32, message: &[u8]) -> Outcome
     let at = place(house);
     let end = at + BOOK;
     if end <= books.len() {
-        say(b"house ");
-        say_number(house as u64);
+        say_with(b"house ", house as u64);
         say(b" receives ");
         say_message(message);
-        say(b" from ");
-        say_number(from as u64);
+        say_with(b" from ", from as u64);
         let o = counter::receive(&mut books[at..end], from, message);
         say_outcome(o);
         return o;
@@ -118,15 +115,13 @@ fn receive_queued(books: &mut [u8], queue: &[u8], k: u32, house: u8) -> Outcome 
 
 // The copy of queued message k for a house, counted from 1. A house from `honest` on is wrong, and takes no part.
 fn consume(books: &mut [u8], queue: &mut [u8], queued: u32, k: u32, house: u8, honest: u8) -> u32 {
-    say(b"  copy ");
-    say_number(k as u64 * 4 + house as u64 + 1);
+    say_with(b"  copy ", k as u64 * 4 + house as u64 + 1);
     say(b": ");
     if house < honest {
         let o = receive_queued(books, queue, k, house);
         return put_given(queue, queued, house, o);
     }
-    say(b"goes to house ");
-    say_number(house as u64);
+    say_with(b"goes to house ", house as u64);
     say(b", which is wrong\n");
     queued
 }
@@ -152,11 +147,9 @@ fn carry_next(books: &mut [u8], queue: &mut [u8], queued: u32, k: u32, honest: u
 
 // Every message goes to all four houses, of which three or four are honest.
 fn say_copies(queued: u32, honest: u8) {
-    say(b"  copies sent: ");
-    say_number(queued as u64 * 4);
+    say_with(b"  copies sent: ", queued as u64 * 4);
     if honest == 3 {
-        say(b", between honest houses: ");
-        say_number(queued as u64 * 3);
+        say_with(b", between honest houses: ", queued as u64 * 3);
     }
     say(b"\n");
 }

@@ -26,6 +26,12 @@ pub fn say_number(n: u64) {
     io::print_decimal(STDOUT_FILENO, n);
 }
 
+// A text and a number after it.
+pub fn say_with(text: &[u8], n: u64) {
+    say(text);
+    say_number(n);
+}
+
 // Bytes, in hexadecimal.
 pub fn say_bytes(bytes: &[u8]) {
     let mut i = 0;
@@ -57,8 +63,7 @@ fn say_reason(answer: u8) {
 
 // An answer's number and, where it refuses, why.
 pub fn say_answer(answer: u8) {
-    say(b": answer ");
-    say_number(answer as u64);
+    say_with(b": answer ", answer as u64);
     say_reason(answer);
 }
 
@@ -170,14 +175,10 @@ pub fn open_sheet(cap: u32) -> [u8; 22] {
 
 // A house opens its book for season 2026, with a cap and open gates.
 pub fn open(book: &mut [u8], n: u32, s: u32, own: u32, cap: u32) {
-    say(b"  house ");
-    say_number(own as u64);
-    say(b" of ");
-    say_number(n as u64);
-    say(b" opens a book of ");
-    say_number(book.len() as u64);
-    say(b" bytes, cap ");
-    say_number(cap as u64);
+    say_with(b"  house ", own as u64);
+    say_with(b" of ", n as u64);
+    say_with(b" opens a book of ", book.len() as u64);
+    say_with(b" bytes, cap ", cap as u64);
     let sheet = open_sheet(cap);
     end_answer(book::open_book(book, n, s, own, 2026, &sheet));
 }
@@ -188,8 +189,7 @@ pub fn hear_lot(book: &mut [u8], from: u32, kind: u8, sender: u8, number: u8, d:
     let message = written.message;
     say(b"  ");
     say_message(&message);
-    say(b" from ");
-    say_number(from as u64);
+    say_with(b" from ", from as u64);
     say_outcome(counter::receive(book, from, &message));
 }
 

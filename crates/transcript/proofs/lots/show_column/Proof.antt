@@ -11,38 +11,8 @@ is-houses-requires c κs = search needs
 counts-of-requires : tie.Need-counts-of-requires
 counts-of-requires c κs = sym (c .before .is-houses .ensures) ∙ c .if1 .taken
 
-slice-aggregate-say : tie.Need-slice-aggregate-say
-slice-aggregate-say c = search needs
-
-say-requires : tie.Need-say-requires
-say-requires c κs = search needs
-
-say-number-requires : tie.Need-say-number-requires
-say-number-requires c κs = search needs
-
-slice-aggregate-say-2 : tie.Need-slice-aggregate-say-2
-slice-aggregate-say-2 c = search needs
-
-say-requires-2 : tie.Need-say-requires-2
-say-requires-2 c κs = search needs
-
-say-number-requires-2 : tie.Need-say-number-requires-2
-say-number-requires-2 c κs = search needs
-
-slice-aggregate-say-3 : tie.Need-slice-aggregate-say-3
-slice-aggregate-say-3 c = search needs
-
-say-requires-3 : tie.Need-say-requires-3
-say-requires-3 c κs = search needs
-
-say-number-requires-3 : tie.Need-say-number-requires-3
-say-number-requires-3 c κs = search needs
-
-slice-aggregate-say-4 : tie.Need-slice-aggregate-say-4
-slice-aggregate-say-4 c = search needs
-
-say-requires-4 : tie.Need-say-requires-4
-say-requires-4 c κs = search needs
+say-column-requires : tie.Need-say-column-requires
+say-column-requires c κs = search needs
 
 returns : tie.Need-returns
 returns c = search needs
@@ -56,16 +26,6 @@ show-column-spec =
     (tie.spec
     is-houses-requires
     counts-of-requires
-    slice-aggregate-say
-    say-requires
-    say-number-requires
-    slice-aggregate-say-2
-    say-requires-2
-    say-number-requires-2
-    slice-aggregate-say-3
-    say-requires-3
-    say-number-requires-3
-    slice-aggregate-say-4
-    say-requires-4
+    say-column-requires
     returns
     returns-2)

@@ -8,10 +8,10 @@ use Rattle.transcript.proofs.season.carry.Statement.{statement}
 use Rattle.transcript.proofs.season.carry.Tie as tie
 
 abbrev Inv-loop : tie.InvT-loop
-Inv-loop books₀ queue₀ before k honest queued₀ house₀ books queue queued house = (length books ≡ length books₀) × (length queue ≡ length queue₀)
+Inv-loop books₀ queue₀ _ _ _ _ _ books queue _ _ = (length books ≡ length books₀) × (length queue ≡ length queue₀)
 
 abbrev μ-loop : tie.MeasureT-loop
-μ-loop books₀ queue₀ before k honest queued₀ house₀ books queue queued house = 4 - house
+μ-loop _ _ _ _ _ _ _ _ _ _ house = 4 - house
 
 loop-holds : tie.Need-loop-holds Inv-loop μ-loop
 loop-holds c = search needs

@@ -8,10 +8,10 @@ use Rattle.transcript.proofs.season.drain.Statement.{statement}
 use Rattle.transcript.proofs.season.drain.Tie as tie
 
 abbrev Inv-loop : tie.InvT-loop
-Inv-loop books₀ queue₀ first honest queued₀ k₀ books queue queued k = (length books ≡ length books₀) × (length queue ≡ length queue₀)
+Inv-loop books₀ queue₀ _ _ _ _ books queue _ _ = (length books ≡ length books₀) × (length queue ≡ length queue₀)
 
 abbrev μ-loop : tie.MeasureT-loop
-μ-loop books₀ queue₀ first honest queued₀ k₀ books queue queued k = 16 - k
+μ-loop _ _ _ _ _ _ _ _ _ k = 16 - k
 
 loop-holds : tie.Need-loop-holds Inv-loop μ-loop
 loop-holds c = search needs
