@@ -28,7 +28,7 @@ pub fn show_kilograms(book: &mut [u8]) {
     hear_lot(book, 2, SEND, 2, 0, d);
 }
 
-// House 3 sends both, and the ECHOes are counted for each.
+// ECHOes are counted for each of the two readings.
 fn echo_readings(book: &mut [u8]) {
     hear(book, 0, ECHO, 3, 0, AT_17_5);
     hear(book, 1, ECHO, 3, 0, AT_17_5);
@@ -133,18 +133,25 @@ fn say_waiting(book: &[u8]) {
 
 // A SEND from its sender, and the entry that waits then.
 fn await_send(book: &mut [u8], sender: u8, number: u8) {
-    say_entry(b"  for number ", number, sender);
+    say_entry(b"  on number ", number, sender);
     hear(book, sender as u32, SEND, sender, number, AT_17_5);
     say_waiting(book);
 }
 
 // READYs from three houses on an entry, and the entry that waits then.
 fn await_readys(book: &mut [u8], sender: u8, number: u8) {
-    say_entry(b"  for number ", number, sender);
+    say_entry(b"  on number ", number, sender);
     hear(book, 0, READY, sender, number, AT_17_5);
     hear(book, 1, READY, sender, number, AT_17_5);
     hear(book, 2, READY, sender, number, AT_17_5);
     say_waiting(book);
+}
+
+// Three SENDs heard, each earlier than the one before.
+fn await_sends(book: &mut [u8]) {
+    await_send(book, 1, 1);
+    await_send(book, 3, 0);
+    await_send(book, 2, 0);
 }
 
 pub fn show_waiting(book: &mut [u8]) {
@@ -152,8 +159,8 @@ pub fn show_waiting(book: &mut [u8]) {
     say_waiting(book);
     open(book, 4, 2, 0, 20);
     say_waiting(book);
-    await_send(book, 1, 1);
-    await_send(book, 3, 0);
+    await_sends(book);
+    await_readys(book, 2, 0);
     await_readys(book, 3, 0);
     await_readys(book, 1, 1);
 }
