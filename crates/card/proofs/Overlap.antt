@@ -1,10 +1,11 @@
 -- The overlap of two quorums, once for all n and t, and what n > 3t gives the counts.
 -- Assumes nothing.
+use mathlib.Core.Path.{_≡_}
 use Prim.Native.Nat.{ℕ, _+_, _*_, _-_, _≤_, _<_}
 use mathlib.Core.Bool.{Bool, not, _&&_}
 use native.Mathlib.Omega.{arith}
 use lib.Dec.{T}
-use Rattle.card.specs.Card.{tolerated, quorum, amplify, deliver}
+use Rattle.card.specs.Card.{tolerated, fitting, quorum, amplify, deliver}
 use Rattle.card.specs.Count.{count}
 use Rattle.card.proofs.Counting.{count-and, count-find}
 
@@ -23,13 +24,13 @@ pub overlap : (n t : ℕ) (wrong P Q : ℕ → Bool) → count wrong n ≤ t →
     → (i : ℕ) × (i < n) × T (P i && Q i) × T (not (wrong i))
 overlap n t wrong P Q = share n t (quorum n t) wrong P Q (quorum-more n t)
 
-module _ (n t : ℕ) (third : 3 * t < n) where
-  -- n - t houses are a quorum, and enough to deliver
-  pub rest-quorum : quorum n t ≤ n - t
+module _ (n t f : ℕ) (third : 3 * t + 2 * f < n) where
+  -- n - t - f houses are a quorum, and enough to deliver
+  pub rest-quorum : quorum n t ≤ n - t - f
   unfolding quorum
   rest-quorum = omega arith
 
-  pub rest-deliver : deliver t ≤ n - t
+  pub rest-deliver : deliver t f ≤ n - t - f
   unfolding deliver
   rest-deliver = omega arith
 
@@ -42,3 +43,17 @@ module _ (n t : ℕ) (third : 3 * t < n) where
 pub tolerated-third : (n : ℕ) → 0 < n → 3 * tolerated n < n
 unfolding tolerated
 tolerated-third n h = omega arith
+
+-- t fits, and no larger one does
+pub fitting-fits : (n f : ℕ) → 2 * f < n → 3 * fitting n f + 2 * f < n
+unfolding fitting tolerated
+fitting-fits n f h = omega arith
+
+pub fitting-largest : (n f t : ℕ) → 3 * t + 2 * f < n → t ≤ fitting n f
+unfolding fitting tolerated
+fitting-largest n f t h = omega arith
+
+-- two houses more for each that may be down: the quorum grows by one
+pub quorum-down : (n t f : ℕ) → 2 * f < n → quorum n t ≡ quorum (n - 2 * f) t + f
+unfolding quorum
+quorum-down n t f h = omega arith

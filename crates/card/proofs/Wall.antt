@@ -3,13 +3,13 @@
 use mathlib.Core.Path.{_≡_, _∙_, ap, refl}
 use mathlib.Core.Bool.{Bool, true, _&&_, and-eq-true-iff}
 use mathlib.Core.List.{List, [], _∷_}
-use Prim.Native.Nat.{ℕ, _+_, _-_, _<_, _≤_}
+use Prim.Native.Nat.{ℕ, _+_, _*_, _-_, _<_, _≤_}
 use native.Mathlib.Omega.{arith}
-use lib.Dec.{leb, eqb}
+use lib.Dec.{leb, ltb, eqb}
 use lib.ListN.{getD}
-use borrow.Author.Tests.{leb-true, eqb-true}
+use borrow.Author.Tests.{leb-true, ltb-true, eqb-true, le-leb}
 use Rattle.card.specs.declared.Column.{Column}
-use Rattle.card.specs.Card.{largest, houses, tolerated, quorum, columnOf}
+use Rattle.card.specs.Card.{largest, mostDown, houses, downOk, tolerated, quorum, columnOf}
 use Rattle.card.proofs.Table.{at}
 
 abbrev column : ℕ → ℕ → Column
@@ -57,3 +57,18 @@ houses-byte n h = let b = houses-between n h in omega arith
 pub tolerated-byte : (n : ℕ) → houses n ≡ true → tolerated n < 256
 unfolding tolerated
 tolerated-byte n h = let l = houses-byte n h in omega arith
+
+-- f as numbers, and n - 2f as a number of houses
+pub down-between : (n f : ℕ) → downOk n f ≡ true → (f ≤ mostDown) × (2 * f < n)
+unfolding downOk
+down-between n f h =
+    let both = and-eq-true-iff (leb f mostDown) (ltb (2 * f) n) .0 h in
+    (leb-true f mostDown (both .0), ltb-true (2 * f) n (both .1))
+
+pub rest-houses : (n f : ℕ) → houses n ≡ true → downOk n f ≡ true → houses (n - 2 * f) ≡ true
+unfolding houses
+rest-houses n f h d =
+    let b = houses-between n h in
+    let l = down-between n f d .1 in
+    and-eq-true-iff (leb 1 (n - 2 * f)) (leb (n - 2 * f) largest) .1
+    (le-leb 1 (n - 2 * f) (omega arith), le-leb (n - 2 * f) largest (omega arith))

@@ -2,7 +2,7 @@
 -- Assumes nothing.
 use Prim.Native.Nat.{ℕ, _+_, _*_, _-_, _/_}
 use mathlib.Core.Bool.{Bool, _&&_}
-use lib.Dec.{leb}
+use lib.Dec.{leb, ltb}
 use Rattle.card.specs.declared.Column.{Column}
 use Rattle.card.specs.declared.Counts.{Counts}
 
@@ -36,17 +36,31 @@ columnOf n = record { t = tolerated n; quorum = quorum n (tolerated n) }
 unfoldable pub amplify : ℕ → ℕ
 amplify t = t + 1
 
--- READYs that deliver: at least 2t+1
-unfoldable pub deliver : ℕ → ℕ
-deliver t = 2 * t + 1
+-- READYs that deliver: at least 2t+f+1
+unfoldable pub deliver : (t f : ℕ) → ℕ
+deliver t f = 2 * t + f + 1
 
--- the counts for n houses
-unfoldable pub countsOf : ℕ → Counts
-unfolding tolerated quorum amplify deliver
-countsOf n =
+-- the largest number of honest houses that may be down
+unfoldable pub mostDown : ℕ
+mostDown = 4
+
+-- f: 0 to 4, and some t fits
+unfoldable pub downOk : (n f : ℕ) → Bool
+unfolding mostDown
+downOk n f = leb f mostDown && ltb (2 * f) n
+
+-- n > 3t + 2f: t is the largest that fits
+unfoldable pub fitting : (n f : ℕ) → ℕ
+unfolding tolerated
+fitting n f = tolerated (n - 2 * f)
+
+-- the counts for n houses of which f may be down
+unfoldable pub countsOf : (n f : ℕ) → Counts
+unfolding fitting quorum amplify deliver
+countsOf n f =
     record {
-      t = tolerated n;
-      quorum = quorum n (tolerated n);
-      amplify = amplify (tolerated n);
-      deliver = deliver (tolerated n);
+      t = fitting n f;
+      quorum = quorum n (fitting n f);
+      amplify = amplify (fitting n f);
+      deliver = deliver (fitting n f) f;
     }

@@ -1,10 +1,13 @@
 // The wall card: t and the echo quorum for each number of houses, and the counts that the steps compare with.
 ghost use mathlib.Core.Path.{_≡_};
 ghost use mathlib.Core.Bool.{true};
-ghost use Rattle.card.specs.Card.{houses, columnOf, countsOf};
+ghost use Rattle.card.specs.Card.{houses, downOk, columnOf, countsOf};
 
 // The largest number of houses.
 const LARGEST: u32 = 16;
+
+// The largest number of honest houses that may be down.
+const MOST_DOWN: u32 = 4;
 
 // One column of the card.
 pub struct Column {
@@ -55,16 +58,26 @@ fn column_of(n: usize) -> Column
     CARD[n - 1]
 }
 
-// The counts for n houses.
-pub fn counts_of(n: usize) -> Counts
-    requires { ⌜ houses n ≡ true ⌝ }
-    ensures { λ r. ⌜ r ≡ countsOf n ⌝ }
+// Whether f houses of n may be down: 0 to 4, and some t fits.
+pub fn is_down(n: u32, f: u32) -> bool
+    ensures { λ r. ⌜ r ≡ downOk n f ⌝ }
 {
-    let column = column_of(n);
+    if f <= MOST_DOWN {
+        return 2 * f < n;
+    }
+    false
+}
+
+// The counts for n houses of which f may be down: the card's column for n - 2f, and f more to the quorum and to deliver.
+pub fn counts_of(n: usize, f: usize) -> Counts
+    requires { ⌜ (houses n ≡ true) × (downOk n f ≡ true) ⌝ }
+    ensures { λ r. ⌜ r ≡ countsOf n f ⌝ }
+{
+    let column = column_of(n - 2 * f);
     Counts {
         t: column.t,
-        quorum: column.quorum,
+        quorum: column.quorum + f,
         amplify: column.t + 1,
-        deliver: 2 * column.t + 1,
+        deliver: 2 * column.t + f + 1,
     }
 }
