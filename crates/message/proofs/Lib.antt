@@ -2,3 +2,4 @@ pub mod Form
 pub mod RoundTrip
 pub mod Told
 pub mod Settled
+pub mod Request

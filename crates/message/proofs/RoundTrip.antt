@@ -44,7 +44,7 @@ fiveOr z none = z
 fiveOr z (some m) = m
 
 module _ (s : List ℕ) (bytes : Bytes s) where
-  field-is : (i tag len : ℕ) → len < 256 → fieldAt s i tag len ≡ true
+  pub field-is : (i tag len : ℕ) → len < 256 → fieldAt s i tag len ≡ true
       → getD s i 0 ∷ getD s (i + 1) 0 ∷ getD s (i + 2) 0 ∷ [] ≡ tag ∷ 0 ∷ len ∷ []
   field-is i tag len small h =
       let both = and-eq-true-iff (eqb (getD s i 0) tag) (eqb (getD s (i + 1) 0 * 256 + getD s (i + 2) 0) len) .0 h in

@@ -98,3 +98,15 @@ writtenOf kind season sender number d =
       message = wire (record { kind = kind; season = season; sender = sender; number = number; declaration = d });
     })
     (record { answer = 2; message = replicate 36 0 })
+
+-- a request for help: tag 1, kind 9; tag 2, the season alone
+unfoldable pub requestWire : ℕ → List ℕ
+requestWire season = field 1 (9 ∷ []) ++ field 2 (be32 season)
+
+unfoldable pub isRequest : List ℕ → Bool
+isRequest s = eqb (length s) 11 && (fieldAt s 0 1 1 && (fieldAt s 4 2 4 && eqb (getD s 3 0) 9))
+
+-- the season that a request names
+unfoldable pub requestOf : List ℕ → Option ℕ
+unfolding isRequest
+requestOf s = cond (isRequest s) (some (wordAt s 7)) none

@@ -2,7 +2,7 @@
 ghost use mathlib.Core.Path.{_≡_};
 ghost use Prim.Native.Nat.{_+_, _<_};
 ghost use lib.ListN.{length};
-ghost use Rattle.message.specs.Message.{isKind, fieldAt, tagged, wellFormed, readOf, told, writtenOf};
+ghost use Rattle.message.specs.Message.{isKind, fieldAt, tagged, wellFormed, readOf, told, writtenOf, isRequest, requestWire};
 use lot::Declaration;
 
 // What reading finds: the message's numbers, or bytes that are no message.
@@ -29,7 +29,7 @@ pub struct Written {
 }
 
 // 1 SEND, 2 ECHO, 3 READY.
-fn is_kind(kind: u8) -> bool
+pub fn is_kind(kind: u8) -> bool
     ensures { λ r. ⌜ r ≡ isKind kind ⌝ }
 {
     1 <= kind && kind <= 3
@@ -69,6 +69,28 @@ fn is_well_formed(s: &[u8]) -> bool
         }
     }
     false
+}
+
+// A request for help: kind 9 and the season alone.
+pub fn is_request(s: &[u8]) -> bool
+    ensures { λ r. ⌜ r ≡ isRequest (now (s .entry)) ⌝ }
+{
+    if s.len() == 11 {
+        if is_field(s, 0, 1, 1) {
+            if is_field(s, 4, 2, 4) {
+                return s[3] == 9;
+            }
+        }
+    }
+    false
+}
+
+// The 11 bytes of a request for help.
+pub fn write_request(season: u32) -> [u8; 11]
+    ensures { λ r. ⌜ r ≡ requestWire season ⌝ }
+{
+    let s = words::quad_of(season);
+    [1, 0, 1, 9, 2, 0, 4, s.a, s.b, s.c, s.d]
 }
 
 pub fn read_message(s: &[u8]) -> Reading
