@@ -9,7 +9,7 @@ use Prim.Native.Nat.{ℕ, _≤_, _<_}
 use native.Mathlib.Omega.{arith}
 use lib.Dec.{T, eqb-refl}
 use Rattle.card.specs.Count.{count}
-use Rattle.card.proofs.Counting.{count-mono, count-find, count-le}
+use Rattle.card.proofs.Counting.{count-mono, count-find}
 use Rattle.card.proofs.Overlap.{share}
 use Rattle.protocol.specs.Entry.{Decl, SEND, ECHO, READY, Entry, holds, upd}
 use Rattle.protocol.specs.Steps.{Out}
@@ -37,7 +37,7 @@ vouch-to false x g t = absurd g
 abbrev pub Backed : Wall → (ℕ → Entry) → Type 0
 Backed B H = (r : ℕ) (v : Decl) → H r .readySent ≡ some v → B .rules .quorum ≤ count (vouch B H v) (n B)
 
-module _ (B : Wall) (t : ℕ) (up : ℕ → Bool) (Y : Tolerated B t up) where
+module _ (B : Wall) (t : ℕ) (Y : Tolerated B t) where
   -- more than t houses pass a test: an honest one does
   pub honest-one : (P : ℕ → Bool) → t < count P (n B) → (p : ℕ) × T (right B p) × T (P p)
   honest-one P l =
@@ -88,7 +88,7 @@ module _ (B : Wall) (t : ℕ) (up : ℕ → Bool) (Y : Tolerated B t up) where
     -- a READY's declaration is one that an honest house gave an ECHO of
     vouched : (r : ℕ) (v : Decl) → s .house r .readySent ≡ some v → (p : ℕ) × T (right B p) × (s .house p .send ≡ some v)
     vouched r v e =
-        let x = honest-one (vouch B (s .house) v) (omega (arith, K r v e, Y .thresholds, count-le up (n B))) in
+        let x = honest-one (vouch B (s .house) v) (omega (arith, K r v e, Y .thresholds .quorate)) in
         (x .0, x .1, holds-eq (s .house (x .0) .send) v (vouch-to (right B (x .0)) _ (x .1) (x .2)))
 
     ready-agree : (r q : ℕ) (v w : Decl) → s .house r .readySent ≡ some v → s .house q .readySent ≡ some w → v ≡ w
@@ -104,7 +104,8 @@ module _ (B : Wall) (t : ℕ) (up : ℕ → Bool) (Y : Tolerated B t up) where
     -- a delivered declaration is one that an honest house gave a READY of
     delivered-ready : (r : ℕ) (v : Decl) → s .house r .delivered ≡ some v → (p : ℕ) × T (right B p) × (s .house p .readySent ≡ some v)
     delivered-ready r v e =
-        let x = honest-one (λ p. holds (s .house r .ready p) v) (omega (arith, I .local r .delivery-backed v e, Y .thresholds)) in
+        let x = honest-one (λ p. holds (s .house r .ready p) v)
+        (omega (arith, I .local r .delivery-backed v e, Y .thresholds .delivered)) in
         (x .0, x .1, I .given r READY (x .0) v (holds-eq (s .house r .ready (x .0)) v (x .2)) tt (x .1))
 
     pub deliver-ready-agree : (r q : ℕ) (v w : Decl) → s .house r .delivered ≡ some v → s .house q .readySent ≡ some w → v ≡ w

@@ -79,6 +79,12 @@ module _ (R : Rules) (j : ℕ) where
       must-pass (ltb p (R .n)) 4 _ a ∙ must-pass (R .ok v) 5 _ b ∙ must-pass (may j k p) 6 _ m
       ∙ ap (λ o. recording o v) h ∙ recording-none v
 
+  answer-repeat : (p : ℕ) (k : Kind) (v : Decl) (e : Entry) → T (ltb p (R .n)) → T (R .ok v) → T (may j k p) → (w : Decl)
+      → heard k p e ≡ some w → receiveAnswer R j p k v e ≡ 7
+  unfolding receiveAnswer recording
+  answer-repeat p k v e a b m w h =
+      must-pass (ltb p (R .n)) 4 _ a ∙ must-pass (R .ok v) 5 _ b ∙ must-pass (may j k p) 6 _ m ∙ ap (λ o. recording o v) h
+
   receive-done : (r p : ℕ) (k : Kind) (j₂ c : ℕ) (v : Decl) (e : Entry) → Done R j r (receiving p k j₂ c v) e (receive R j p k v e)
   unfolding receive
   receive-done r p k j₂ c v e = go (receiveAnswer R j p k v e) refl
@@ -98,6 +104,12 @@ module _ (R : Rules) (j : ℕ) where
       → (receive R j p k v e .answer ≡ 0) × (heard k p (receive R j p k v e .entry) ≡ some v)
   unfolding receive
   receive-taken p k v e a b m h = rw (answer-passes p k v e a b m h) (takes-heard k p v e)
+
+  -- a repeat of an accepted message is answered 7
+  pub receive-repeat : (p : ℕ) (k : Kind) (v : Decl) (e : Entry) → T (ltb p (R .n)) → T (R .ok v) → T (may j k p) → (w : Decl)
+      → heard k p e ≡ some w → (receive R j p k v e .answer ≡ 7) × (receive R j p k v e .entry ≡ e)
+  unfolding receive
+  receive-repeat p k v e a b m w h = rw (answer-repeat p k v e a b m w h) (refl, refl)
 
   publishes-hears : (v : Decl) (e : Entry) (l : Kind) (q : ℕ) → heard l q (publishes v e .entry) ≡ heard l q e
   unfolding publishes

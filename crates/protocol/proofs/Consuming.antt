@@ -2,14 +2,12 @@
 -- Assumes nothing.
 use mathlib.Core.Path.{_≡_, refl, sym, ap, subst, _∙_}
 use mathlib.Core.Bool.{Bool, true, false, not, _&&_}
-use mathlib.Core.Logic.{⊎-elim}
+use mathlib.Core.Logic.{_⊎_, inl, inr, ⊎-elim}
 use mathlib.Core.Option.{Option, none, some}
-use Prim.Native.Nat.{ℕ, _+_}
-use native.Mathlib.Nat.{mul-le-mul-left}
+use Prim.Native.Nat.{ℕ, _+_, _≤_, _<_}
 use native.Mathlib.Omega.{arith}
-use lib.Dec.{T, eqb, ltb, eqb→eq, eqb-refl}
-use Rattle.card.specs.Count.{bit, count}
-use Rattle.card.proofs.Counting.{count-one}
+use lib.Dec.{T, eqb, ltb, eqb→eq}
+use Rattle.card.specs.Count.{bit}
 use Rattle.protocol.specs.Entry.{Decl, Kind, Entry, Rules, heard, own, isKind, isSome, upd}
 use Rattle.protocol.specs.Steps.{Out, may}
 use Rattle.protocol.specs.Book.{Call, inBook, outcome}
@@ -17,19 +15,20 @@ use Rattle.protocol.specs.Run.{n, Wall, Copy, State, right, at, consumed
 use Rattle.protocol.proofs.Basics.{bcase, T-of, T-not-of, true-of, not-of, and-l, and-r, and-mk, and-false, both, isKind-eq}
 use Rattle.protocol.proofs.Basics.{isKind-refl, some-of, isSome-of, holds-eq, upd-all, upd-same}
 use Rattle.protocol.proofs.Moves.{filled-heard}
-use Rattle.protocol.proofs.Calls.{Brings, Done, outcome-done, outcome-booked, receive-taken}
-use Rattle.protocol.proofs.Mail.{tally-at, tally-change, copies-split}
-use Rattle.protocol.proofs.Invariant.{Inv, Act, way, true-to, entry-refl}
+use Rattle.protocol.proofs.Calls.{Brings, Done, outcome-done, outcome-booked, receive-taken, receive-repeat}
+use Rattle.protocol.proofs.Mail.{tally-at, tally-change}
+use Rattle.protocol.proofs.Invariant.{Inv, Act, unread, bit-le}
+use Rattle.protocol.proofs.Again.{way, true-to, entry-refl}
 use Rattle.protocol.proofs.Views.{view, out, Named}
 
--- what is heard from a house stays as it was where the call does not bring it
-heard-same : (R : Rules) (j r : ℕ) (a : Call) (e : Entry) (o : Out) → Done R j r a e o → (k : Kind) (p : ℕ) → T (may j k p)
-    → ((v : Decl) → Brings a k p v → ⊥) → isSome (heard k p e) ≡ isSome (heard k p (o .entry))
-heard-same R j r a e o D k p m f =
-    both (isSome (heard k p e)) (isSome (heard k p (o .entry)))
-    (λ t. let x = some-of (heard k p e) t in isSome-of _ (x .0) (filled-heard (D .moves .filled) k p (x .0) (x .1)))
-    (λ t. let x = some-of (heard k p (o .entry)) t in
-    ⊎-elim (isSome-of _ (x .0)) (λ b. absurd (f (x .0) b)) (D .hears k p (x .0) (x .1) m))
+-- what is heard stays heard
+heard-more : (R : Rules) (j r : ℕ) (a : Call) (H : ℕ → Entry) (o : Out) → Done R j r a (H r) o → (k : Kind) (p q : ℕ)
+    → bit (isSome (heard k p (H q))) ≤ bit (isSome (heard k p (upd H r (o .entry) q)))
+heard-more R j r a H o D k p q =
+    bit-le (isSome (heard k p (H q))) (isSome (heard k p (upd H r (o .entry) q)))
+    (upd-all (λ q x. T (isSome (heard k p (H q))) → T (isSome (heard k p x))) H r (o .entry)
+    (λ t. let x = some-of (heard k p (H r)) t in isSome-of _ (x .0) (filled-heard (D .moves .filled) k p (x .0) (x .1)))
+    (λ q t. t) q)
 
 -- a call that brings nothing from an honest house
 pub plain-act : (B : Wall) (r : ℕ) (a : Call) (s : State) → T (right B r)
@@ -42,17 +41,16 @@ plain-act B r a s g f j c N I =
       booked = N .booked;
       honest = λ k p v b g. absurd (f k p v b g);
       unmarked = λ P x. refl;
-      marks = λ k p q g g₂ m. I .post .consumed k p q g g₂ m
-          ∙ ap bit (upd-all (λ q x. isSome (heard k p (H q)) ≡ isSome (heard k p x)) H r (out B r a s .entry)
-          (heard-same (B .rules) j r a (H r) (out B r a s) (N .done) k p m (λ v b. f k p v b g)) (λ q. refl) q);
+      kept = λ k p q m x l. omega (
+        arith,
+        l,
+        heard-more (B .rules) j r a (λ q. s .gave .books q j c) (out B r a s) (N .done) k p q,
+      );
     }
-  where
-    H : ℕ → Entry
-    H q = s .gave .books q j c
 
 -- the consumption of a copy in the mail that is not consumed, to an honest house
 module _ (B : Wall) (s : State) (i : ℕ) (m : Copy)
-    (at-i : at (s .mail) i ≡ some m) (right-to : T (right B (m .to))) (unread : m .consumed ≡ false) where
+    (at-i : at (s .mail) i ≡ some m) (right-to : T (right B (m .to))) where
   abbrev k : Kind
   k = m .kind
 
@@ -74,14 +72,8 @@ module _ (B : Wall) (s : State) (i : ℕ) (m : Copy)
   abbrev o : Out
   o = out B r (opens m) s
 
-  abbrev here : Copy → Bool
-  here = way k (eqb p) (eqb r)
-
   it : T (onIt j c m)
   it = entry-refl j c
-
-  here-is : T (here m)
-  here-is = and-mk (isKind k k) _ (isKind-refl k) (and-mk (eqb p p) _ (eqb-refl p) (eqb-refl r))
 
   done : Done (B .rules) j r (opens m) (H r) o
   done = outcome-done (B .rules) (B .numbers) r (opens m) (s .gave .books r)
@@ -96,32 +88,28 @@ module _ (B : Wall) (s : State) (i : ℕ) (m : Copy)
           tally-at (λ x. onIt j c x && not (true-to H x)) (s .mail) i m at-i (and-mk (onIt j c m) _ it (not-of (true-to H m) t)),
         )))
 
-    -- it is the one copy of its kind from its house to its house: nothing of the kind was heard
-    unheard : heard k p (H r) ≡ none
-    unheard =
-        let w = I .books .owner p k (m .decl) gave in
-        let one = count-one (λ q. eqb p q && isSome (own k (H q))) (n B) p (λ q t. sym (eqb→eq p q (and-l (eqb p q) _ t))) in
-        empty (heard k p (H r)) (omega (
-          arith,
-          count-one (eqb r) (n B) r (λ q t. sym (eqb→eq r q t)),
-          mul-le-mul-left (count (eqb r) (n B)) one,
-          I .post .sent k (eqb p) (eqb r),
-          I .post .consumed k p r (w .0) right-to (w .2),
-          copies-split j c here (λ x. x .consumed) (s .mail),
-          tally-at (λ x. onIt j c x && (here x && not (x .consumed))) (s .mail) i m at-i
-              (and-mk (onIt j c m) _ it (and-mk (here m) _ here-is (not-of (m .consumed) unread))),
-        ))
-      where
-        empty : (x : Option Decl) → bit (isSome x) ≡ 0 → x ≡ none
-        empty none z = refl
-        empty (some w) z = absurd (omega (arith, z))
+    -- it was not heard, or this very declaration was
+    before : (x : Option Decl) → heard k p (H r) ≡ x → (heard k p (H r) ≡ none) ⊎ (heard k p (H r) ≡ some (m .decl))
+    before none e = inl e
+    before (some w) e =
+        let y = I .books .owner p k (m .decl) gave in
+        inr (e ∙ sym (I .books .given r k p w e (y .2) (y .0)) ∙ gave)
 
-    pub taken : (o .answer ≡ 0) × (heard k p (o .entry) ≡ some (m .decl))
+    pub answers : ((o .answer ≡ 0) × (heard k p (o .entry) ≡ some (m .decl)))
+        ⊎ ((o .answer ≡ 7) × (heard k p (H r) ≡ some (m .decl)) × (o .entry ≡ H r))
     unfolding outcome
-    taken =
+    answers =
         let w = I .books .owner p k (m .decl) gave in
         rw (true-of (inBook (B .rules) (B .numbers) j c) (w .3))
-        (receive-taken (B .rules) j p k (m .decl) (H r) (and-l (ltb p (n B)) _ (w .0)) (w .1) (w .2) unheard)
+        (⊎-elim
+        (λ e. inl (receive-taken (B .rules) j p k (m .decl) (H r) (and-l (ltb p (n B)) _ (w .0)) (w .1) (w .2) e))
+        (λ e. let y = receive-repeat (B .rules) j p k (m .decl) (H r) (and-l (ltb p (n B)) _ (w .0)) (w .1) (w .2) (m .decl) e in
+        inr (y .0, e, y .1))
+        (before (heard k p (H r)) refl))
+
+    -- it is heard afterwards
+    heard-after : heard k p (o .entry) ≡ some (m .decl)
+    heard-after = ⊎-elim (λ y. y .1) (λ y. ap (heard k p) (y .2) ∙ y .1) answers
 
     consume-act : Act B j c (view j c s) r (opens m) o (consumeAt (s .mail) i)
     consume-act =
@@ -131,36 +119,31 @@ module _ (B : Wall) (s : State) (i : ℕ) (m : Copy)
           booked = outcome-booked (B .rules) (B .numbers) r (opens m) (s .gave .books r);
           honest = λ l q w b g. rw (b .0, b .1, ← b .2) gave;
           unmarked = λ P x. omega (arith, tally-change P consumedCopy (s .mail) i m at-i, ap bit (x m));
-          marks = marks′;
+          kept = kept′;
         }
       where
-        marks′ : (l : Kind) (q u : ℕ) → T (right B q) → T (right B u) → T (may j l q)
-            → copiesOf j c (λ x. way l (eqb q) (eqb u) x && x .consumed) (consumeAt (s .mail) i)
-            ≡ bit (isSome (heard l q (upd H r (o .entry) u)))
-        marks′ l q u g₁ g₂ x =
-            omega (
-              arith,
-              tally-change (λ x. onIt j c x && (way l (eqb q) (eqb u) x && x .consumed)) consumedCopy (s .mail) i m at-i,
-              ap bit (and-false (onIt j c m) _ (and-false (way l (eqb q) (eqb u) m) _ unread)),
-              I .post .consumed l q u g₁ g₂ x,
-              go (way l (eqb q) (eqb u) m) refl,
-            )
+        kept′ : (l : Kind) (q u : ℕ) → T (may j l q) → (x : ℕ)
+            → 0 < bit (isSome (heard l q (H u))) + (unread j c l q u (s .mail) + x)
+            → 0 < bit (isSome (heard l q (upd H r (o .entry) u))) + (unread j c l q u (consumeAt (s .mail) i) + x)
+        kept′ l q u y x z = go (way l (eqb q) (eqb u) m) refl
           where
             go : (b : Bool) → way l (eqb q) (eqb u) m ≡ b
-                → bit (isSome (heard l q (H u))) + bit (onIt j c m && (way l (eqb q) (eqb u) m && true))
-                ≡ bit (isSome (heard l q (upd H r (o .entry) u)))
+                → 0 < bit (isSome (heard l q (upd H r (o .entry) u))) + (unread j c l q u (consumeAt (s .mail) i) + x)
             go true t =
                 let z : l ≡ k = isKind-eq l k (and-l (isKind l k) _ (T-of t)) in
                 let y : T (eqb q p && eqb u r) = and-r (isKind l k) _ (T-of t) in
                 let z₂ : q ≡ p = eqb→eq q p (and-l (eqb q p) _ y) in
                 let z₃ : u ≡ r = eqb→eq u r (and-r (eqb q p) _ y) in
-                rw (t, true-of (onIt j c m) it, z, z₂, z₃, upd-same H r (o .entry), unheard, taken .1)
+                let one : bit (isSome (heard l q (upd H r (o .entry) u))) ≡ 1 = rw (z, z₂, z₃, upd-same H r (o .entry), heard-after) in
+                omega arith
             go false t =
-                let same = upd-all (λ u y. way l (eqb q) (eqb u) m ≡ false → isSome (heard l q (H u)) ≡ isSome (heard l q y)) H r (o .entry)
-                (λ t. heard-same (B .rules) j r (opens m) (H r) o done l q x (λ w b. T-not-of t (rw (b .0, b .1) here-is)))
-                (λ u t. refl) u t
-                in
-                rw (t, and-false (onIt j c m) false refl) (omega (arith, ap bit same))
+                omega (
+                  arith,
+                  z,
+                  heard-more (B .rules) j r (opens m) H o done l q u,
+                  tally-change (λ x. onIt j c x && (way l (eqb q) (eqb u) x && not (x .consumed))) consumedCopy (s .mail) i m at-i,
+                  ap bit (and-false (onIt j c m) (way l (eqb q) (eqb u) m && not (m .consumed)) (rw t)),
+                )
 
   abbrev Takes : ℕ → ℕ → Type 0
   Takes x y = Inv B x y (view x y s) → Act B x y (view x y s) r (opens m) o (consumeAt (s .mail) i)

@@ -1,37 +1,46 @@
--- The run of four houses, computed: the premises of the claims can be met, and so what they claim comes of it.
+-- The run of six houses, computed: the premises of the claims can be met, and so what they claim comes of it.
 -- Assumes nothing.
-use mathlib.Core.Path.{refl}
-use lib.Dec.{lit<, lit≤}
+use mathlib.Core.Path.{_≡_, refl}
+use mathlib.Core.Bool.{Bool, true, false, cond, _&&_}
+use Prim.Native.Nat.{ℕ, zero, suc, _≤_}
+use native.Mathlib.Omega.{arith}
+use lib.Dec.{T, eqb, ltb, lit<, lit≤}
 use Rattle.card.specs.Card.{quorum, amplify, deliver}
-use Rattle.protocol.specs.Entry.{same}
+use Rattle.protocol.specs.Entry.{same, upd}
 use Rattle.protocol.specs.Steps.{publishes, takesSend, takesEcho, takesReady, recording, receive, publish}
 use Rattle.protocol.specs.Book.{outcome, after}
-use Rattle.protocol.specs.Run.{called, consumes, step, run}
+use Rattle.protocol.specs.Run.{right, called, arrives, consumes, comes, helpAnswer, helps, asked, step, run, copies}
 use Rattle.protocol.specs.Thresholds.{rulesOf, wallOf}
 use Rattle.protocol.specs.Claims.{Everywhere}
-use Rattle.protocol.specs.Example.{wall, lot, consumeAll, steps, end, Met}
-use Rattle.protocol.proofs.Season.{season, carded}
+use Rattle.protocol.specs.Example.{wall, lot, consumeFrom, before, steps, end, Met}
+use Rattle.protocol.proofs.Season.{season, carded, parted}
+
+at-one : (b : Bool) → cond b 1 0 ≤ 1
+at-one true = omega arith
+at-one false = omega arith
 
 pub example : Met
-unfolding wallOf rulesOf quorum amplify deliver wall consumeAll steps end run step consumes called
-    after outcome publish receive recording publishes takesSend takesEcho takesReady same
+unfolding wallOf rulesOf quorum amplify deliver wall consumeFrom before steps end run step arrives consumes comes helpAnswer helps
+    asked called after outcome publish receive recording publishes takesSend takesEcho takesReady same
 example =
     record {
       few = lit≤ tt;
+      limited = λ r g. at-one (eqb r 1);
+      low = lit≤ tt;
       published = refl;
-      drained = refl;
+      drained = record { copies = refl; requests = refl };
       cost = refl;
-      cost-between = refl;
       delivered = refl;
-      first-echo = refl;
-      other-echo = refl;
+      back = refl;
       forged = refl;
-      honest = refl;
-      own = refl;
-      untouched = refl;
+      once = refl;
+      down = refl;
+      nothing = refl;
     }
 
 pub everywhere : Everywhere wall 0 0 end lot
 unfolding wall end
 everywhere =
-    season wall 1 steps 0 0 .complete (carded 4 1 2 _ _ (lit< tt) (example .few)) (example .drained) .all 2 lot (example .delivered)
+    season wall 1 steps 0 0 .complete (carded 6 1 1 1 1 _ _ (lit< tt) (example .few)) (example .limited)
+    (parted 6 1 1 1 1 (λ v. true) (λ p. ltb p 5) (lit< tt) (example .few) end (example .low)) (example .drained)
+    .all 2 lot (example .delivered)

@@ -2,23 +2,26 @@
 -- Assumes nothing.
 use mathlib.Core.Path.{_≡_, refl, sym, ap, _∙_}
 use mathlib.Core.Bool.{Bool, true, false, not, cond, _&&_}
-use mathlib.Core.Logic.{⊎-elim}
+use mathlib.Core.Logic.{_⊎_, inl, inr, ⊎-elim}
 use mathlib.Core.Option.{Option, none, some}
 use mathlib.Core.List.{List, _++_}
-use Prim.Native.Nat.{ℕ, suc, _+_, _*_}
+use Prim.Native.Nat.{ℕ, suc, _+_, _*_, _≤_, _<_}
 use native.Mathlib.Omega.{arith}
 use lib.Dec.{T, T-not, not-T, eqb, ltb, eqb-refl, ltb→lt}
 use Rattle.card.specs.Count.{bit, count}
-use Rattle.card.proofs.Counting.{count-same, count-set, count-none}
+use Rattle.card.proofs.Counting.{count-same, count-set, count-none, count-pos}
 use Rattle.protocol.specs.Entry.{Decl, Kind, Entry, heard, own, isKind, isSome, holds, upd}
 use Rattle.protocol.specs.Steps.{Say, say, Out, may}
 use Rattle.protocol.specs.Book.{sameEntry, Call, inBook, publication}
-use Rattle.protocol.specs.Run.{n, Wall, Copy, right, consumedCopy, copyTo, toAll, posted, push, tally, onIt, copiesOf}
+use Rattle.protocol.specs.Run.{n, Wall, Copy, Request, Power, Limited, right, consumedCopy, copyTo, toAll, posted, push, tally, onIt}
+use Rattle.protocol.specs.Run.{copiesOf}
 use Rattle.protocol.proofs.Basics.{T-of, T-not-of, true-of, and-l, and-r, and-mk, and-false, both, isKind-eq, isKind-refl, some-of}
 use Rattle.protocol.proofs.Basics.{isSome-of, holds-eq, eq-holds, upd-all, upd-same, upd-other}
 use Rattle.protocol.proofs.Moves.{Local, filled-own, no-message, listOf}
 use Rattle.protocol.proofs.Calls.{Brings, Done}
 use Rattle.protocol.proofs.Mail.{tally-mono, tally-append, tally-toAll}
+use Rattle.protocol.proofs.Sums.{total, total-mono, total-more}
+use Rattle.protocol.proofs.Again.{entry-refl, way, true-to}
 
 -- one entry of every book, and all copies
 pub record View : Type 0 where
@@ -26,17 +29,37 @@ pub record View : Type 0 where
   pub deliveries : ℕ → List Decl
   pub publications : ℕ → List Decl
   pub mail : List Copy
+  pub power : Power
 
--- a copy of a kind, from a house and to a house that pass the tests
-abbrev pub way : Kind → (ℕ → Bool) → (ℕ → Bool) → Copy → Bool
-way k F Q m = isKind k (m .kind) && (F (m .from) && Q (m .to))
+-- the copies of a kind from house p to house q that are not consumed
+abbrev pub unread : (sender number : ℕ) → Kind → (p q : ℕ) → List Copy → ℕ
+unread j c k p q l = copiesOf j c (λ m. way k (eqb p) (eqb q) m && not (m .consumed)) l
 
--- a copy says what the house it came from gave
-abbrev pub true-to : (ℕ → Entry) → Copy → Bool
-true-to H m = holds (own (m .kind) (H (m .from))) (m .decl)
+-- the requests of house q to house p that are not consumed
+abbrev pub asking : (q p : ℕ) → List Request → ℕ
+asking q p l = tally (λ m. (eqb q (m .from) && eqb p (m .to)) && not (m .consumed)) l
 
-pub entry-refl : (j c : ℕ) → T (sameEntry j c j c)
-entry-refl j c = and-mk (eqb j j) (eqb c c) (eqb-refl j) (eqb-refl c)
+-- why house q need not have heard what house p gave: one of them is down, or a request of q to p is on its way
+abbrev pub excuse : Power → (q p : ℕ) → ℕ
+excuse w q p = bit (w .down q) + (bit (w .down p) + asking q p (w .requests))
+
+-- how many copies house p may have sent of a message, to the houses that pass Q: the first, one for each return, one for each help
+abbrev pub load : Power → ℕ → (ℕ → Bool) → ℕ → ℕ
+load w n Q p = count Q n * suc (w .returned p) + total (λ q. cond (Q q) (w .helped p q) 0) n
+
+-- the same of all houses that pass P
+abbrev pub burden : Power → ℕ → (ℕ → Bool) → (ℕ → Bool) → ℕ
+burden w n Q P = total (λ p. cond (P p) (load w n Q p) 0) n
+
+pub cond-mono : (a b : Bool) (x y : ℕ) → (T a → T b) → x ≤ y → cond a x 0 ≤ cond b y 0
+cond-mono true true x y f l = l
+cond-mono true false x y f l = absurd (f tt)
+cond-mono false b x y f l = omega arith
+
+pub bit-le : (a b : Bool) → (T a → T b) → bit a ≤ bit b
+bit-le true true f = omega arith
+bit-le true false f = absurd (f tt)
+bit-le false b f = omega arith
 
 -- of a message of kind l from house r, the copies that pass
 way-toAll : (j c r : ℕ) (k l : Kind) (F Q : ℕ → Bool) (w : Decl) (n : ℕ)
@@ -67,16 +90,25 @@ module _ (B : Wall) (j c : ℕ) where
   pub record Post (s : View) : Type 0 where
     -- no copy is untrue
     pub truthful : copiesOf j c (λ m. not (true-to (s .house) m)) (s .mail) ≡ 0
-    -- a message given is one copy to each house
-    pub sent : (k : Kind) (F Q : ℕ → Bool)
-        → copiesOf j c (way k F Q) (s .mail) ≡ count Q (n B) * count (λ p. F p && isSome (own k (s .house p))) (n B)
-    -- between honest houses, what was heard is what was consumed
-    pub consumed : (k : Kind) (p r : ℕ) → T (right B p) → T (right B r) → T (may j k p)
-        → copiesOf j c (λ m. way k (eqb p) (eqb r) m && m .consumed) (s .mail) ≡ bit (isSome (heard k p (s .house r)))
+    -- a message given is one copy to each house, and at most one more for each return and help
+    pub at-least : (k : Kind) (F Q : ℕ → Bool)
+        → count Q (n B) * count (λ p. F p && isSome (own k (s .house p))) (n B) ≤ copiesOf j c (way k F Q) (s .mail)
+    pub at-most : (k : Kind) (F Q : ℕ → Bool)
+        → copiesOf j c (way k F Q) (s .mail) ≤ burden (s .power) (n B) Q (λ p. F p && isSome (own k (s .house p)))
+    -- what house p gave, house q heard, or a copy of it is on its way, or there is an excuse
+    pub reaches : Limited B (s .power) → (k : Kind) (p q : ℕ) (v : Decl) → own k (s .house p) ≡ some v → T (right B q)
+        → 0 < bit (isSome (heard k p (s .house q))) + (unread j c k p q (s .mail) + excuse (s .power) q p)
+
+  -- of help
+  pub record Helping (w : Power) : Type 0 where
+    pub limited : (p q : ℕ) → w .helped p q ≤ B .limit
+    -- a house that returned asked each house once for each return
+    pub pending : (p q : ℕ) → T (right B q) → w .helped p q + asking q p (w .requests) ≤ w .returned q
 
   pub record Inv (s : View) : Type 0 where
     pub books : Books s
     pub post : Post s
+    pub helping : Helping (s .power)
 
   -- a call at house r on this entry, with outcome o, that a run may make; `mail` is the mail as the call finds it
   pub record Act (s : View) (r : ℕ) (a : Call) (o : Out) (mail : List Copy) : Type 0 where
@@ -85,8 +117,9 @@ module _ (B : Wall) (j c : ℕ) where
     pub booked : (m : Say) → o .message ≡ some m → T (inBook (B .rules) (B .numbers) j c)
     pub honest : (k : Kind) (p : ℕ) (v : Decl) → Brings a k p v → T (right B p) → own k (s .house p) ≡ some v
     pub unmarked : (P : Copy → Bool) → ((m : Copy) → P (consumedCopy m) ≡ P m) → tally P mail ≡ tally P (s .mail)
-    pub marks : (k : Kind) (p q : ℕ) → T (right B p) → T (right B q) → T (may j k p)
-        → copiesOf j c (λ m. way k (eqb p) (eqb q) m && m .consumed) mail ≡ bit (isSome (heard k p (upd (s .house) r (o .entry) q)))
+    pub kept : (k : Kind) (p q : ℕ) → T (may j k p) → (x : ℕ)
+        → 0 < bit (isSome (heard k p (s .house q))) + (unread j c k p q (s .mail) + x)
+        → 0 < bit (isSome (heard k p (upd (s .house) r (o .entry) q))) + (unread j c k p q mail + x)
 
   -- what the view sees of a call on this entry
   abbrev pub acted : View → ℕ → Call → Out → List Copy → View
@@ -96,6 +129,7 @@ module _ (B : Wall) (j c : ℕ) where
         deliveries = upd (s .deliveries) r (push (o .delivery) (s .deliveries r));
         publications = upd (s .publications) r (push (publication a (o .answer)) (s .publications r));
         mail = mail ++ posted j c r (o .message) (n B);
+        power = s .power;
       }
 
   module _ (s : View) (I : Inv s) (r : ℕ) (a : Call) (o : Out) (mail : List Copy) (A : Act s r a o mail) where
@@ -160,16 +194,16 @@ module _ (B : Wall) (j c : ℕ) where
             tally-toAll untrue j c r k v (n B)
             ∙ count-none _ (n B) (λ q l. and-false (sameEntry j c j c) _ (ap not (true-of (holds (own k (H′ r)) v) (eq-holds _ v gave))))
 
-    act-sent : (k : Kind) (F Q : ℕ → Bool)
-        → copiesOf j c (way k F Q) (mail ++ posted j c r (o .message) (n B))
-        ≡ count Q (n B) * count (λ p. F p && isSome (own k (H′ p))) (n B)
+    act-at-least : (k : Kind) (F Q : ℕ → Bool)
+        → count Q (n B) * count (λ p. F p && isSome (own k (H′ p))) (n B)
+        ≤ copiesOf j c (way k F Q) (mail ++ posted j c r (o .message) (n B))
     unfolding H′
-    act-sent k F Q =
+    act-at-least k F Q =
         omega (
           arith,
           tally-append (λ m. onIt j c m && way k F Q m) mail (posted j c r (o .message) (n B)),
           A .unmarked (λ m. onIt j c m && way k F Q m) (λ m. refl),
-          I .post .sent k F Q,
+          I .post .at-least k F Q,
           go (o .message) refl,
         )
       where
@@ -218,22 +252,99 @@ module _ (B : Wall) (j c : ℕ) where
                   still (λ f x m. T-not-of t (and-mk (isKind k l) (F r) (let z : l ≡ k = cc in rw z (isKind-refl k)) f)),
                 )
 
-    act-consumed : (k : Kind) (p q : ℕ) → T (right B p) → T (right B q) → T (may j k p)
-        → copiesOf j c (λ m. way k (eqb p) (eqb q) m && m .consumed) (mail ++ posted j c r (o .message) (n B))
-        ≡ bit (isSome (heard k p (H′ q)))
+    act-at-most : (k : Kind) (F Q : ℕ → Bool)
+        → copiesOf j c (way k F Q) (mail ++ posted j c r (o .message) (n B))
+        ≤ burden (s .power) (n B) Q (λ p. F p && isSome (own k (H′ p)))
     unfolding H′
-    act-consumed k p q g g₂ m =
-        omega (arith, tally-append taken mail (posted j c r (o .message) (n B)), A .marks k p q g g₂ m, new (o .message))
+    act-at-most k F Q =
+        omega (
+          arith,
+          tally-append (λ m. onIt j c m && way k F Q m) mail (posted j c r (o .message) (n B)),
+          A .unmarked (λ m. onIt j c m && way k F Q m) (λ m. refl),
+          I .post .at-most k F Q,
+          go (o .message) refl,
+        )
       where
-        taken : Copy → Bool
-        taken m = onIt j c m && (way k (eqb p) (eqb q) m && m .consumed)
+        P : ℕ → Bool
+        P p = F p && isSome (own k (s .house p))
 
-        new : (x : Option Say) → tally taken (posted j c r x (n B)) ≡ 0
-        new none = refl
-        new (some (say l w)) =
-            tally-toAll taken j c r l w (n B)
-            ∙ count-none _ (n B)
-            (λ i h. and-false (sameEntry j c j c) _ (and-false (way k (eqb p) (eqb q) (copyTo j c r l w i)) false refl))
+        P′ : ℕ → Bool
+        P′ p = F p && isSome (own k (H′ p))
+
+        L : ℕ → ℕ
+        L = load (s .power) (n B) Q
+
+        more : (p : ℕ) → cond (P p) (L p) 0 ≤ cond (P′ p) (L p) 0
+        more p =
+            cond-mono (P p) (P′ p) (L p) (L p)
+            (λ t. let x = some-of (own k (s .house p)) (and-r (F p) _ t) in
+            and-mk (F p) _ (and-l (F p) _ t) (isSome-of _ (x .0) (own-stays p k (x .0) (x .1))))
+            (omega arith)
+
+        go : (x : Option Say) → o .message ≡ x
+            → burden (s .power) (n B) Q P + copiesOf j c (way k F Q) (posted j c r x (n B)) ≤ burden (s .power) (n B) Q P′
+        go none e = omega (arith, total-mono (λ p. cond (P p) (L p) 0) (λ p. cond (P′ p) (L p) 0) (n B) more)
+        go (some (say l w)) e =
+            omega (arith, way-toAll j c r k l F Q w (n B), split (isKind k l && F r) refl)
+          where
+            split : (b : Bool) → (isKind k l && F r) ≡ b
+                → burden (s .power) (n B) Q P + count (λ q. b && Q q) (n B) ≤ burden (s .power) (n B) Q P′
+            split true t =
+                let z : k ≡ l = isKind-eq k l (and-l (isKind k l) (F r) (T-of t)) in
+                let f : T (F r) = and-r (isKind k l) (F r) (T-of t) in
+                let y = A .done .moves .says k w (rw z e) in
+                let was : P r ≡ false = and-false (F r) _ (ap isSome (y .0)) in
+                let now : P′ r ≡ true = true-of (P′ r) (and-mk (F r) _ f (rw (upd-same (s .house) r (o .entry), y .1) tt)) in
+                total-more (λ p. cond (P p) (L p) 0) (λ p. cond (P′ p) (L p) 0) (n B) r (count Q (n B))
+                (ltb→lt r (n B) (and-l (ltb r (n B)) (B .honest r) (A .here))) (rw (was, now) (omega arith)) more
+            split false t =
+                omega (
+                  arith,
+                  count-none (λ q. false) (n B) (λ i h. refl),
+                  total-mono (λ p. cond (P p) (L p) 0) (λ p. cond (P′ p) (L p) 0) (n B) more,
+                )
+
+    act-reaches : Limited B (s .power) → (k : Kind) (p q : ℕ) (v : Decl) → own k (H′ p) ≡ some v → T (right B q)
+        → 0 < bit (isSome (heard k p (H′ q)))
+        + (unread j c k p q (mail ++ posted j c r (o .message) (n B)) + excuse (s .power) q p)
+    unfolding H′
+    act-reaches L k p q v e g =
+        ⊎-elim old new
+        (upd-all (λ p x. own k x ≡ some v → (own k (s .house p) ≡ some v) ⊎ ((p ≡ r) × (o .message ≡ some (say k v))))
+        (s .house) r (o .entry)
+        (λ e. ⊎-elim inl (λ m. inr (refl, m)) (A .done .moves .new k v e)) (λ p e. inl e) p e)
+      where
+        test : Copy → Bool
+        test m = onIt j c m && (way k (eqb p) (eqb q) m && not (m .consumed))
+
+        append : tally test (mail ++ posted j c r (o .message) (n B)) ≡ tally test mail + tally test (posted j c r (o .message) (n B))
+        append = tally-append test mail (posted j c r (o .message) (n B))
+
+        old : own k (s .house p) ≡ some v
+            → 0 < bit (isSome (heard k p (H′ q)))
+            + (unread j c k p q (mail ++ posted j c r (o .message) (n B)) + excuse (s .power) q p)
+        old x =
+            omega (
+              arith,
+              append,
+              A .kept k p q (I .books .owner p k v x .2) (excuse (s .power) q p) (I .post .reaches L k p q v x g),
+            )
+
+        new : (p ≡ r) × (o .message ≡ some (say k v))
+            → 0 < bit (isSome (heard k p (H′ q)))
+            + (unread j c k p q (mail ++ posted j c r (o .message) (n B)) + excuse (s .power) q p)
+        new x =
+            let y : tally test (posted j c r (o .message) (n B)) ≡ count (λ i. test (copyTo j c r k v i)) (n B) =
+            rw (x .1) (tally-toAll test j c r k v (n B)) in
+            omega (
+              arith,
+              append,
+              y,
+              count-pos (λ i. test (copyTo j c r k v i)) (n B) q (ltb→lt q (n B) (and-l (ltb q (n B)) (B .honest q) g))
+                  (and-mk (sameEntry j c j c) _ (entry-refl j c)
+                  (and-mk (way k (eqb p) (eqb q) (copyTo j c r k v q)) true
+                  (and-mk (isKind k k) _ (isKind-refl k) (and-mk (eqb p r) _ (rw (x .0) (eqb-refl r)) (eqb-refl q))) tt)),
+            )
 
     act-list : (g : Entry → Option Decl) (f : ℕ → List Decl) (x : Option Decl) → ((q : ℕ) → f q ≡ listOf (g (s .house q)))
         → push x (listOf (g (s .house r))) ≡ listOf (g (o .entry)) → (q : ℕ) → upd f r (push x (f r)) q ≡ listOf (g (H′ q))
@@ -256,12 +367,13 @@ module _ (B : Wall) (j c : ℕ) where
             published = act-list (λ e. e .published) (s .publications) (publication a (o .answer)) (I .books .published)
                 (A .done .moves .publishes);
           };
-          post = record { truthful = act-truthful; sent = act-sent; consumed = act-consumed };
+          post = record { truthful = act-truthful; at-least = act-at-least; at-most = act-at-most; reaches = act-reaches };
+          helping = I .helping;
         }
 
   -- a call on another entry: it leaves this one, and the count of its copies by any test
   pub else-inv : (s : View) (mail : List Copy) → ((P : Copy → Bool) → copiesOf j c P mail ≡ copiesOf j c P (s .mail)) → Inv s
-      → Inv (record { house = s .house; deliveries = s .deliveries; publications = s .publications; mail = mail })
+      → Inv (record { house = s .house; deliveries = s .deliveries; publications = s .publications; mail = mail; power = s .power })
   else-inv s mail f I =
       record {
         books = record {
@@ -273,7 +385,13 @@ module _ (B : Wall) (j c : ℕ) where
         };
         post = record {
           truthful = f _ ∙ I .post .truthful;
-          sent = λ k F Q. f _ ∙ I .post .sent k F Q;
-          consumed = λ k p r g g₂ m. f _ ∙ I .post .consumed k p r g g₂ m;
+          at-least = λ k F Q. omega (arith, f (way k F Q), I .post .at-least k F Q);
+          at-most = λ k F Q. omega (arith, f (way k F Q), I .post .at-most k F Q);
+          reaches = λ L k p q v e g. omega (
+            arith,
+            f (λ m. way k (eqb p) (eqb q) m && not (m .consumed)),
+            I .post .reaches L k p q v e g,
+          );
         };
+        helping = I .helping;
       }

@@ -6,19 +6,21 @@ use mathlib.Core.Option.{Option, none, some}
 use mathlib.Core.List.{List, [], _∷_}
 use Prim.Native.Nat.{ℕ}
 use native.Mathlib.Omega.{arith}
-use lib.Dec.{T-not, eqb, eqb→eq}
+use lib.Dec.{T, T-not, eqb, eqb→eq}
 use Rattle.card.specs.Count.{bit, count}
 use Rattle.card.proofs.Counting.{count-none}
 use Rattle.protocol.specs.Entry.{Decl, Kind, SEND, ECHO, READY, Entry, fresh, heard, own, isSome, upd}
 use Rattle.protocol.specs.Steps.{Out}
 use Rattle.protocol.specs.Book.{sameEntry, Call, publishing, receiving, senderOf, numberOf}
-use Rattle.protocol.specs.Run.{n, isWrong, Wall, Copy, State, Step, publish, consume, wrong, right, start, at, consumedCopy}
-use Rattle.protocol.specs.Run.{consumeAt, posted, opens, called, consumes, step, run, onIt, copiesOf}
+use Rattle.protocol.specs.Run.{n, isWrong, isUp, Wall, Copy, Request, State, Step, publish, consume, wrong, crash, comeback, help}
+use Rattle.protocol.specs.Run.{plead, right, start, at, consumedCopy, consumeAt, posted, opens, called, arrives, consumes, comes}
+use Rattle.protocol.specs.Run.{helpAnswer, helps, taken, asked, step, run, onIt, copiesOf}
 use Rattle.protocol.proofs.Basics.{bcase, T-of, false-of, and-l, and-r, and-false, none-some, Heeded}
 use Rattle.protocol.proofs.Mail.{tally-append, tally-change}
 use Rattle.protocol.proofs.Invariant.{View, Inv, Act, act-inv, else-inv}
 use Rattle.protocol.proofs.Views.{view, out, Named, named, view-elsewhere, posted-elsewhere}
 use Rattle.protocol.proofs.Consuming.{plain-act, consumption}
+use Rattle.protocol.proofs.Powers.{Nearly, lost-inv, crash-inv, comes-inv, helps-inv, pleaded, taken-nearly, taken-inv}
 
 -- a fact Ψ of one entry of every book that each call keeps is kept by every step, beside the invariant
 module _ (B : Wall) (j c : ℕ) (Ψ : (ℕ → Entry) → Type 0)
@@ -33,7 +35,7 @@ module _ (B : Wall) (j c : ℕ) (Ψ : (ℕ → Entry) → Type 0)
   call-holds : (r : ℕ) (a : Call) (s : State) (mail : List Copy)
       → ((j c : ℕ) → Named B r a s j c → Inv B j c (view j c s) → Act B j c (view j c s) r a (out B r a s) mail)
       → (sameEntry (senderOf r a) (numberOf a) j c ≡ false → (P : Copy → Bool) → copiesOf j c P mail ≡ copiesOf j c P (s .mail))
-      → Holds s → Holds (called B r a (s .gave) mail)
+      → Holds s → Holds (called B r a s mail)
   call-holds r a s mail f f₂ H = bcase (sameEntry j₁ c₁ j c) mine others
     where
       j₁ : ℕ
@@ -45,13 +47,13 @@ module _ (B : Wall) (j c : ℕ) (Ψ : (ℕ → Entry) → Type 0)
       o : Out
       o = out B r a s
 
-      mine : sameEntry j₁ c₁ j c ≡ true → Holds (called B r a (s .gave) mail)
+      mine : sameEntry j₁ c₁ j c ≡ true → Holds (called B r a s mail)
       mine t =
           let N = named B r a s j c (sym (eqb→eq j j₁ (and-l (eqb j j₁) _ (T-of t)))) (sym (eqb→eq c c₁ (and-r (eqb j j₁) _ (T-of t)))) in
           let A = f j c N (H .0) in
           subst Kept (sym (N .seen mail)) (act-inv B j c (view j c s) (H .0) r a o mail A, keep (view j c s) (H .0) (H .1) r a o mail A)
 
-      others : sameEntry j₁ c₁ j c ≡ false → Holds (called B r a (s .gave) mail)
+      others : sameEntry j₁ c₁ j c ≡ false → Holds (called B r a s mail)
       others t =
           subst Kept (sym (view-elsewhere B r a s mail j c t)) (
             else-inv B j c (view j c s) _ (λ P. omega (
@@ -64,15 +66,26 @@ module _ (B : Wall) (j c : ℕ) (Ψ : (ℕ → Entry) → Type 0)
           )
 
   -- a step may be none of a run's
-  if-holds : (b : Bool) (s s₂ : State) → Holds s → (b ≡ true → Holds s₂) → Holds (cond b s₂ s)
-  if-holds true s s₂ H f = f refl
-  if-holds false s s₂ H f = H
+  if-holds : (b : Bool) (s₂ s₃ : State) → (b ≡ true → Holds s₂) → (b ≡ false → Holds s₃) → Holds (cond b s₂ s₃)
+  if-holds true s₂ s₃ f g = f refl
+  if-holds false s₂ s₃ f g = g refl
+
+  helps-holds : (r p : ℕ) (s s₂ : State) → T (right B r) → Ψ (view j c s₂ .house) → Nearly B j c s₂ r p → Holds (helps B r p s₂)
+  unfolding helps
+  helps-holds r p s s₂ g z N =
+      (helps-inv B j c s₂ r p g N, same (eqb (helpAnswer (n B) (B .limit) p (s₂ .power .helped r p)) 0) _ s₂ z z)
+    where
+      same : (b : Bool) (x y : State) → Ψ (view j c x .house) → Ψ (view j c y .house) → Ψ (view j c (cond b x y) .house)
+      same true x y a d = a
+      same false x y a d = d
 
   step-holds : (a : Step) (s : State) → Holds s → Holds (step B a s)
-  unfolding step consumes
+  unfolding step consumes arrives asked comes
   step-holds (publish r c₂ v) s H =
-      if-holds (right B r) s _ H
-      (λ t. call-holds r (publishing c₂ v) s (s .mail) (plain-act B r (publishing c₂ v) s (T-of t) (λ k p w b g. b)) (λ t P. refl) H)
+      if-holds (isUp B s r) _ s
+      (λ t. call-holds r (publishing c₂ v) s (s .mail) (plain-act B r (publishing c₂ v) s (and-l (right B r) _ (T-of t)) (λ k p w b g. b))
+      (λ t P. refl) H)
+      (λ t. H)
   step-holds (consume i) s H = go (at (s .mail) i) refl
     where
       unused : (m : Copy) → at (s .mail) i ≡ some m → onIt j c m ≡ false → (P : Copy → Bool)
@@ -86,16 +99,40 @@ module _ (B : Wall) (j c : ℕ) (Ψ : (ℕ → Entry) → Type 0)
       go : (x : Option Copy) → at (s .mail) i ≡ x → Holds (consumes B i x s)
       go none e = H
       go (some m) e =
-          if-holds (right B (m .to) && not (m .consumed)) s _ H
-          (λ t. call-holds (m .to) (opens m) s (consumeAt (s .mail) i)
-          (consumption B s i m e (and-l (right B (m .to)) _ (T-of t)) (false-of (m .consumed) (and-r (right B (m .to)) _ (T-of t))))
-          (unused m e) H)
+          if-holds (right B (m .to) && not (m .consumed)) _ s
+          (λ t. if-holds (s .power .down (m .to)) _ _
+          (λ d. (lost-inv B j c (view j c s) i m e d (H .0), H .1))
+          (λ d. call-holds (m .to) (opens m) s (consumeAt (s .mail) i)
+          (consumption B s i m e (and-l (right B (m .to)) _ (T-of t)))
+          (unused m e) H))
+          (λ t. H)
   step-holds (wrong p r k j₂ c₂ v) s H =
-      if-holds (right B r && isWrong B p) s _ H
+      if-holds (isUp B s r && isWrong B p) _ s
       (λ t. call-holds r (receiving p k j₂ c₂ v) s (s .mail)
-      (plain-act B r (receiving p k j₂ c₂ v) s (and-l (right B r) _ (T-of t))
-      (λ l q w b g. T-not (right B p) (and-r (right B r) _ (T-of t)) (rw (b .1) at g)))
+      (plain-act B r (receiving p k j₂ c₂ v) s (and-l (right B r) _ (and-l (isUp B s r) _ (T-of t)))
+      (λ l q w b g. T-not (right B p) (and-r (isUp B s r) _ (T-of t)) (rw (b .1) at g)))
       (λ t P. refl) H)
+      (λ t. H)
+  step-holds (crash r) s H = if-holds (isUp B s r) _ s (λ t. (crash-inv B j c (view j c s) r (H .0), H .1)) (λ t. H)
+  step-holds (comeback r) s H =
+      if-holds (right B r && s .power .down r) _ s
+      (λ t. (comes-inv B j c s r (and-l (right B r) _ (T-of t)) (H .0), H .1)) (λ t. H)
+  step-holds (help i) s H = go (at (s .power .requests) i) refl
+    where
+      go : (x : Option Request) → at (s .power .requests) i ≡ x → Holds (asked B i x s)
+      go none e = H
+      go (some m) e =
+          if-holds (right B (m .to) && not (m .consumed)) _ s
+          (λ t. if-holds (s .power .down (m .to)) _ _
+          (λ d. (taken-inv B j c s i m e (H .0) d, H .1))
+          (λ d. helps-holds (m .to) (m .from) s (taken i s) (and-l (right B (m .to)) _ (T-of t)) (H .1)
+          (taken-nearly B j c s i m e (H .0) (false-of (m .consumed) (and-r (right B (m .to)) _ (T-of t))))))
+          (λ t. H)
+  step-holds (plead p r) s H =
+      if-holds (isUp B s r && isWrong B p) _ s
+      (λ t. helps-holds r p s s (and-l (right B r) _ (and-l (isUp B s r) _ (T-of t))) (H .1)
+      (pleaded B j c s r p (T-not (right B p) (and-r (isUp B s r) _ (T-of t))) (H .0)))
+      (λ t. H)
 
   run-holds : (l : List Step) (s : State) → Holds s → Holds (run B l s)
   unfolding run
@@ -140,7 +177,9 @@ module _ (B : Wall) (j c : ℕ) (Ψ : (ℕ → Entry) → Type 0)
             };
             post = record {
               truthful = refl;
-              sent = λ k F Q. rw (unsaid k F) (omega arith);
-              consumed = λ k p r g g₂ m. ap (λ o. bit (isSome o)) (sym (fresh-heard k p));
+              at-least = λ k F Q. rw (unsaid k F) (omega arith);
+              at-most = λ k F Q. omega arith;
+              reaches = λ L k p q v e g. absurd (none-some (own k fresh) v (fresh-own k) e);
             };
+            helping = record { limited = λ p q. omega arith; pending = λ p q g. omega arith };
           }

@@ -7,8 +7,9 @@ use mathlib.Core.List.{List, [], _∷_}
 use Prim.Native.Nat.{ℕ}
 use lib.Dec.{eqb, eqb→eq}
 use Rattle.protocol.specs.Book.{PerEntry, Book, sameEntry, place, Call, publishing, receiving, senderOf, numberOf, outcome, after}
-use Rattle.protocol.specs.Run.{isWrong, Wall, Copy, State, Step, publish, consume, wrong, right, at, consumeAt, opens, called}
-use Rattle.protocol.specs.Run.{consumes, step, run}
+use Rattle.protocol.specs.Run.{n, isWrong, Wall, Copy, Request, State, Step, publish, consume, wrong, crash, comeback, help, plead}
+use Rattle.protocol.specs.Run.{right, isUp, at, consumeAt, opens, called, arrives, consumes, comes, helpAnswer, helps, taken, asked}
+use Rattle.protocol.specs.Run.{step, run}
 use Rattle.protocol.specs.Claims.{Filled}
 use Rattle.protocol.proofs.Basics.{T-of, and-l, and-r, upd-all}
 use Rattle.protocol.proofs.Moves.{filled-refl, filled-trans}
@@ -28,7 +29,7 @@ place-all {A = A} Φ b j c x f g j₂ c₂ = go (sameEntry j c j₂ c₂) refl
     go false t = f (b j₂ c₂)
 
 module _ (B : Wall) where
-  called-fills : (r : ℕ) (a : Call) (s : State) (mail : List Copy) → Fills s (called B r a (s .gave) mail)
+  called-fills : (r : ℕ) (a : Call) (s : State) (mail : List Copy) → Fills s (called B r a s mail)
   unfolding called after
   called-fills r a s mail =
       let b : Book = s .gave .books r in
@@ -37,19 +38,41 @@ module _ (B : Wall) where
       (place-all Filled b (senderOf r a) (numberOf a) (o .entry) filled-refl (outcome-done (B .rules) (B .numbers) r a b .moves .filled))
       (λ q j c. filled-refl (s .gave .books q j c))
 
-  if-fills : (b : Bool) (s s₂ : State) → Fills s s₂ → Fills s (cond b s₂ s)
-  if-fills true s s₂ f = f
-  if-fills false s s₂ f = λ r j c. filled-refl (s .gave .books r j c)
+  same-fills : (s : State) → Fills s s
+  same-fills s r j c = filled-refl (s .gave .books r j c)
+
+  if-fills : (b : Bool) (s s₂ s₃ : State) → Fills s s₂ → Fills s s₃ → Fills s (cond b s₂ s₃)
+  if-fills true s s₂ s₃ f g = f
+  if-fills false s s₂ s₃ f g = g
+
+  helps-fills : (r p : ℕ) (s : State) → Fills s (helps B r p s)
+  unfolding helps
+  helps-fills r p s =
+      if-fills (eqb (helpAnswer (n B) (B .limit) p (s .power .helped r p)) 0) s _ s (same-fills s) (same-fills s)
 
   step-fills : (a : Step) (s : State) → Fills s (step B a s)
-  unfolding step consumes
-  step-fills (publish r c v) s = if-fills (right B r) s _ (called-fills r (publishing c v) s (s .mail))
+  unfolding step consumes arrives comes asked
+  step-fills (publish r c v) s = if-fills (isUp B s r) s _ s (called-fills r (publishing c v) s (s .mail)) (same-fills s)
   step-fills (consume i) s = go (at (s .mail) i)
     where
       go : (x : Option Copy) → Fills s (consumes B i x s)
-      go none = λ r j c. filled-refl (s .gave .books r j c)
-      go (some m) = if-fills (right B (m .to) && not (m .consumed)) s _ (called-fills (m .to) (opens m) s (consumeAt (s .mail) i))
-  step-fills (wrong p r k j c v) s = if-fills (right B r && isWrong B p) s _ (called-fills r (receiving p k j c v) s (s .mail))
+      go none = same-fills s
+      go (some m) =
+          if-fills (right B (m .to) && not (m .consumed)) s _ s
+          (if-fills (s .power .down (m .to)) s _ _ (same-fills s) (called-fills (m .to) (opens m) s (consumeAt (s .mail) i)))
+          (same-fills s)
+  step-fills (wrong p r k j c v) s =
+      if-fills (isUp B s r && isWrong B p) s _ s (called-fills r (receiving p k j c v) s (s .mail)) (same-fills s)
+  step-fills (crash r) s = if-fills (isUp B s r) s _ s (same-fills s) (same-fills s)
+  step-fills (comeback r) s = if-fills (right B r && s .power .down r) s _ s (same-fills s) (same-fills s)
+  step-fills (help i) s = go (at (s .power .requests) i)
+    where
+      go : (x : Option Request) → Fills s (asked B i x s)
+      go none = same-fills s
+      go (some m) =
+          if-fills (right B (m .to) && not (m .consumed)) s _ s
+          (if-fills (s .power .down (m .to)) s _ _ (same-fills s) (helps-fills (m .to) (m .from) (taken i s))) (same-fills s)
+  step-fills (plead p r) s = if-fills (isUp B s r && isWrong B p) s _ s (helps-fills r p s) (same-fills s)
 
   pub run-fills : (l : List Step) (s : State) → Fills s (run B l s)
   unfolding run

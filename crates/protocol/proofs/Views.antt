@@ -14,7 +14,8 @@ use Rattle.protocol.specs.Run.{n, Wall, Copy, State, posted, push, calle
 use Rattle.protocol.proofs.Basics.{T-of, true-of}
 use Rattle.protocol.proofs.Calls.{Done, outcome-done, outcome-booked}
 use Rattle.protocol.proofs.Mail.{tally-toAll}
-use Rattle.protocol.proofs.Invariant.{View, entry-refl, acted}
+use Rattle.protocol.proofs.Invariant.{View, acted}
+use Rattle.protocol.proofs.Again.{entry-refl}
 
 abbrev pub view : ℕ → ℕ → State → View
 view j c s =
@@ -23,11 +24,12 @@ view j c s =
       deliveries = λ r. s .gave .deliveries r j c;
       publications = λ r. s .gave .publications r j c;
       mail = s .mail;
+      power = s .power;
     }
 
 -- the same with another mail
 abbrev pub with-mail : View → List Copy → View
-with-mail u l = record { house = u .house; deliveries = u .deliveries; publications = u .publications; mail = l }
+with-mail u l = record { house = u .house; deliveries = u .deliveries; publications = u .publications; mail = l; power = u .power }
 
 -- house r's table with x at sender j and number c
 abbrev put : {A : Type 0} → (ℕ → PerEntry A) → ℕ → ℕ → ℕ → A → ℕ → PerEntry A
@@ -64,7 +66,7 @@ module _ (B : Wall) (r : ℕ) (a : Call) (s : State) where
   abbrev c : ℕ
   c = numberOf a
 
-  view-here : (mail : List Copy) → view j c (called B r a (s .gave) mail) ≡ acted B j c (view j c s) r a out mail
+  view-here : (mail : List Copy) → view j c (called B r a s mail) ≡ acted B j c (view j c s) r a out mail
   unfolding called after
   view-here mail =
       λ i. record {
@@ -72,10 +74,11 @@ module _ (B : Wall) (r : ℕ) (a : Call) (s : State) where
         deliveries = put-here (s .gave .deliveries) r j c (push (out .delivery) (s .gave .deliveries r j c)) i;
         publications = put-here (s .gave .publications) r j c (push (publication a (out .answer)) (s .gave .publications r j c)) i;
         mail = mail ++ posted j c r (out .message) (n B);
+        power = s .power;
       }
 
   pub view-elsewhere : (mail : List Copy) (j₂ c₂ : ℕ) → sameEntry j c j₂ c₂ ≡ false
-      → view j₂ c₂ (called B r a (s .gave) mail) ≡ with-mail (view j₂ c₂ s) (mail ++ posted j c r (out .message) (n B))
+      → view j₂ c₂ (called B r a s mail) ≡ with-mail (view j₂ c₂ s) (mail ++ posted j c r (out .message) (n B))
   unfolding called after
   view-elsewhere mail j₂ c₂ e =
       λ i. record {
@@ -84,6 +87,7 @@ module _ (B : Wall) (r : ℕ) (a : Call) (s : State) where
         publications = put-elsewhere (s .gave .publications) r j c
             (push (publication a (out .answer)) (s .gave .publications r j c)) j₂ c₂ e i;
         mail = mail ++ posted j c r (out .message) (n B);
+        power = s .power;
       }
 
   -- what the call shows of the entry that it names
@@ -92,7 +96,7 @@ module _ (B : Wall) (r : ℕ) (a : Call) (s : State) where
     pub number : numberOf a ≡ c
     pub done : Done (B .rules) j r a (s .gave .books r j c) out
     pub booked : (m : Say) → out .message ≡ some m → T (inBook (B .rules) (B .numbers) j c)
-    pub seen : (mail : List Copy) → view j c (called B r a (s .gave) mail) ≡ acted B j c (view j c s) r a out mail
+    pub seen : (mail : List Copy) → view j c (called B r a s mail) ≡ acted B j c (view j c s) r a out mail
 
   pub named : (j₂ c₂ : ℕ) → j ≡ j₂ → c ≡ c₂ → Named j₂ c₂
   named j₂ c₂ e e₂ =

@@ -2,17 +2,18 @@
 -- Assumes nothing.
 use mathlib.Core.Path.{_≡_}
 use mathlib.Core.Bool.{Bool, false}
+use mathlib.Core.Logic.{_⊎_}
 use mathlib.Core.Option.{Option, some}
 use mathlib.Core.List.{List, [], _∷_}
 use Prim.Native.Nat.{ℕ, _+_, _*_, _≤_, _<_}
 use lib.Dec.{T}
 use lib.ListN.{length}
-use Rattle.card.specs.Card.{tolerated}
-use Rattle.protocol.specs.Entry.{Decl, Entry, Rules}
+use Rattle.protocol.specs.Entry.{Decl, Entry, Rules, heard}
+use Rattle.protocol.specs.Steps.{Out}
 use Rattle.protocol.specs.Book.{Book, Call, senderOf, numberOf, outcome, after}
-use Rattle.protocol.specs.Run.{n, Wall, Copy, State, Step, right, h, start, run, at, opens, onIt, copies, readies, between}
-use Rattle.protocol.specs.Run.{consumedBetween, Drained}
-use Rattle.protocol.specs.Thresholds.{wallOf, AtMost, Tolerated}
+use Rattle.protocol.specs.Run.{n, Wall, Copy, State, Step, right, isUp, h, start, run, at, opens, onIt, copies, readies, between}
+use Rattle.protocol.specs.Run.{consumedBetween, Drained, Limited}
+use Rattle.protocol.specs.Thresholds.{wallOf, AtMost, Tolerated, TakePart, downs}
 
 -- An accepted publication or message changes the named entry alone. Two books that agree on one entry give the same answer, message
 -- and delivery to any call that names that entry, and end agreeing on it, whatever the other entries hold.
@@ -45,27 +46,35 @@ module _ (B : Wall) (j c : ℕ) where
   abbrev pub Published : State → Decl → Type 0
   Published s v = s .gave .publications j j c ≡ v ∷ []
 
-  -- delivered at all h
+  -- delivered at all that are up
   abbrev pub Everywhere : State → Decl → Type 0
-  Everywhere s v = (r : ℕ) → T (right B r) → Delivered s r v
+  Everywhere s v = (r : ℕ) → T (isUp B s r) → Delivered s r v
 
-  -- with any number of wrong houses
-  pub record Bounded (s : State) : Type 0 where
-    -- In any order of calls the honest houses send at most n + 2hn messages on one entry,
-    pub bound : copies j c s ≤ n B + 2 * (h B * n B)
-    -- and of these at most h + 2h^2 between honest houses.
-    pub bound-between : between B j c s ≤ h B + 2 * (h B * h B)
+  -- what consuming a copy gives
+  abbrev pub consuming : State → Copy → Out
+  consuming s m = outcome (B .rules) (B .numbers) (m .to) (opens m) (s .gave .books (m .to))
+
+  -- with any number of wrong houses, and however often houses crash and return
+  pub record Safe (s : State) : Type 0 where
     -- At most one delivery per entry at each single house.
     pub once : (r : ℕ) → length (s .gave .deliveries r j c) ≤ 1
     -- At most one publication is accepted at each number.
     pub published-once : length (s .gave .publications j j c) ≤ 1
     -- No honest house ever delivers an implausible declaration.
     pub plausible : (r : ℕ) (v : Decl) → Delivered s r v → T (B .rules .ok v)
-    -- A copy that an honest house sent is accepted where it is consumed.
-    pub accepted : (i : ℕ) (m : Copy) → at (s .mail) i ≡ some m → T (onIt j c m) → T (right B (m .to)) → m .consumed ≡ false
-        → outcome (B .rules) (B .numbers) (m .to) (opens m) (s .gave .books (m .to)) .answer ≡ 0
+    -- A copy that an honest house sent is accepted where it is consumed, or is a repeat of what was accepted.
+    pub accepted : (i : ℕ) (m : Copy) → at (s .mail) i ≡ some m → T (onIt j c m) → T (right B (m .to))
+        → (consuming s m .answer ≡ 0)
+        ⊎ ((consuming s m .answer ≡ 7) × (heard (m .kind) (m .from) (s .gave .books (m .to) j c) ≡ some (m .decl)))
     -- Calls only ever fill empty slots, whatever steps come.
     pub fills : (l : List Step) (r : ℕ) → Filled (s .gave .books r j c) (run B l s .gave .books r j c)
+
+  -- with any number of wrong houses, each honest house returning at most d times
+  pub record Bounded (s : State) : Type 0 where
+    -- demand 3's bound grows by 6hnd copies per entry
+    pub bound : copies j c s ≤ n B + 2 * (h B * n B) + 6 * (h B * n B * B .limit)
+    -- the READY messages
+    pub readies : readies j c s ≤ h B * n B + 2 * (h B * n B * B .limit)
 
   -- with at most t
   pub record Agreed (s : State) : Type 0 where
@@ -73,35 +82,41 @@ module _ (B : Wall) (j c : ℕ) where
     pub agree : (r q : ℕ) (v w : Decl) → Delivered s r v → Delivered s q w → v ≡ w
     -- and from an honest sender only what it published.
     pub authentic : T (right B j) → (r : ℕ) (v : Decl) → Delivered s r v → Published s v
-    -- An accepted publication by an honest sender is delivered at every honest house by the time its h + 2h^2 copies between honest
-    -- houses are consumed.
-    pub by-count : T (right B j) → (v : Decl) → Published s v → consumedBetween B j c s ≡ h B + 2 * (h B * h B) → Everywhere s v
 
-  -- and once every copy of this entry between honest houses is consumed
+  -- and with at most f honest ones down, and no copy of this entry and no request between up houses left
   pub record Complete (s : State) : Type 0 where
-    -- what an honest sender published is what each honest house delivered: none for none,
-    pub equal : T (right B j) → (r : ℕ) → T (right B r) → s .gave .deliveries r j c ≡ s .gave .publications j j c
-    -- and an entry an honest sender published cost exactly n + 2hn,
-    pub cost : T (right B j) → (v : Decl) → Published s v → copies j c s ≡ n B + 2 * (h B * n B)
-    -- h + 2h^2 of them between honest houses;
-    pub cost-between : T (right B j) → (v : Decl) → Published s v → between B j c s ≡ h B + 2 * (h B * h B)
-    -- an entry that one honest house delivered is delivered by all,
+    -- what a sender that is up published is what each house that is up delivered: none for none;
+    pub equal : T (isUp B s j) → (r : ℕ) → T (isUp B s r) → s .gave .deliveries r j c ≡ s .gave .publications j j c
+    -- an entry that one honest house delivered, up or not, is delivered by all that are up.
     pub all : (q : ℕ) (v : Decl) → Delivered s q v → Everywhere s v
-    -- at exactly hn READY messages.
-    pub all-readies : (q : ℕ) (v : Decl) → Delivered s q v → readies j c s ≡ h B * n B
 
-  -- in any order of calls; `Few` says that at most t houses are wrong
-  pub record Season (Few : Type 0) (l : List Step) : Type 0 where
-    pub bounded : Bounded (run B l start)
+  -- 01's exact counts, with d = 0 and no house down
+  pub record Exact (s : State) : Type 0 where
+    pub bound : copies j c s ≤ n B + 2 * (h B * n B)
+    pub bound-between : between B j c s ≤ h B + 2 * (h B * h B)
+    pub by-count : T (right B j) → (v : Decl) → Published s v → consumedBetween B j c s ≡ h B + 2 * (h B * h B) → Everywhere s v
+    pub cost : Drained B j c s → T (right B j) → (v : Decl) → Published s v → copies j c s ≡ n B + 2 * (h B * n B)
+    pub cost-between : Drained B j c s → T (right B j) → (v : Decl) → Published s v → between B j c s ≡ h B + 2 * (h B * h B)
+    pub all-readies : Drained B j c s → (q : ℕ) (v : Decl) → Delivered s q v → readies j c s ≡ h B * n B
+
+  -- in any order of calls; `Few` says that at most t houses are wrong, `Part` that at most f honest ones are down
+  pub record Season (Few : Type 0) (Part : State → Type 0) (l : List Step) : Type 0 where
+    pub safe : Safe (run B l start)
+    pub bounded : Limited B (run B l start .power) → Bounded (run B l start)
     pub agreed : Few → Agreed (run B l start)
-    pub complete : Few → Drained B j c (run B l start) → Complete (run B l start)
+    pub complete : Few → Limited B (run B l start .power) → Part (run B l start) → Drained B j c (run B l start)
+        → Complete (run B l start)
+    -- with d = 0, so that no house returns or is helped, and none down
+    pub exact : Few → Part (run B l start) → B .limit ≡ 0 → Limited B (run B l start .power) → downs B (run B l start) ≡ 0
+        → Exact (run B l start)
 
 -- of every run and every entry
 pub record Claims : Type 0 where
   -- with any thresholds that meet the inequalities,
-  pub thresholds : (B : Wall) (t : ℕ) (l : List Step) (j c : ℕ) → Season B j c (Tolerated B t (right B)) l
-  -- and with those of the wall card: take n houses, t the number 01 tolerates, at most t of them wrong, h honest;
-  pub card : (n numbers : ℕ) (ok : Decl → Bool) (honest : ℕ → Bool) → 0 < n → (l : List Step) (j c : ℕ)
-      → Season (wallOf n (tolerated n) numbers ok honest) j c (AtMost (wallOf n (tolerated n) numbers ok honest) (tolerated n)) l
+  pub thresholds : (B : Wall) (t : ℕ) (l : List Step) (j c : ℕ) → Season B j c (Tolerated B t) (λ s. TakePart B (isUp B s)) l
+  -- and with the card's counts: take n houses, n > 3t + 2f, at most t of them wrong, at most f honest ones down;
+  pub card : (n t f d numbers : ℕ) (ok : Decl → Bool) (honest : ℕ → Bool) → 3 * t + 2 * f < n → (l : List Step) (j c : ℕ)
+      → Season (wallOf n t f d numbers ok honest) j c (AtMost (wallOf n t f d numbers ok honest) t)
+      (λ s. downs (wallOf n t f d numbers ok honest) s ≤ f) l
   -- and the rule between entries.
   pub alone : (R : Rules) (numbers own : ℕ) (a : Call) → Alone R numbers own a

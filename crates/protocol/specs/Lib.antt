@@ -5,3 +5,4 @@ pub mod Run
 pub mod Thresholds
 pub mod Claims
 pub mod Example
+pub mod Needed
