@@ -7,12 +7,12 @@ use mathlib.Core.List.{List, [], _∷_, _++_}
 use mathlib.Core.Option.{some}
 use lib.Ieee.{ofBits, toBits}
 use lib.ListN.{replicate}
-use Rattle.card.specs.Card.{houses}
+use Rattle.card.specs.Card.{houses, downOk}
 use Rattle.lot.specs.Sheet.{gateLegal}
 use Rattle.sheet.specs.Kept.{sheetBytes, sheetAt, isSheet, sheetLegalAt}
 use Rattle.protocol.specs.Entry.{Decl}
 use Rattle.meaning.specs.Slot.{slotAt, putSlot}
-use Rattle.meaning.specs.Layout.{numbersOk, lengthOf, slotPlace, entrySlot}
+use Rattle.meaning.specs.Layout.{numbersOk, mostLimit, lengthOf, slotPlace, entrySlot}
 use Rattle.meaning.specs.Layout.{sendSlot, echoSlot, readySlot, readySentSlot, deliveredSlot}
 use Rattle.meaning.specs.Book.{look, write}
 use Rattle.meaning.specs.Legal.{legal}
@@ -27,7 +27,7 @@ sheet =
 
 -- n 1, S 1, own number 0, season 2026, the sheet; then six slots
 abbrev header : List ℕ
-header = 1 ∷ 1 ∷ 0 ∷ 0 ∷ 0 ∷ 0x07 ∷ 0xEA ∷ sheet
+header = 1 ∷ 1 ∷ 0 ∷ 0 ∷ 0 ∷ 0x07 ∷ 0xEA ∷ sheet ++ (0 ∷ 8 ∷ 0 ∷ [])
 
 abbrev freshly : List ℕ
 freshly = header ++ replicate 126 0
@@ -40,16 +40,16 @@ lot =
 abbrev sent : List ℕ
 sent = header ++ (replicate 21 0 ++ (1 ∷ lot ++ replicate 84 0))
 
-length-here : lengthAnswer 1 1 ≡ record { answer = 0; length = 155 }
+length-here : lengthAnswer 1 1 ≡ record { answer = 0; length = 158 }
 unfolding lengthAnswer houses numbersOk lengthOf
 length-here = refl
 
-longest-here : lengthAnswer 16 4 ≡ record { answer = 0; length = 47153 }
+longest-here : lengthAnswer 16 4 ≡ record { answer = 0; length = 47171 }
 unfolding lengthAnswer houses numbersOk lengthOf
 longest-here = refl
 
-opened-here : opened (replicate 155 9) 1 1 0 2026 sheet ≡ record { answer = 0; book = freshly }
-unfolding opened houses numbersOk lengthOf isSheet gateLegal sheetAt sheetBytes write ofBits toBits
+opened-here : opened (replicate 158 9) 1 1 0 0 8 2026 sheet ≡ record { answer = 0; book = freshly }
+unfolding opened downOk houses numbersOk lengthOf isSheet gateLegal sheetAt sheetBytes write ofBits toBits mostLimit
 opened-here = refl
 
 -- slot i of the one entry
@@ -61,7 +61,7 @@ abbrev places : List ℕ
 places =
     slotPlace 1 0 ∷ place sendSlot ∷ place (echoSlot 0) ∷ place (readySlot 1 0) ∷ place (readySentSlot 1) ∷ place (deliveredSlot 1) ∷ []
 
-places-here : places ≡ 29 ∷ 50 ∷ 71 ∷ 92 ∷ 113 ∷ 134 ∷ []
+places-here : places ≡ 32 ∷ 53 ∷ 74 ∷ 95 ∷ 116 ∷ 137 ∷ []
 unfolding slotPlace entrySlot
 places-here = refl
 
@@ -70,7 +70,7 @@ unfolding putSlot slotPlace entrySlot
 sent-here = refl
 
 legal-here : legal sent ≡ true
-unfolding legal houses numbersOk lengthOf sheetLegalAt ofBits
+unfolding legal downOk houses numbersOk lengthOf sheetLegalAt ofBits mostLimit
 legal-here = refl
 
 meant-here : look sent 0 0 .send ≡ some lot

@@ -14,3 +14,4 @@ pub mod Numbered
 pub mod Every
 pub mod Opening
 pub mod Example
+pub mod Helped

@@ -7,15 +7,16 @@ use mathlib.Core.List.{List}
 use mathlib.Core.Option.{Option, none}
 use native.Mathlib.Omega.{arith}
 use lib.Dec.{eqb, ltb}
+use lib.ListN.{getD}
 use borrow.Author.Tests.{ltb-true, le-ltb, ne-eqb}
 use Rattle.words.specs.Words.{Bytes}
 use Rattle.words.proofs.Laws.{wordAt-small}
 use Rattle.sheet.specs.Kept.{keptAt, sheetAt}
 use Rattle.sheet.proofs.OneForm.{gate-fits}
 use Rattle.protocol.specs.Entry.{Decl, fresh}
-use Rattle.meaning.specs.Layout.{perEntry, slotCount, slotPlace, entrySlot}
+use Rattle.meaning.specs.Layout.{helpedPlace, perEntry, slotCount, slotPlace, entrySlot}
 use Rattle.meaning.specs.Layout.{sendSlot, echoSlot, readySlot, readySentSlot, deliveredSlot}
-use Rattle.meaning.specs.Book.{nOf, numbersOf, ownOf, slotOf, forHouses, meant}
+use Rattle.meaning.specs.Book.{nOf, numbersOf, ownOf, limitOf, helpedOf, careOf, slotOf, forHouses, meant}
 use Rattle.meaning.specs.Legal.{legal, IsSlot, IsEntry, IsBook}
 use Rattle.meaning.proofs.Legality.{legal-facts, header-within, slot-within-book}
 use Rattle.meaning.proofs.Places.{entry-slot-below, published-slot-below}
@@ -101,8 +102,16 @@ module _ (b : List ℕ) (h : legal b ≡ true) (bytes : Bytes b) where
   unfolding slotOf
   slots-are-slots k l = slot-is-slot b (slotPlace (nOf b) k) (slot-within-book b (legal-facts b h) k l) bytes
 
+  helped-most : (p : ℕ) → helpedOf b p ≤ limitOf b
+  unfolding helpedOf
+  helped-most p = go (ltb p (nOf b)) refl
+    where
+      go : (t : Bool) → ltb p (nOf b) ≡ t → cond t (getD b (helpedPlace p) 0) 0 ≤ limitOf b
+      go true e = legal-facts b h .helped p (ltb-true p (nOf b) e)
+      go false e = omega arith
+
   pub meant-is-book : IsBook (meant b)
-  unfolding meant sheetAt
+  unfolding meant sheetAt careOf helpedOf
   meant-is-book =
       let f = legal-facts b h in
       record {
@@ -114,6 +123,10 @@ module _ (b : List ℕ) (h : legal b ≡ true) (bytes : Bytes b) where
         moisture = gate-fits (keptAt b 11);
         conductivity = gate-fits (keptAt b 20);
         sheet = header-sheet-legal b (header-within b f) bytes (f .sheet);
+        down = f .down;
+        limit = f .limit;
+        helped = helped-most;
+        helped-past = λ p l. rw (le-ltb p (nOf b) l);
         entries = entries-are-entries (nOf b) (numbersOf b) (ownOf b) (slotOf b) slots-are-slots;
         others = others-published (nOf b) (numbersOf b) (ownOf b) (slotOf b);
         past-sender = past-sender-fresh (nOf b) (numbersOf b) (ownOf b) (slotOf b);

@@ -11,7 +11,7 @@ use Rattle.protocol.specs.Entry.{Entry}
 use Rattle.protocol.specs.Book.{place}
 use Rattle.meaning.specs.Slot.{slotBytes, part}
 use Rattle.meaning.specs.Layout.{headLength, slotCount, lengthOf, slotPlace}
-use Rattle.meaning.specs.Book.{nOf, numbersOf, ownOf, seasonOf, sheetPlace, slotOf, look, meant, rows, write}
+use Rattle.meaning.specs.Book.{nOf, numbersOf, ownOf, seasonOf, sheetPlace, careOf, slotOf, look, meant, rows, write}
 use Rattle.meaning.specs.Legal.{legal, Legal}
 use Rattle.meaning.proofs.Parts.{part-all, part-add}
 use Rattle.meaning.proofs.Legality.{legal-facts, slots-at, header-within, slot-within-book}
@@ -27,12 +27,13 @@ module _ (b : List ℕ) (h : legal b ≡ true) (bytes : Bytes b) where
   facts : Legal b
   facts = legal-facts b h
 
-  slots-part : rows (slotCount (nOf b) (numbersOf b)) (λ k. slotBytes (slotOf b k)) ≡ part b 29 (slotCount (nOf b) (numbersOf b) * 21)
+  slots-part : rows (slotCount (nOf b) (numbersOf b)) (λ k. slotBytes (slotOf b k))
+      ≡ part b (31 + nOf b) (slotCount (nOf b) (numbersOf b) * 21)
   unfolding slotOf slotPlace headLength
   slots-part =
-      rows-parts 21 b 29 (slotCount (nOf b) (numbersOf b)) (λ k. slotBytes (slotOf b k))
+      rows-parts 21 b (31 + nOf b) (slotCount (nOf b) (numbersOf b)) (λ k. slotBytes (slotOf b k))
       (λ k l.
-      let e : 29 + 21 * k ≡ 29 + k * 21 = omega arith in
+      let e : 31 + nOf b + 21 * k ≡ 31 + nOf b + k * 21 = omega arith in
       ok-bytes b (slotPlace (nOf b) k) (slot-within-book b facts k l)
       (slots-at b (nOf b) (slotCount (nOf b) (numbersOf b)) (facts .slots) k l)
       ∙ ap (λ (at : ℕ). part b at 21) e)
@@ -40,10 +41,12 @@ module _ (b : List ℕ) (h : legal b ≡ true) (bytes : Bytes b) where
   pub written : write (meant b) ≡ b
   unfolding meant lengthOf headLength
   written =
-      write-slots (nOf b) (numbersOf b) (ownOf b) (seasonOf b) (sheetAt b sheetPlace) (slotOf b) (facts .own)
+      let e : 31 + nOf b ≡ 0 + (31 + nOf b) = omega arith in
+      write-slots (nOf b) (numbersOf b) (ownOf b) (seasonOf b) (sheetAt b sheetPlace) (careOf b) (slotOf b) (facts .own)
       ∙ ap₂ _++_ (header-bytes b (header-within b facts) bytes (facts .sheet)) slots-part
-      ∙ sym (part-add b 0 29 (slotCount (nOf b) (numbersOf b) * 21))
-      ∙ part-all b (29 + slotCount (nOf b) (numbersOf b) * 21) (omega (arith, facts .long))
+      ∙ ap (λ (k : ℕ). part b 0 (31 + nOf b) ++ part b k (slotCount (nOf b) (numbersOf b) * 21)) e
+      ∙ sym (part-add b 0 (31 + nOf b) (slotCount (nOf b) (numbersOf b) * 21))
+      ∙ part-all b (31 + nOf b + slotCount (nOf b) (numbersOf b) * 21) (omega (arith, facts .long))
 
 -- one byte form per meaning
 pub same-bytes : (b c : List ℕ) → legal b ≡ true → legal c ≡ true → Bytes b → Bytes c → meant b ≡ meant c → b ≡ c
@@ -62,6 +65,7 @@ module _ (b a : List ℕ) (j c : ℕ) (e : Entry) (s : Stored b a j c e) where
         own = s .own i;
         season = s .season i;
         sheet = s .sheet i;
+        care = s .care i;
         entries = s .entries i;
       }
 

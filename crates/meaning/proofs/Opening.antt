@@ -1,45 +1,42 @@
 -- A book freshly opened is its header and then zeros, legal, and means that nothing was heard, sent, delivered or published.
 -- Assumes nothing.
-use Prim.Native.Nat.{ℕ, _+_, _*_, _^_, _<_}
+use Prim.Native.Nat.{ℕ, _+_, _*_, _^_, _≤_, _<_}
 use mathlib.Core.Path.{_≡_, refl, sym, ap, _∙_, fun-ext}
 use mathlib.Core.Bool.{Bool, true, false, cond, _&&_, and-eq-true-iff}
 use mathlib.Core.List.{List, _∷_, _++_}
 use mathlib.Core.Option.{Option, none}
 use native.Mathlib.Nat.{mul-comm}
 use native.Mathlib.Omega.{arith}
-use lib.Dec.{eqb, ltb}
+use lib.Dec.{eqb, leb, ltb}
 use lib.ListN.{length, replicate, length-append, length-replicate}
-use borrow.Author.Tests.{eqb-true, ltb-true}
-use Rattle.card.specs.Card.{houses}
+use borrow.Author.Tests.{eqb-true, ltb-true, leb-true}
+use Rattle.card.specs.Card.{houses, downOk}
 use Rattle.words.specs.Words.{Bytes, be32}
 use Rattle.words.proofs.Laws.{wordAt-small}
 use Rattle.lot.specs.declared.Sheet.{Sheet}
-use Rattle.sheet.specs.Kept.{sheetBytes, keptAt, sheetAt, isSheet}
+use Rattle.sheet.specs.Kept.{keptAt, sheetAt, isSheet}
 use Rattle.sheet.proofs.OneForm.{gate-fits, bytes-legal, bytes-of-sheet}
 use Rattle.protocol.specs.Entry.{Decl, fresh}
 use Rattle.meaning.specs.Slot.{slotBytes}
-use Rattle.meaning.specs.Layout.{numbersOk, headLength, slotLength, slotCount, lengthOf}
-use Rattle.meaning.specs.Book.{Meaning, meant, head, write}
+use Rattle.meaning.specs.Layout.{numbersOk, mostLimit, slotLength, slotCount, lengthOf}
+use Rattle.meaning.specs.Book.{Care, Meaning, meant, careBytes, head, write}
 use Rattle.meaning.specs.Legal.{legal, IsBook}
-use Rattle.meaning.specs.Opening.{freshBook, allowed, Opened, opened}
+use Rattle.meaning.specs.Opening.{freshCare, freshBook, allowed, Opened, opened}
 use Rattle.meaning.proofs.Entries.{entryIn, entriesIn}
 use Rattle.meaning.proofs.Rows.{rows-zeros}
-use Rattle.meaning.proofs.Written.{write-slots}
+use Rattle.meaning.proofs.Written.{write-slots, head-length}
 use Rattle.meaning.proofs.Meant.{fresh-is-entry}
 use Rattle.meaning.proofs.Every.{written-legal, written-meant, written-bytes}
 
 -- ---- the header and then zeros
 
-pub head-length : (n s own season : ℕ) (sheet : Sheet) → length (head n s own season sheet) ≡ headLength n
-unfolding head sheetBytes headLength
-head-length n s own season sheet = refl
-
-pub head-sheet : (n s own season : ℕ) (sheet : List ℕ) → Bytes sheet → isSheet sheet ≡ true
-    → head n s own season (sheetAt sheet 0) ≡ n ∷ s ∷ own ∷ be32 season ++ sheet
+pub head-sheet : (n s own season : ℕ) (sheet : List ℕ) (w : Care) → Bytes sheet → isSheet sheet ≡ true
+    → head n s own season (sheetAt sheet 0) w ≡ n ∷ s ∷ own ∷ be32 season ++ (sheet ++ careBytes n w)
 unfolding head
-head-sheet n s own season sheet bytes h = ap (λ (l : List ℕ). n ∷ s ∷ own ∷ be32 season ++ l) (bytes-of-sheet sheet bytes h)
+head-sheet n s own season sheet w bytes h =
+    ap (λ (l : List ℕ). n ∷ s ∷ own ∷ be32 season ++ (l ++ careBytes n w)) (bytes-of-sheet sheet bytes h)
 
-module _ (n s own season : ℕ) (sheet : Sheet) (h : own < n) where
+module _ (n s own f d season : ℕ) (sheet : Sheet) (h : own < n) where
   none-fresh : (λ (j c : ℕ). fresh) ≡ entriesIn n s own (λ k. none)
   none-fresh = fun-ext (λ j. fun-ext (λ c. go j c (ltb j n && ltb c s)))
     where
@@ -63,36 +60,40 @@ module _ (n s own season : ℕ) (sheet : Sheet) (h : own < n) where
       go j c true = entry-none j c
       go j c false = refl
 
-  pub fresh-written : write (freshBook n s own season sheet) ≡ head n s own season sheet ++ replicate (slotLength * slotCount n s) 0
+  pub fresh-written : write (freshBook n s own f d season sheet)
+      ≡ head n s own season sheet (freshCare f d) ++ replicate (slotLength * slotCount n s) 0
   unfolding slotBytes
   fresh-written =
-      (λ i. write (record { n = n; numbers = s; own = own; season = season; sheet = sheet; entries = none-fresh i }))
-      ∙ write-slots n s own season sheet (λ k. none) h
-      ∙ ap (λ (l : List ℕ). head n s own season sheet ++ l)
+      (λ i. write (record { n = n; numbers = s; own = own; season = season; sheet = sheet; care = freshCare f d; entries = none-fresh i }))
+      ∙ write-slots n s own season sheet (freshCare f d) (λ k. none) h
+      ∙ ap (λ (l : List ℕ). head n s own season sheet (freshCare f d) ++ l)
       (rows-zeros (slotCount n s) 21 ∙ ap (λ (m : ℕ). replicate m 0) (mul-comm (slotCount n s) 21))
 
-  pub fresh-length : length (write (freshBook n s own season sheet)) ≡ lengthOf n s
+  pub fresh-length : length (write (freshBook n s own f d season sheet)) ≡ lengthOf n s
   unfolding lengthOf
   fresh-length =
       ap length fresh-written
-      ∙ length-append (head n s own season sheet) (replicate (slotLength * slotCount n s) 0)
-      ∙ (λ i. head-length n s own season sheet i + length-replicate {A = ℕ} (slotLength * slotCount n s) 0 i)
+      ∙ length-append (head n s own season sheet (freshCare f d)) (replicate (slotLength * slotCount n s) 0)
+      ∙ (λ i. head-length n s own season sheet (freshCare f d) i + length-replicate {A = ℕ} (slotLength * slotCount n s) 0 i)
 
 -- ---- legal, and nothing in it
 
-pub allowed-facts : (n s own : ℕ) → allowed n s own ≡ true → (houses n ≡ true) × (numbersOk s ≡ true) × (own < n)
+pub allowed-facts : (n s own f d : ℕ) → allowed n s own f d ≡ true
+    → (houses n ≡ true) × (numbersOk s ≡ true) × (own < n) × (downOk n f ≡ true) × (d ≤ mostLimit)
 unfolding allowed
-allowed-facts n s own h =
-    let p = and-eq-true-iff (houses n) (numbersOk s && ltb own n) .0 h in
-    let q = and-eq-true-iff (numbersOk s) (ltb own n) .0 (p .1) in
-    (p .0, q .0, ltb-true own n (q .1))
+allowed-facts n s own f d h =
+    let p = and-eq-true-iff (houses n) (numbersOk s && (ltb own n && (downOk n f && leb d mostLimit))) .0 h in
+    let q = and-eq-true-iff (numbersOk s) (ltb own n && (downOk n f && leb d mostLimit)) .0 (p .1) in
+    let r = and-eq-true-iff (ltb own n) (downOk n f && leb d mostLimit) .0 (q .1) in
+    let t = and-eq-true-iff (downOk n f) (leb d mostLimit) .0 (r .1) in
+    (p .0, q .0, ltb-true own n (r .0), t .0, leb-true d mostLimit (t .1))
 
-module _ (n s own season : ℕ) (sheet : List ℕ) (ok : allowed n s own ≡ true)
+module _ (n s own f d season : ℕ) (sheet : List ℕ) (ok : allowed n s own f d ≡ true)
     (small : season < 2 ^ 32) (bytes : Bytes sheet) (h : isSheet sheet ≡ true) where
-  pub fresh-is-book : IsBook (freshBook n s own season (sheetAt sheet 0))
+  pub fresh-is-book : IsBook (freshBook n s own f d season (sheetAt sheet 0))
   unfolding sheetAt
   fresh-is-book =
-      let a = allowed-facts n s own ok in
+      let a = allowed-facts n s own f d ok in
       record {
         n = a .0;
         numbers = a .1;
@@ -102,6 +103,10 @@ module _ (n s own season : ℕ) (sheet : List ℕ) (ok : allowed n s own ≡ tru
         moisture = gate-fits (keptAt sheet 4);
         conductivity = gate-fits (keptAt sheet 13);
         sheet = bytes-legal sheet bytes h;
+        down = a .3;
+        limit = a .4;
+        helped = λ p. omega arith;
+        helped-past = λ p l. refl;
         entries = λ j c. fresh-is-entry n;
         others = λ j c d. refl;
         past-sender = λ j c l. refl;
@@ -110,44 +115,44 @@ module _ (n s own season : ℕ) (sheet : List ℕ) (ok : allowed n s own ≡ tru
 
 -- ---- opening
 
-pub record Opens (b : List ℕ) (n s own : ℕ) (bytes : List ℕ) : Type 0 where
-  pub allowed : allowed n s own ≡ true
+pub record Opens (b : List ℕ) (n s own f d : ℕ) (bytes : List ℕ) : Type 0 where
+  pub allowed : allowed n s own f d ≡ true
   pub sheet : isSheet bytes ≡ true
   pub long : length b ≡ lengthOf n s
 
-module _ (b : List ℕ) (n s own season : ℕ) (sheet : List ℕ) where
+module _ (b : List ℕ) (n s own f d season : ℕ) (sheet : List ℕ) where
   abbrev outcome : Bool → Bool → Bool → Opened
   outcome t u w =
-      cond t (cond u (cond w (record { answer = 0; book = write (freshBook n s own season (sheetAt sheet 0)) })
+      cond t (cond u (cond w (record { answer = 0; book = write (freshBook n s own f d season (sheetAt sheet 0)) })
       (record { answer = 11; book = b })) (record { answer = 10; book = b })) (record { answer = 9; book = b })
 
   -- what answer 0 says
-  pub opened-facts : opened b n s own season sheet .answer ≡ 0 → Opens b n s own sheet
+  pub opened-facts : opened b n s own f d season sheet .answer ≡ 0 → Opens b n s own f d sheet
   unfolding opened
-  opened-facts e = go (allowed n s own) (isSheet sheet) (eqb (length b) (lengthOf n s)) refl refl refl e
+  opened-facts e = go (allowed n s own f d) (isSheet sheet) (eqb (length b) (lengthOf n s)) refl refl refl e
     where
-      go : (t u w : Bool) → allowed n s own ≡ t → isSheet sheet ≡ u → eqb (length b) (lengthOf n s) ≡ w
-          → outcome t u w .answer ≡ 0 → Opens b n s own sheet
+      go : (t u w : Bool) → allowed n s own f d ≡ t → isSheet sheet ≡ u → eqb (length b) (lengthOf n s) ≡ w
+          → outcome t u w .answer ≡ 0 → Opens b n s own f d sheet
       go true true true p q r e = record { allowed = p; sheet = q; long = eqb-true (length b) (lengthOf n s) r }
       go true true false p q r e = absurd (omega arith)
       go true false w p q r e = absurd (omega arith)
       go false u w p q r e = absurd (omega arith)
 
-  pub opened-book : opened b n s own season sheet .answer ≡ 0
-      → opened b n s own season sheet .book ≡ write (freshBook n s own season (sheetAt sheet 0))
+  pub opened-book : opened b n s own f d season sheet .answer ≡ 0
+      → opened b n s own f d season sheet .book ≡ write (freshBook n s own f d season (sheetAt sheet 0))
   unfolding opened
-  opened-book e = go (allowed n s own) (isSheet sheet) (eqb (length b) (lengthOf n s)) e
+  opened-book e = go (allowed n s own f d) (isSheet sheet) (eqb (length b) (lengthOf n s)) e
     where
-      go : (t u w : Bool) → outcome t u w .answer ≡ 0 → outcome t u w .book ≡ write (freshBook n s own season (sheetAt sheet 0))
+      go : (t u w : Bool) → outcome t u w .answer ≡ 0 → outcome t u w .book ≡ write (freshBook n s own f d season (sheetAt sheet 0))
       go true true true e = refl
       go true true false e = absurd (omega arith)
       go true false w e = absurd (omega arith)
       go false u w e = absurd (omega arith)
 
   -- a refusal leaves the lent buffer byte for byte
-  pub opened-refused : (opened b n s own season sheet .answer ≡ 0 → ⊥) → opened b n s own season sheet .book ≡ b
+  pub opened-refused : (opened b n s own f d season sheet .answer ≡ 0 → ⊥) → opened b n s own f d season sheet .book ≡ b
   unfolding opened
-  opened-refused f = go (allowed n s own) (isSheet sheet) (eqb (length b) (lengthOf n s)) f
+  opened-refused g = go (allowed n s own f d) (isSheet sheet) (eqb (length b) (lengthOf n s)) g
     where
       go : (t u w : Bool) → (outcome t u w .answer ≡ 0 → ⊥) → outcome t u w .book ≡ b
       go true true true f = absurd (f refl)
@@ -156,23 +161,23 @@ module _ (b : List ℕ) (n s own season : ℕ) (sheet : List ℕ) where
       go false u w f = refl
 
   -- opening with answer 0 gives a legal book that means a fresh one
-  module _ (small : season < 2 ^ 32) (bytes : Bytes sheet) (e : opened b n s own season sheet .answer ≡ 0) where
+  module _ (small : season < 2 ^ 32) (bytes : Bytes sheet) (e : opened b n s own f d season sheet .answer ≡ 0) where
     abbrev B : Meaning
-    B = freshBook n s own season (sheetAt sheet 0)
+    B = freshBook n s own f d season (sheetAt sheet 0)
 
     is-book : IsBook B
-    is-book = let o = opened-facts e in fresh-is-book n s own season sheet (o .allowed) small bytes (o .sheet)
+    is-book = let o = opened-facts e in fresh-is-book n s own f d season sheet (o .allowed) small bytes (o .sheet)
 
-    pub opened-legal : legal (opened b n s own season sheet .book) ≡ true
+    pub opened-legal : legal (opened b n s own f d season sheet .book) ≡ true
     opened-legal = rw (opened-book e) (written-legal B is-book)
 
-    pub opened-bytes : Bytes (opened b n s own season sheet .book)
+    pub opened-bytes : Bytes (opened b n s own f d season sheet .book)
     opened-bytes = rw (opened-book e) (written-bytes B is-book)
 
-    pub opened-meant : meant (opened b n s own season sheet .book) ≡ B
+    pub opened-meant : meant (opened b n s own f d season sheet .book) ≡ B
     opened-meant = rw (opened-book e) (written-meant B is-book)
 
-    pub opened-length : length (opened b n s own season sheet .book) ≡ length b
+    pub opened-length : length (opened b n s own f d season sheet .book) ≡ length b
     opened-length =
         let o = opened-facts e in
-        rw (opened-book e) (fresh-length n s own season (sheetAt sheet 0) (allowed-facts n s own (o .allowed) .2) ∙ sym (o .long))
+        rw (opened-book e) (fresh-length n s own f d season (sheetAt sheet 0) (allowed-facts n s own f d (o .allowed) .2) ∙ sym (o .long))

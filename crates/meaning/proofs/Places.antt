@@ -33,7 +33,7 @@ count-small n s l k =
     let d : s * n * perEntry n ≤ 255 * 255 * 513 = mul-le-mul (mul-le-mul a b) c in
     omega arith
 
-pub length-small : (n s : ℕ) → n < 256 → s < 256 → lengthOf n s ≤ 700519709
+pub length-small : (n s : ℕ) → n < 256 → s < 256 → lengthOf n s ≤ 700519999
 unfolding lengthOf headLength
 length-small n s l k = let c = count-small n s l k in omega arith
 
@@ -42,7 +42,7 @@ pub length-most : lengthOf 16 4 ≤ 49152
 unfolding lengthOf headLength slotCount perEntry
 length-most = omega arith
 
-pub length-header : (n s : ℕ) → 29 ≤ lengthOf n s
+pub length-header : (n s : ℕ) → 31 + n ≤ lengthOf n s
 unfolding lengthOf headLength
 length-header n s = omega arith
 
@@ -52,7 +52,7 @@ pub slot-within : (n s k : ℕ) → k < slotCount n s → slotPlace n k + slotLe
 unfolding lengthOf slotPlace headLength
 slot-within n s k h = let l = mul-le-mul-left 21 h in omega arith
 
-pub slot-past-header : (n k : ℕ) → 29 ≤ slotPlace n k
+pub slot-past-header : (n k : ℕ) → 31 + n ≤ slotPlace n k
 unfolding slotPlace headLength
 slot-past-header n k = omega arith
 

@@ -16,14 +16,15 @@ use Rattle.protocol.specs.Entry.{Decl, Kind, SEND, ECHO, READY, Entry, upd}
 use Rattle.protocol.specs.Steps.{recorded, marked, publishes}
 use Rattle.protocol.specs.Book.{PerEntry, sameEntry, place}
 use Rattle.meaning.specs.Slot.{slotAt, slotOk, putSlot}
-use Rattle.meaning.specs.Layout.{perEntry, slotCount, slotPlace, entrySlot}
+use Rattle.meaning.specs.Layout.{helpedPlace, perEntry, slotCount, slotPlace, entrySlot}
 use Rattle.meaning.specs.Layout.{sendSlot, echoSlot, readySlot, readySentSlot, deliveredSlot, heardSlot}
-use Rattle.meaning.specs.Book.{nOf, numbersOf, ownOf, seasonOf, sheetPlace, slotOf, look}
+use Rattle.meaning.specs.Book.{nOf, numbersOf, ownOf, seasonOf, sheetPlace, limitOf, careOf, slotOf, look}
 use Rattle.meaning.specs.Legal.{legal, Legal, IsDecl}
 use Rattle.meaning.proofs.Legality.{legal-facts, facts-legal, slots-at, slots-all, slot-within-book}
 use Rattle.meaning.proofs.Places.{slot-past-header, slots-apart, entry-slot-below, published-slot-below}
 use Rattle.meaning.proofs.Slots.{put-length, slot-put, ok-put, put-bytes, getD-elsewhere, slot-elsewhere, ok-elsewhere}
 use Rattle.meaning.proofs.Header.{same-n, same-numbers, same-own, same-season, same-sheet, same-sheet-legal}
+use Rattle.meaning.proofs.Header.{same-down, same-limit, same-helped, same-care}
 use Rattle.meaning.proofs.Entries.{entryFrom, rowIn, publishedIn, entriesIn, look-is}
 use Rattle.meaning.proofs.Entries.{same-entry, entries-in, entries-put, entries-published}
 use Rattle.meaning.proofs.Entries.{send-filled, echo-filled, ready-filled, ready-sent-filled, delivered-filled}
@@ -37,6 +38,7 @@ pub record Stored (b a : List ℕ) (j c : ℕ) (e : Entry) : Type 0 where
   pub own : ownOf a ≡ ownOf b
   pub season : seasonOf a ≡ seasonOf b
   pub sheet : sheetAt a sheetPlace ≡ sheetAt b sheetPlace
+  pub care : careOf a ≡ careOf b
   pub entries : look a ≡ place (look b) j c e
 
 -- ---- one store after another
@@ -73,6 +75,7 @@ module _ (b : List ℕ) (j c : ℕ) where
         own = refl;
         season = refl;
         sheet = refl;
+        care = refl;
         entries = place-same (look b) j c;
       }
 
@@ -88,6 +91,7 @@ module _ (b : List ℕ) (j c : ℕ) where
         own = t .own ∙ s .own;
         season = t .season ∙ s .season;
         sheet = t .sheet ∙ s .sheet;
+        care = t .care ∙ s .care;
         entries = t .entries ∙ rw (stored-entry a e s, s .entries) (place-place (look b) j c e (f e));
       }
 
@@ -108,7 +112,7 @@ module _ (b : List ℕ) (h : legal b ≡ true) (bytes : Bytes b) (v : Decl) (d :
     fits : at + 21 ≤ length b
     fits = slot-within-book b facts k hk
 
-    header : (i : ℕ) → i < 29 → getD after i 0 ≡ getD b i 0
+    header : (i : ℕ) → i < 31 + nOf b → getD after i 0 ≡ getD b i 0
     header i l = getD-elsewhere b at v fits (d .long) i (inl (omega (arith, slot-past-header (nOf b) k)))
 
     n-kept : nOf after ≡ nOf b
@@ -137,6 +141,11 @@ module _ (b : List ℕ) (h : legal b ≡ true) (bytes : Bytes b) (v : Decl) (d :
             ok-elsewhere b at v fits (d .long) (slotPlace (nOf b) m) (slots-apart (nOf b) m k (eqb-false m k e))
             ∙ slots-at b (nOf b) (slotCount (nOf b) (numbersOf b)) (facts .slots) m l
 
+    helped-after : (p : ℕ) → p < nOf after → getD after (helpedPlace p) 0 ≤ limitOf after
+    helped-after p l =
+        let q : p < nOf b = omega (arith, n-kept) in
+        omega (arith, same-helped after b header p q, same-limit after b header, facts .helped p q)
+
     legal-after : legal after ≡ true
     legal-after =
         facts-legal after
@@ -146,6 +155,9 @@ module _ (b : List ℕ) (h : legal b ≡ true) (bytes : Bytes b) (v : Decl) (d :
           own = rw (own-kept, n-kept) (facts .own);
           long = rw (n-kept, numbers-kept) (put-length b at v fits (d .long) ∙ facts .long);
           sheet = same-sheet-legal after b header ∙ facts .sheet;
+          down = rw (n-kept, same-down after b header) (facts .down);
+          limit = rw (same-limit after b header) (facts .limit);
+          helped = helped-after;
           slots = rw (n-kept, numbers-kept) (slots-all after (nOf b) (slotCount (nOf b) (numbersOf b)) ok-after);
         })
 
@@ -161,6 +173,7 @@ module _ (b : List ℕ) (h : legal b ≡ true) (bytes : Bytes b) (v : Decl) (d :
           own = own-kept;
           season = same-season after b header;
           sheet = same-sheet after b header;
+          care = same-care after b header;
           entries = look-is after ∙ (λ i. entriesIn (n-kept i) (numbers-kept i) (own-kept i) (slots-after i)) ∙ q;
         }
 

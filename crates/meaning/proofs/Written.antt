@@ -2,7 +2,9 @@
 -- Assumes nothing.
 use Prim.Native.Nat.{ℕ, _+_, _*_, _<_}
 use mathlib.Core.Path.{_≡_, refl, sym, ap, _∙_}
-use mathlib.Core.List.{List, _++_}
+use mathlib.Core.List.{List, [], _∷_, _++_}
+use lib.ListN.{length}
+use Rattle.sheet.specs.Kept.{sheetBytes}
 use mathlib.Core.Option.{Option}
 use native.Mathlib.Nat.{add-assoc}
 use native.Mathlib.Omega.{arith}
@@ -11,15 +13,23 @@ use Rattle.lot.specs.declared.Sheet.{Sheet}
 use Rattle.protocol.specs.Entry.{Decl, Entry}
 use Rattle.protocol.specs.Book.{PerEntry}
 use Rattle.meaning.specs.Slot.{slotBytes}
-use Rattle.meaning.specs.Layout.{perEntry, slotCount, entrySlot, echoSlot, readySlot}
-use Rattle.meaning.specs.Book.{Meaning, forHouses, head, rows, entryBytes, write}
-use Rattle.meaning.proofs.Rows.{rows-same, rows-add, rows-flat}
+use Rattle.meaning.specs.Layout.{headLength, perEntry, slotCount, entrySlot, echoSlot, readySlot}
+use Rattle.meaning.specs.Book.{Care, Meaning, forHouses, careBytes, head, rows, entryBytes, write}
+use Rattle.meaning.proofs.Rows.{rows-same, rows-add, rows-flat, rows-length}
 use Rattle.meaning.proofs.Entries.{entryFrom, rowIn, publishedIn, entriesIn, entries-in}
 
 -- the same book with other entries
 abbrev pub withEntries : Meaning → PerEntry Entry → Meaning
 withEntries B entries =
-    record { n = B .n; numbers = B .numbers; own = B .own; season = B .season; sheet = B .sheet; entries = entries }
+    record {
+      n = B .n;
+      numbers = B .numbers;
+      own = B .own;
+      season = B .season;
+      sheet = B .sheet;
+      care = B .care;
+      entries = entries;
+    }
 
 in-houses : (n : ℕ) (f : ℕ → Option Decl) (p : ℕ) → p < n → f p ≡ forHouses n f p
 in-houses n f p l = rw (lt-ltb p n l)
@@ -53,7 +63,7 @@ entry-rows n row o =
     readies : ℕ → Option Decl
     readies p = row (readySlot n p)
 
-module _ (n s own season : ℕ) (sheet : Sheet) (slot : ℕ → Option Decl) (h : own < n) where
+module _ (n s own season : ℕ) (sheet : Sheet) (w : Care) (slot : ℕ → Option Decl) (h : own < n) where
   -- the slots after the published ones, and those of one entry
   abbrev past : ℕ → List ℕ
   past k = slotBytes (slot (s + k))
@@ -82,10 +92,14 @@ module _ (n s own season : ℕ) (sheet : Sheet) (slot : ℕ → Option Decl) (h 
       ∙ rows-flat (s * n) (perEntry n) past
 
   abbrev pub meaningOf : Meaning
-  meaningOf = record { n = n; numbers = s; own = own; season = season; sheet = sheet; entries = entriesIn n s own slot }
+  meaningOf = record { n = n; numbers = s; own = own; season = season; sheet = sheet; care = w; entries = entriesIn n s own slot }
 
-  pub write-slots : write meaningOf ≡ head n s own season sheet ++ rows (slotCount n s) (λ k. slotBytes (slot k))
+  pub write-slots : write meaningOf ≡ head n s own season sheet w ++ rows (slotCount n s) (λ k. slotBytes (slot k))
   unfolding write slotCount
   write-slots =
-      (λ i. head n s own season sheet ++ (published-written i ++ entries-written i))
-      ∙ ap (λ (l : List ℕ). head n s own season sheet ++ l) (sym (rows-add s (s * n * perEntry n) (λ k. slotBytes (slot k))))
+      (λ i. head n s own season sheet w ++ (published-written i ++ entries-written i))
+      ∙ ap (λ (l : List ℕ). head n s own season sheet w ++ l) (sym (rows-add s (s * n * perEntry n) (λ k. slotBytes (slot k))))
+
+pub head-length : (n s own season : ℕ) (sheet : Sheet) (w : Care) → length (head n s own season sheet w) ≡ headLength n
+unfolding head sheetBytes careBytes headLength
+head-length n s own season sheet w = omega (arith, rows-length 1 n (λ p. w .helped p ∷ []) (λ p l. refl))

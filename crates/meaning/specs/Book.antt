@@ -5,22 +5,30 @@ use mathlib.Core.Bool.{cond, _&&_}
 use mathlib.Core.List.{List, [], _∷_, _++_}
 use mathlib.Core.Option.{Option, none, some}
 use lib.Dec.{eqb, ltb}
-use lib.ListN.{getD}
+use lib.ListN.{getD, set}
 use Rattle.words.specs.Words.{be32, wordAt}
 use Rattle.lot.specs.declared.Sheet.{Sheet}
 use Rattle.sheet.specs.Kept.{sheetBytes, sheetAt}
-use Rattle.protocol.specs.Entry.{Decl, Entry, fresh}
+use Rattle.protocol.specs.Entry.{Decl, Entry, fresh, upd}
 use Rattle.protocol.specs.Book.{PerEntry}
 use Rattle.meaning.specs.Slot.{slotBytes, slotAt}
-use Rattle.meaning.specs.Layout.{slotPlace, entrySlot, sendSlot, echoSlot, readySlot, readySentSlot, deliveredSlot}
+use Rattle.meaning.specs.Layout.{downPlace, limitPlace, helpedPlace, slotPlace, entrySlot}
+use Rattle.meaning.specs.Layout.{sendSlot, echoSlot, readySlot, readySentSlot, deliveredSlot}
 
--- n, S, own number, season, sheet; and an entry for each sender and number
+-- f, d, and how often each asker was helped
+pub record Care : Type 0 where
+  pub down : ℕ
+  pub limit : ℕ
+  pub helped : ℕ → ℕ
+
+-- n, S, own number, season, sheet; f, d and the help given; and an entry for each sender and number
 pub record Meaning : Type 0 where
   pub n : ℕ
   pub numbers : ℕ
   pub own : ℕ
   pub season : ℕ
   pub sheet : Sheet
+  pub care : Care
   pub entries : PerEntry Entry
 
 -- ---- from bytes to their meaning
@@ -39,6 +47,28 @@ seasonOf b = wordAt b 3
 
 abbrev pub sheetPlace : ℕ
 sheetPlace = 7
+
+abbrev pub downOf : List ℕ → ℕ
+downOf b = getD b downPlace 0
+
+abbrev pub limitOf : List ℕ → ℕ
+limitOf b = getD b limitPlace 0
+
+-- how often asker p was helped; none past the last house
+unfoldable pub helpedOf : List ℕ → ℕ → ℕ
+helpedOf b p = cond (ltb p (nOf b)) (getD b (helpedPlace p) 0) 0
+
+unfoldable pub careOf : List ℕ → Care
+unfolding helpedOf
+careOf b = record { down = downOf b; limit = limitOf b; helped = helpedOf b }
+
+-- one more help for asker p
+abbrev pub moreCare : Care → ℕ → Care
+moreCare w p = record { down = w .down; limit = w .limit; helped = upd (w .helped) p (suc (w .helped p)) }
+
+-- the bytes with one more help for asker p counted
+unfoldable pub countHelp : List ℕ → ℕ → List ℕ
+countHelp b p = set b (helpedPlace p) (suc (getD b (helpedPlace p) 0))
 
 -- slot k of the book
 unfoldable pub slotOf : List ℕ → ℕ → Option Decl
@@ -72,7 +102,7 @@ unfolding entryOf
 look b j c = cond (ltb j (nOf b) && ltb c (numbersOf b)) (entryOf b j c) fresh
 
 unfoldable pub meant : List ℕ → Meaning
-unfolding look
+unfolding look careOf
 meant b =
     record {
       n = nOf b;
@@ -80,19 +110,26 @@ meant b =
       own = ownOf b;
       season = seasonOf b;
       sheet = sheetAt b sheetPlace;
+      care = careOf b;
       entries = look b;
     }
 
 -- ---- from a meaning to its bytes
 
--- the header's 29 bytes
-unfoldable pub head : (n numbers own season : ℕ) → Sheet → List ℕ
-head n s own season sheet = n ∷ s ∷ own ∷ be32 season ++ sheetBytes sheet
-
 -- f 0 to f (n - 1), one after the other
 unfoldable pub rows : ℕ → (ℕ → List ℕ) → List ℕ
 rows zero f = []
 rows (suc n) f = rows n f ++ f n
+
+-- f, d and a byte for each house
+unfoldable pub careBytes : ℕ → Care → List ℕ
+unfolding rows
+careBytes n w = w .down ∷ w .limit ∷ rows n (λ p. w .helped p ∷ [])
+
+-- the header's 31 + n bytes
+unfoldable pub head : (n numbers own season : ℕ) → Sheet → Care → List ℕ
+unfolding careBytes
+head n s own season sheet w = n ∷ s ∷ own ∷ be32 season ++ (sheetBytes sheet ++ careBytes n w)
 
 -- a row of slots: SEND, an ECHO from each house, a READY from each house, READY sent, delivered
 unfoldable pub entryBytes : ℕ → Entry → List ℕ
@@ -105,6 +142,6 @@ entryBytes n e =
 unfoldable pub write : Meaning → List ℕ
 unfolding head rows slotBytes entryBytes
 write B =
-    head (B .n) (B .numbers) (B .own) (B .season) (B .sheet)
+    head (B .n) (B .numbers) (B .own) (B .season) (B .sheet) (B .care)
     ++ (rows (B .numbers) (λ c. slotBytes (B .entries (B .own) c .published))
     ++ rows (B .numbers) (λ c. rows (B .n) (λ j. entryBytes (B .n) (B .entries j c))))

@@ -14,9 +14,23 @@ unfoldable pub numbersOk : ℕ → Bool
 unfolding mostNumbers
 numbersOk s = leb 1 s && leb s mostNumbers
 
--- the header's bytes: n, S, own number, season (4), sheet (22)
+-- the recovery limit d: 0 to 8
+unfoldable pub mostLimit : ℕ
+mostLimit = 8
+
+-- where f, d and how often asker p was helped stand
+abbrev pub downPlace : ℕ
+downPlace = 29
+
+abbrev pub limitPlace : ℕ
+limitPlace = 30
+
+abbrev pub helpedPlace : ℕ → ℕ
+helpedPlace p = 31 + p
+
+-- the header's bytes: n, S, own number, season (4), sheet (22), f, d, and for each house how often it was helped
 unfoldable pub headLength : ℕ → ℕ
-headLength n = 29
+headLength n = 31 + n
 
 abbrev pub slotLength : ℕ
 slotLength = 21

@@ -5,16 +5,16 @@ use mathlib.Core.Path.{_≡_}
 use mathlib.Core.Bool.{Bool, true, false, _&&_}
 use mathlib.Core.List.{List}
 use mathlib.Core.Option.{Option, none, some}
-use lib.Dec.{eqb, ltb}
-use lib.ListN.{length}
-use Rattle.card.specs.Card.{houses}
+use lib.Dec.{eqb, leb, ltb}
+use lib.ListN.{length, getD}
+use Rattle.card.specs.Card.{houses, downOk}
 use Rattle.words.specs.Words.{Bytes}
 use Rattle.lot.specs.Sheet.{GateFits, sheetLegal}
 use Rattle.sheet.specs.Kept.{sheetLegalAt}
 use Rattle.protocol.specs.Entry.{Decl, Entry, fresh}
 use Rattle.meaning.specs.Slot.{slotOk}
-use Rattle.meaning.specs.Layout.{numbersOk, slotCount, lengthOf, slotPlace}
-use Rattle.meaning.specs.Book.{Meaning, nOf, numbersOf, ownOf, sheetPlace}
+use Rattle.meaning.specs.Layout.{numbersOk, mostLimit, helpedPlace, slotCount, lengthOf, slotPlace}
+use Rattle.meaning.specs.Book.{Meaning, nOf, numbersOf, ownOf, downOf, limitOf, sheetPlace}
 
 -- the first k slots of a book of n houses have one byte form per meaning
 unfoldable pub slotsOk : List ℕ → (n k : ℕ) → Bool
@@ -22,13 +22,23 @@ unfolding slotOk slotPlace
 slotsOk b n zero = true
 slotsOk b n (suc k) = slotsOk b n k && slotOk b (slotPlace n k)
 
--- A legal book has n, S and sheet as above, own number below n; nothing more is asked of its entries.
+-- each of the first p askers was helped at most d times
+unfoldable pub helpsOk : List ℕ → (d p : ℕ) → Bool
+helpsOk b d zero = true
+helpsOk b d (suc p) = helpsOk b d p && leb (getD b (helpedPlace p) 0) d
+
+-- f and d are allowed, and each asker was helped at most d times
+unfoldable pub careOk : List ℕ → Bool
+unfolding helpsOk
+careOk b = downOk (nOf b) (downOf b) && (leb (limitOf b) mostLimit && helpsOk b (limitOf b) (nOf b))
+
+-- A legal book has n, S, sheet, f and d as above, own number below n; nothing more is asked of its entries.
 unfoldable pub legal : List ℕ → Bool
-unfolding slotsOk
+unfolding slotsOk careOk
 legal b =
     houses (nOf b) && (numbersOk (numbersOf b) && (ltb (ownOf b) (nOf b)
     && (eqb (length b) (lengthOf (nOf b) (numbersOf b))
-    && (sheetLegalAt b sheetPlace && slotsOk b (nOf b) (slotCount (nOf b) (numbersOf b))))))
+    && (sheetLegalAt b sheetPlace && (careOk b && slotsOk b (nOf b) (slotCount (nOf b) (numbersOf b)))))))
 
 -- the same, as facts
 pub record Legal (b : List ℕ) : Type 0 where
@@ -37,6 +47,9 @@ pub record Legal (b : List ℕ) : Type 0 where
   pub own : ownOf b < nOf b
   pub long : length b ≡ lengthOf (nOf b) (numbersOf b)
   pub sheet : sheetLegalAt b sheetPlace ≡ true
+  pub down : downOk (nOf b) (downOf b) ≡ true
+  pub limit : limitOf b ≤ mostLimit
+  pub helped : (p : ℕ) → p < nOf b → getD b (helpedPlace p) 0 ≤ limitOf b
   pub slots : slotsOk b (nOf b) (slotCount (nOf b) (numbersOf b)) ≡ true
 
 -- any 20 bytes may stand as a recorded declaration
@@ -69,6 +82,10 @@ pub record IsBook (B : Meaning) : Type 0 where
   pub moisture : GateFits (B .sheet .moisture)
   pub conductivity : GateFits (B .sheet .conductivity)
   pub sheet : sheetLegal (B .sheet) ≡ true
+  pub down : downOk (B .n) (B .care .down) ≡ true
+  pub limit : B .care .limit ≤ mostLimit
+  pub helped : (p : ℕ) → B .care .helped p ≤ B .care .limit
+  pub helped-past : (p : ℕ) → B .n ≤ p → B .care .helped p ≡ 0
   pub entries : (j c : ℕ) → IsEntry (B .n) (B .entries j c)
   -- what was published stands at the own sender alone, and nothing stands outside the book
   pub others : (j c : ℕ) → (j ≡ B .own → ⊥) → B .entries j c .published ≡ none

@@ -3,37 +3,41 @@
 use Prim.Native.Nat.{ℕ}
 use mathlib.Core.Bool.{Bool, cond, _&&_}
 use mathlib.Core.List.{List}
-use lib.Dec.{eqb, ltb}
+use lib.Dec.{eqb, leb, ltb}
 use lib.ListN.{length}
-use Rattle.card.specs.Card.{houses}
+use Rattle.card.specs.Card.{houses, downOk}
 use Rattle.lot.specs.declared.Sheet.{Sheet}
 use Rattle.sheet.specs.Kept.{isSheet, sheetAt}
 use Rattle.protocol.specs.Entry.{fresh}
-use Rattle.meaning.specs.Layout.{numbersOk, lengthOf}
-use Rattle.meaning.specs.Book.{Meaning, write}
+use Rattle.meaning.specs.Layout.{numbersOk, mostLimit, lengthOf}
+use Rattle.meaning.specs.Book.{Care, Meaning, write}
+
+-- nobody helped yet
+abbrev pub freshCare : (f d : ℕ) → Care
+freshCare f d = record { down = f; limit = d; helped = λ p. 0 }
 
 -- nothing heard, sent, delivered or published
-abbrev pub freshBook : (n numbers own season : ℕ) → Sheet → Meaning
-freshBook n s own season sheet =
-    record { n = n; numbers = s; own = own; season = season; sheet = sheet; entries = λ j c. fresh }
+abbrev pub freshBook : (n numbers own f d season : ℕ) → Sheet → Meaning
+freshBook n s own f d season sheet =
+    record { n = n; numbers = s; own = own; season = season; sheet = sheet; care = freshCare f d; entries = λ j c. fresh }
 
 -- an answer, and the bytes of the lent buffer afterwards
 pub record Opened : Type 0 where
   pub answer : ℕ
   pub book : List ℕ
 
--- 9: n, S or own number not allowed
-unfoldable pub allowed : (n numbers own : ℕ) → Bool
-allowed n s own = houses n && (numbersOk s && ltb own n)
+-- 9: n, S, own number, f or d not allowed
+unfoldable pub allowed : (n numbers own f d : ℕ) → Bool
+allowed n s own f d = houses n && (numbersOk s && (ltb own n && (downOk n f && leb d mostLimit)))
 
 -- Opening: 9, 10, 11; else it writes the whole buffer.
-unfoldable pub opened : List ℕ → (n numbers own season : ℕ) → List ℕ → Opened
+unfoldable pub opened : List ℕ → (n numbers own f d season : ℕ) → List ℕ → Opened
 unfolding allowed
-opened b n s own season sheet =
-    cond (allowed n s own)
+opened b n s own f d season sheet =
+    cond (allowed n s own f d)
     (cond (isSheet sheet)
     (cond (eqb (length b) (lengthOf n s))
-    (record { answer = 0; book = write (freshBook n s own season (sheetAt sheet 0)) })
+    (record { answer = 0; book = write (freshBook n s own f d season (sheetAt sheet 0)) })
     (record { answer = 11; book = b }))
     (record { answer = 10; book = b }))
     (record { answer = 9; book = b })

@@ -1,0 +1,163 @@
+-- One more help counted in a legal book: it stays legal, and means the same but for that count.
+-- Assumes nothing.
+use Prim.Native.Nat.{ℕ, suc, _+_, _≤_, _<_}
+use mathlib.Core.Path.{_≡_, refl, sym, ap, _∙_, fun-ext}
+use mathlib.Core.Logic.{_≢_}
+use mathlib.Core.Bool.{Bool, true, false, cond}
+use mathlib.Core.List.{List}
+use native.Mathlib.Decide.{ℕ-discrete}
+use native.Mathlib.Omega.{arith}
+use lib.Dec.{eqb, ltb}
+use lib.ListN.{getD, set, take, drop, length-drop, length-set}
+use lib.Seq.{getD-set-same, getD-set-other, getD-drop, ext-getD}
+use borrow.Author.Tests.{eqb-true, eqb-false, lt-ltb}
+use Rattle.words.specs.Words.{Bytes}
+use Rattle.protocol.specs.Entry.{upd}
+use Rattle.meaning.specs.Slot.{part, slotAt, slotOk}
+use Rattle.meaning.specs.Layout.{mostLimit, helpedPlace, slotCount, slotPlace}
+use Rattle.meaning.specs.Book.{Care, Meaning, nOf, numbersOf, ownOf, downOf, limitOf, helpedOf, careOf}
+use Rattle.meaning.specs.Book.{moreCare, countHelp, slotOf, meant, write}
+use Rattle.meaning.specs.Legal.{legal, Legal}
+use Rattle.meaning.proofs.Legality.{legal-facts, facts-legal, slots-at, slots-all, header-within}
+use Rattle.meaning.proofs.Places.{slot-past-header}
+use Rattle.meaning.proofs.Slots.{slot-part, ok-part}
+use Rattle.meaning.proofs.Header.{sheet-same, sheet-legal-same, season-same}
+use Rattle.meaning.proofs.Entries.{entriesIn, look-is}
+use Rattle.meaning.proofs.OneForm.{written}
+
+-- what it means with other care
+abbrev pub withCare : Meaning → Care → Meaning
+withCare B w =
+    record {
+      n = B .n;
+      numbers = B .numbers;
+      own = B .own;
+      season = B .season;
+      sheet = B .sheet;
+      care = w;
+      entries = B .entries;
+    }
+
+part-set : (b : List ℕ) (i x at m : ℕ) → i < at → part (set b i x) at m ≡ part b at m
+part-set b i x at m l =
+    ap (λ (d : List ℕ). take m d)
+    (ext-getD 0 (drop at (set b i x)) (drop at b)
+    (length-drop at (set b i x) ∙ omega (arith, length-set b i x, length-drop at b))
+    (λ k h. getD-drop at (set b i x) k 0 ∙ getD-set-other b i (at + k) x 0 (λ e. omega arith) ∙ sym (getD-drop at b k 0)))
+
+module _ (b : List ℕ) (h : legal b ≡ true) (bytes : Bytes b) (p : ℕ) (lp : p < nOf b) (low : getD b (helpedPlace p) 0 < limitOf b) where
+  facts : Legal b
+  facts = legal-facts b h
+
+  abbrev more : ℕ
+  more = suc (getD b (helpedPlace p) 0)
+
+  abbrev after : List ℕ
+  after = set b (helpedPlace p) more
+
+  other : (i : ℕ) → i ≢ helpedPlace p → getD after i 0 ≡ getD b i 0
+  other i d = getD-set-other b (helpedPlace p) i more 0 d
+
+  first : (i : ℕ) → i < 31 → getD after i 0 ≡ getD b i 0
+  first i l = other i (λ e. omega arith)
+
+  here : getD after (helpedPlace p) 0 ≡ more
+  here = getD-set-same b (helpedPlace p) more 0 (omega (arith, header-within b facts))
+
+  n-kept : nOf after ≡ nOf b
+  n-kept = first 0 (omega arith)
+
+  numbers-kept : numbersOf after ≡ numbersOf b
+  numbers-kept = first 1 (omega arith)
+
+  own-kept : ownOf after ≡ ownOf b
+  own-kept = first 2 (omega arith)
+
+  down-kept : downOf after ≡ downOf b
+  down-kept = first 29 (omega arith)
+
+  limit-kept : limitOf after ≡ limitOf b
+  limit-kept = first 30 (omega arith)
+
+  part-kept : (k : ℕ) → part after (slotPlace (nOf b) k) 21 ≡ part b (slotPlace (nOf b) k) 21
+  part-kept k = part-set b (helpedPlace p) more (slotPlace (nOf b) k) 21 (omega (arith, slot-past-header (nOf b) k))
+
+  slots-kept : slotOf after ≡ slotOf b
+  unfolding slotOf
+  slots-kept =
+      fun-ext (λ k. ap (λ (x : ℕ). slotAt after (slotPlace x k)) n-kept
+      ∙ slot-part after (slotPlace (nOf b) k) ∙ ap (λ (l : List ℕ). slotAt l 0) (part-kept k) ∙ sym (slot-part b (slotPlace (nOf b) k)))
+
+  ok-kept : (k : ℕ) → k < slotCount (nOf b) (numbersOf b) → slotOk after (slotPlace (nOf b) k) ≡ true
+  ok-kept k l =
+      ok-part after (slotPlace (nOf b) k) ∙ ap (λ (l : List ℕ). slotOk l 0) (part-kept k) ∙ sym (ok-part b (slotPlace (nOf b) k))
+      ∙ slots-at b (nOf b) (slotCount (nOf b) (numbersOf b)) (facts .slots) k l
+
+  helped-kept : (q : ℕ) → q < nOf after → getD after (helpedPlace q) 0 ≤ limitOf after
+  helped-kept q l = go (ℕ-discrete q p)
+    where
+      go : Dec (q ≡ p) → getD after (helpedPlace q) 0 ≤ limitOf after
+      go (yes e) = rw e (omega (arith, here, limit-kept, low))
+      go (no d) = omega (arith, other (helpedPlace q) (λ e. d (omega arith)), limit-kept, n-kept, facts .helped q (omega (arith, n-kept)))
+
+  pub help-legal : legal (countHelp b p) ≡ true
+  unfolding countHelp
+  help-legal =
+      facts-legal after
+      (record {
+        n = rw n-kept (facts .n);
+        numbers = rw numbers-kept (facts .numbers);
+        own = rw (own-kept, n-kept) (facts .own);
+        long = rw (n-kept, numbers-kept) (length-set b (helpedPlace p) more ∙ facts .long);
+        sheet = sheet-legal-same after b (λ i l. first i (omega arith)) ∙ facts .sheet;
+        down = rw (n-kept, down-kept) (facts .down);
+        limit = rw limit-kept (facts .limit);
+        helped = helped-kept;
+        slots = rw (n-kept, numbers-kept) (slots-all after (nOf b) (slotCount (nOf b) (numbersOf b)) ok-kept);
+      })
+
+  care-after : careOf after ≡ moreCare (careOf b) p
+  unfolding careOf helpedOf
+  care-after = λ i. record { down = down-kept i; limit = limit-kept i; helped = helped i }
+    where
+      was : ℕ → ℕ
+      was q = cond (ltb q (nOf b)) (getD b (helpedPlace q) 0) 0
+
+      go : (q : ℕ) (t : Bool) → eqb q p ≡ t → cond (ltb q (nOf b)) (getD after (helpedPlace q) 0) 0 ≡ cond t (suc (was p)) (was q)
+      go q true e = rw (eqb-true q p e, lt-ltb p (nOf b) lp) here
+      go q false e =
+          ap (λ (x : ℕ). cond (ltb q (nOf b)) x 0) (other (helpedPlace q) (λ r. eqb-false q p e (omega arith)))
+
+      helped : (λ (q : ℕ). cond (ltb q (nOf after)) (getD after (helpedPlace q) 0) 0) ≡ upd was p (suc (was p))
+      helped = fun-ext (λ q. ap (λ (x : ℕ). cond (ltb q x) (getD after (helpedPlace q) 0) 0) n-kept ∙ go q (eqb q p) refl)
+
+  pub help-meant : meant (countHelp b p) ≡ withCare (meant b) (moreCare (careOf b) p)
+  unfolding meant countHelp
+  help-meant =
+      let season = season-same after b (λ i l. first i (omega arith)) in
+      let sheet = sheet-same after b (λ i l. first i (omega arith)) in
+      let entries =
+      look-is after ∙ (λ i. entriesIn (n-kept i) (numbers-kept i) (own-kept i) (slots-kept i)) ∙ sym (look-is b)
+      in
+      λ i.
+      record {
+        n = n-kept i;
+        numbers = numbers-kept i;
+        own = own-kept i;
+        season = season i;
+        sheet = sheet i;
+        care = care-after i;
+        entries = entries i;
+      }
+
+  pub help-bytes : Bytes (countHelp b p)
+  unfolding countHelp mostLimit
+  help-bytes i = go (ℕ-discrete i (helpedPlace p))
+    where
+      go : Dec (i ≡ helpedPlace p) → getD after i 0 < 256
+      go (yes e) = rw e (omega (arith, here, low, facts .limit))
+      go (no d) = omega (arith, other i d, bytes i)
+
+  -- one byte form: these are the bytes of that meaning
+  pub help-written : countHelp b p ≡ write (withCare (meant b) (moreCare (careOf b) p))
+  help-written = sym (written (countHelp b p) help-legal help-bytes) ∙ ap write help-meant
