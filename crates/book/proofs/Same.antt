@@ -58,7 +58,7 @@ module _ (b : List ℕ) (at : ℕ) (h : at + 20 ≤ length b) where
         w (i + 3) (k + 3) (omega arith) (omega arith),
       )
 
-  part-numbers : declarationAt (part b at 20) 0 ≡ declarationAt b at
+  pub part-numbers : declarationAt (part b at 20) 0 ≡ declarationAt b at
   unfolding declarationAt
   part-numbers = λ i.
       record {

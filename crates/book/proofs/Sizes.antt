@@ -1,15 +1,16 @@
 -- The n, S and own number that are allowed: each is written in one byte.
 -- Assumes nothing.
-use Prim.Native.Nat.{ℕ, _<_}
+use Prim.Native.Nat.{ℕ, _≤_, _<_}
 use mathlib.Core.Path.{_≡_, refl, sym, _∙_}
 use mathlib.Core.Bool.{Bool, true, false, _&&_, and-eq-true-iff}
 use native.Mathlib.Omega.{arith}
 use lib.Dec.{leb, ltb}
-use borrow.Author.Tests.{leb-true, ltb-true}
-use Rattle.card.specs.Card.{houses}
-use Rattle.card.proofs.Wall.{houses-byte}
-use Rattle.meaning.specs.Layout.{mostNumbers, numbersOk}
+use borrow.Author.Tests.{leb-true, lt-ltb, le-ltb}
+use Rattle.card.specs.Card.{mostDown, houses, downOk}
+use Rattle.card.proofs.Wall.{houses-byte, down-between}
+use Rattle.meaning.specs.Layout.{mostNumbers, mostLimit, numbersOk}
 use Rattle.meaning.specs.Opening.{allowed}
+use Rattle.meaning.proofs.Opening.{allowed-facts}
 
 module _ (n s : ℕ) (r : Bool) (e : r ≡ (houses n && numbersOk s)) (t : r ≡ true) where
   both : (houses n ≡ true) × (numbersOk s ≡ true)
@@ -22,31 +23,51 @@ module _ (n s : ℕ) (r : Bool) (e : r ≡ (houses n && numbersOk s)) (t : r ≡
   unfolding numbersOk mostNumbers
   numbers-byte = let l = leb-true s mostNumbers (and-eq-true-iff (leb 1 s) (leb s mostNumbers) .0 (both .1) .1) in omega arith
 
--- n and S, and then the own number
-allowed-is : (n s own : ℕ) → allowed n s own ≡ (houses n && numbersOk s) && ltb own n
+-- n and S, and then the own number, f and d
+allowed-is : (n s own f d : ℕ) → allowed n s own f d ≡ (houses n && numbersOk s) && (ltb own n && (downOk n f && leb d mostLimit))
 unfolding allowed
-allowed-is n s own = go (houses n)
+allowed-is n s own f d = go (houses n)
   where
-    go : (x : Bool) → x && (numbersOk s && ltb own n) ≡ (x && numbersOk s) && ltb own n
+    go : (x : Bool) → x && (numbersOk s && (ltb own n && (downOk n f && leb d mostLimit)))
+        ≡ (x && numbersOk s) && (ltb own n && (downOk n f && leb d mostLimit))
     go true = refl
     go false = refl
 
-module _ (n s own : ℕ) (r : Bool) (e : r ≡ (houses n && numbersOk s)) where
-  pub size-allowed : r ≡ true → ltb own n ≡ allowed n s own
-  size-allowed t = rw (allowed-is n s own, ← e, t)
+module _ (n s own f d : ℕ) (r : Bool) (e : r ≡ (houses n && numbersOk s)) where
+  pub size-refused : r ≡ false → false ≡ allowed n s own f d
+  size-refused x = rw (allowed-is n s own f d, ← e, x)
 
-  pub size-refused : r ≡ false → false ≡ allowed n s own
-  size-refused f = rw (allowed-is n s own, ← e, f)
+  module _ (t : r ≡ true) where
+    pub own-refused : n ≤ own → false ≡ allowed n s own f d
+    own-refused l = rw (allowed-is n s own f d, ← e, t, le-ltb own n l)
 
-module _ (n s own : ℕ) (r : Bool) (e : r ≡ allowed n s own) (t : r ≡ true) where
-  parts : ((houses n && numbersOk s) ≡ true) × (ltb own n ≡ true)
-  parts = and-eq-true-iff (houses n && numbersOk s) (ltb own n) .0 (sym (allowed-is n s own) ∙ sym e ∙ t)
+    module _ (l : own < n) (x : Bool) (q : x ≡ downOk n f) where
+      pub down-refused : x ≡ false → false ≡ allowed n s own f d
+      down-refused z = rw (allowed-is n s own f d, ← e, t, lt-ltb own n l, ← q, z)
+
+      pub all-allowed : x ≡ true → leb d mostLimit ≡ allowed n s own f d
+      all-allowed z = rw (allowed-is n s own f d, ← e, t, lt-ltb own n l, ← q, z)
+
+module _ (n s own f d : ℕ) (r : Bool) (e : r ≡ allowed n s own f d) (t : r ≡ true) where
+  parts : (houses n ≡ true) × (numbersOk s ≡ true) × (own < n) × (downOk n f ≡ true) × (d ≤ mostLimit)
+  parts = allowed-facts n s own f d (sym e ∙ t)
+
+  size : (houses n && numbersOk s) ≡ true
+  size = and-eq-true-iff (houses n) (numbersOk s) .1 (parts .0, parts .1)
 
   pub allowed-n : n < 256
-  allowed-n = n-byte n s _ refl (parts .0)
+  allowed-n = n-byte n s _ refl size
 
   pub allowed-numbers : s < 256
-  allowed-numbers = numbers-byte n s _ refl (parts .0)
+  allowed-numbers = numbers-byte n s _ refl size
 
   pub allowed-own : own < 256
-  allowed-own = let l = allowed-n in let o = ltb-true own n (parts .1) in omega arith
+  allowed-own = let l = allowed-n in omega (arith, parts .2)
+
+  pub allowed-down : f < 256
+  unfolding mostDown
+  allowed-down = omega (arith, down-between n f (parts .3) .0)
+
+  pub allowed-limit : d < 256
+  unfolding mostLimit
+  allowed-limit = omega (arith, parts .4)

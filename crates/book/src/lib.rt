@@ -3,17 +3,17 @@ ghost use mathlib.Core.Path.{_≡_};
 ghost use mathlib.Core.Bool.{_&&_};
 ghost use mathlib.Core.List.{_∷_};
 ghost use Prim.Native.Nat.{_+_, _*_, _<_, _≤_};
-ghost use lib.ListN.{length, replicate};
+ghost use lib.ListN.{length, getD, replicate};
 ghost use lib.Seq.{paste};
-ghost use Rattle.card.specs.Card.{houses};
+ghost use Rattle.card.specs.Card.{houses, downOk};
 ghost use Rattle.card.specs.Count.{count};
 ghost use Rattle.words.specs.Words.{be32};
 ghost use Rattle.sheet.specs.Kept.{sheetAt};
 ghost use Rattle.protocol.specs.Entry.{same, isSome, holds};
 ghost use Rattle.meaning.specs.Slot.{part, slotAt, slotOk, putSlot};
-ghost use Rattle.meaning.specs.Layout.{numbersOk, headLength, perEntry, slotCount, lengthOf, slotPlace, entrySlot};
-ghost use Rattle.meaning.specs.Book.{nOf, numbersOf, ownOf, seasonOf, sheetPlace};
-ghost use Rattle.meaning.specs.Legal.{slotsOk, legal};
+ghost use Rattle.meaning.specs.Layout.{helpedPlace, numbersOk, headLength, perEntry, slotCount, lengthOf, slotPlace, entrySlot};
+ghost use Rattle.meaning.specs.Book.{nOf, numbersOf, ownOf, seasonOf, sheetPlace, downOf, limitOf, countHelp};
+ghost use Rattle.meaning.specs.Legal.{slotsOk, helpsOk, legal};
 ghost use Rattle.meaning.specs.Opening.{Opened, Length, allowed, opened, lengthAnswer};
 ghost use Rattle.book.specs.Parts.{twoWordsAt, sized, blank};
 use lot::Sheet;
@@ -21,8 +21,17 @@ use lot::Sheet;
 // Entry numbers S: 1 to 4 per sender.
 const MOST_NUMBERS: u32 = 4;
 
-// Where the sheet's 22 bytes stand.
+// The recovery limit d: 0 to 8.
+const MOST_LIMIT: u32 = 8;
+
+// Where the sheet's 22 bytes stand, then f, d and the help given to each house.
 const SHEET: usize = 7;
+
+const DOWN: usize = 29;
+
+const LIMIT: usize = 30;
+
+const HELPED: usize = 31;
 
 // ---- slots
 
@@ -161,6 +170,38 @@ pub fn season_of(b: &[u8]) -> u32
     words::word_at(b, 3)
 }
 
+// f, how many honest houses may be down.
+pub fn down_of(b: &[u8]) -> usize
+    requires { ⌜ 29 < length (now b) ⌝ }
+    ensures { λ r. ⌜ (r ≡ downOf (now (b .entry))) × (r < 256) ⌝ }
+{
+    words::wide(b[DOWN]) as usize
+}
+
+// The recovery limit d.
+pub fn limit_of(b: &[u8]) -> usize
+    requires { ⌜ 30 < length (now b) ⌝ }
+    ensures { λ r. ⌜ (r ≡ limitOf (now (b .entry))) × (r < 256) ⌝ }
+{
+    words::wide(b[LIMIT]) as usize
+}
+
+// How often asker p was helped.
+pub fn helped_at(b: &[u8], p: usize) -> usize
+    requires { ⌜ (p < 256) × (31 + p < length (now b)) ⌝ }
+    ensures { λ r. ⌜ (r ≡ getD (now (b .entry)) (helpedPlace p) 0) × (r < 256) ⌝ }
+{
+    words::wide(b[HELPED + p]) as usize
+}
+
+// One more help for asker p.
+pub fn count_help(b: &mut [u8], p: usize)
+    requires { ⌜ (p < 256) × (31 + p < length (now b)) × (getD (now b) (helpedPlace p) 0 < 255) ⌝ }
+    ensures { λ _. ⌜ now (b .exit) ≡ countHelp (now (b .entry)) p ⌝ }
+{
+    b[HELPED + p] = b[HELPED + p] + 1;
+}
+
 // The sheet.
 pub fn sheet_of(b: &[u8]) -> Sheet
     requires { ⌜ 28 < length (now b) ⌝ }
@@ -171,11 +212,12 @@ pub fn sheet_of(b: &[u8]) -> Sheet
 
 // ---- places
 
-// The header's bytes: n, S, own number, season, sheet.
+// The header's bytes: n, S, own number, season, sheet, f, d, and for each house how often it was helped.
 fn head_length(n: usize) -> usize
-    ensures { λ r. ⌜ (r ≡ headLength n) × (r < 256) ⌝ }
+    requires { ⌜ n < 256 ⌝ }
+    ensures { λ r. ⌜ (r ≡ headLength n) × (r < 512) ⌝ }
 {
-    29
+    HELPED + n
 }
 
 // The slots of an entry.
@@ -212,7 +254,7 @@ pub fn slot_count(n: usize, s: usize) -> usize
 
 // Where slot k begins.
 pub fn slot_place(n: usize, k: usize) -> usize
-    requires { ⌜ k < 134217728 ⌝ }
+    requires { ⌜ (n < 256) × (k < 134217728) ⌝ }
     ensures { λ r. ⌜ (r ≡ slotPlace n k) × (r < 4294967296) ⌝ }
 {
     head_length(n) + 21 * k
@@ -253,12 +295,16 @@ fn is_size(n: u32, s: u32) -> bool
     false
 }
 
-// n, S and own number are allowed.
-fn is_allowed(n: u32, s: u32, own: u32) -> bool
-    ensures { λ r. ⌜ r ≡ allowed n s own ⌝ }
+// n, S, own number, f and d are allowed.
+fn is_allowed(n: u32, s: u32, own: u32, f: u32, d: u32) -> bool
+    ensures { λ r. ⌜ r ≡ allowed n s own f d ⌝ }
 {
     if is_size(n, s) {
-        return own < n;
+        if own < n {
+            if card::is_down(n, f) {
+                return d <= MOST_LIMIT;
+            }
+        }
     }
     false
 }
@@ -288,7 +334,7 @@ pub fn length_of(n: u32, s: u32) -> LengthAnswer
 
 // The first k slots have one byte form per meaning.
 fn are_slots_ok(b: &[u8], n: usize, k: usize) -> bool
-    requires { ⌜ (slotPlace n k ≤ length (now b)) × (k < 134217728) ⌝ }
+    requires { ⌜ (slotPlace n k ≤ length (now b)) × (n < 256) × (k < 134217728) ⌝ }
     ensures { λ r. ⌜ r ≡ slotsOk (now (b .entry)) n k ⌝ }
 {
     for i in 0..k {
@@ -299,14 +345,33 @@ fn are_slots_ok(b: &[u8], n: usize, k: usize) -> bool
     true
 }
 
-// n, S and own number are allowed, and there are as many bytes as n and S ask.
+// Each of the first k askers was helped at most d times.
+fn are_helps_ok(b: &[u8], d: usize, k: usize) -> bool
+    requires { ⌜ (k < 256) × (31 + k ≤ length (now b)) ⌝ }
+    ensures { λ r. ⌜ r ≡ helpsOk (now (b .entry)) d k ⌝ }
+{
+    for p in 0..k {
+        if d < helped_at(b, p) {
+            return false;
+        }
+    }
+    true
+}
+
+// n, S, own number, f and d are allowed, and there are as many bytes as n and S ask.
 fn is_sized(b: &[u8]) -> bool
     ensures { λ r. ⌜ r ≡ sized (now (b .entry)) ⌝ }
 {
-    if 2 < b.len() {
+    if 30 < b.len() {
         let n = n_of(b);
         let s = numbers_of(b);
-        if is_allowed(n as u32, s as u32, own_of(b) as u32) {
+        if is_allowed(
+            n as u32,
+            s as u32,
+            own_of(b) as u32,
+            down_of(b) as u32,
+            limit_of(b) as u32,
+        ) {
             return b.len() == book_length(n, s);
         }
     }
@@ -320,7 +385,9 @@ pub fn is_legal(b: &[u8]) -> bool
     if is_sized(b) {
         let n = n_of(b);
         if are_slots_ok(b, n, slot_count(n, numbers_of(b))) {
-            return sheet::is_sheet_at(b, SHEET);
+            if are_helps_ok(b, limit_of(b), n) {
+                return sheet::is_sheet_at(b, SHEET);
+            }
         }
     }
     false
@@ -346,24 +413,43 @@ fn before_sheet(n: u8, s: u8, own: u8, season: u32) -> [u8; 7]
 }
 
 // Writes the whole buffer: the header, and every slot empty.
-fn lay_blank(b: &mut [u8], n: u8, s: u8, own: u8, season: u32, sheet: &[u8])
-    requires { ⌜ (28 < length (now b)) × (length (now sheet) ≡ 22) ⌝ }
-    ensures { λ _. ⌜ now (b .exit) ≡ blank (length (now (b .entry))) n s own season (now (sheet .entry)) ⌝ }
+fn lay_blank(b: &mut [u8], n: u8, s: u8, own: u8, f: u8, d: u8, season: u32, sheet: &[u8])
+    requires { ⌜ (30 < length (now b)) × (length (now sheet) ≡ 22) ⌝ }
+    ensures { λ _. ⌜ now (b .exit) ≡ blank (length (now (b .entry))) n s own f d season (now (sheet .entry)) ⌝ }
 {
     clear(b);
     lay_at(b, 0, &before_sheet(n, s, own, season));
+    lay_at(b, DOWN, &[f, d]);
     lay_at(b, SHEET, sheet);
 }
 
 // Opening: 9, 10, 11; else it writes the whole buffer.
-pub fn open_book(book: &mut [u8], n: u32, s: u32, own: u32, season: u32, sheet: &[u8]) -> u8
+pub fn open_book(
+    book: &mut [u8],
+    n: u32,
+    s: u32,
+    own: u32,
+    f: u32,
+    d: u32,
+    season: u32,
+    sheet: &[u8],
+) -> u8
     ensures { λ r. ⌜ _≡_ {A = Opened} (record { answer = r; book = now (book .exit) })
-        (opened (now (book .entry)) n s own season (now (sheet .entry))) ⌝ }
+        (opened (now (book .entry)) n s own f d season (now (sheet .entry))) ⌝ }
 {
-    if is_allowed(n, s, own) {
+    if is_allowed(n, s, own, f, d) {
         if sheet::is_sheet(sheet) {
             if book.len() == book_length(n as usize, s as usize) {
-                lay_blank(book, n as u8, s as u8, own as u8, season, sheet);
+                lay_blank(
+                    book,
+                    n as u8,
+                    s as u8,
+                    own as u8,
+                    f as u8,
+                    d as u8,
+                    season,
+                    sheet,
+                );
                 return 0;
             }
             return 11;

@@ -17,8 +17,14 @@ slice-aggregate-lay-at c = search needs
 lay-at-requires : tie.Need-lay-at-requires
 lay-at-requires c κs = search needs
 
+slice-aggregate-lay-at-2 : tie.Need-slice-aggregate-lay-at-2
+slice-aggregate-lay-at-2 c = search needs
+
 lay-at-requires-2 : tie.Need-lay-at-requires-2
 lay-at-requires-2 c κs = search needs
+
+lay-at-requires-3 : tie.Need-lay-at-requires-3
+lay-at-requires-3 c κs = search needs
 
 same-length : tie.Need-same-length
 same-length c = search needs
@@ -34,6 +40,8 @@ lay-blank-spec =
     before-sheet-requires
     slice-aggregate-lay-at
     lay-at-requires
+    slice-aggregate-lay-at-2
     lay-at-requires-2
+    lay-at-requires-3
     same-length
     returns)

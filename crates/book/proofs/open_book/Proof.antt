@@ -4,7 +4,7 @@ use mathlib.Core.Path.{sym, _∙_}
 use native.Mathlib.Omega.{arith}
 use Rattle.sheet.proofs.Gates.{sheet-sized}
 use Rattle.meaning.specs.Layout.{headLength, lengthOf}
-use Rattle.book.proofs.Sizes.{allowed-n, allowed-numbers, allowed-own}
+use Rattle.book.proofs.Sizes.{allowed-n, allowed-numbers, allowed-own, allowed-down, allowed-limit}
 use Rattle.book.proofs.Opening.{opens-0, opens-9, opens-10, opens-11}
 use borrow.Author.Needs.{needs}
 use Rattle.book.proofs.open_book.Statement.{statement}
@@ -28,6 +28,12 @@ cast-lay-blank-2 c = record { fits = search allowed-numbers }
 cast-lay-blank-3 : tie.Need-cast-lay-blank-3
 cast-lay-blank-3 c = record { fits = search allowed-own }
 
+cast-lay-blank-4 : tie.Need-cast-lay-blank-4
+cast-lay-blank-4 c = record { fits = search allowed-down }
+
+cast-lay-blank-5 : tie.Need-cast-lay-blank-5
+cast-lay-blank-5 c = record { fits = search allowed-limit }
+
 lay-blank-requires : tie.Need-lay-blank-requires
 unfolding lengthOf headLength
 lay-blank-requires c κs = (
@@ -44,7 +50,7 @@ returns c =
     let d = l .before .before .before in
     let s = d .before .before in
     let p = s .before .before in
-    opens-0 _ _ _ _ _ _ _ (p .is-allowed .ensures) _ (s .before .if1 .taken) (s .is-sheet .ensures) _ (d .before .if2 .taken)
+    opens-0 _ _ _ _ _ _ _ _ _ (p .is-allowed .ensures) _ (s .before .if1 .taken) (s .is-sheet .ensures) _ (d .before .if2 .taken)
     (d .book-length .ensures) _ (λ i. p .before .shared-slice-known .given i .fits) (l .before .before .if3 .taken) (l .lay-blank .ensures)
 
 returns-2 : tie.Need-returns-2
@@ -66,6 +72,8 @@ open-book-spec =
     cast-lay-blank
     cast-lay-blank-2
     cast-lay-blank-3
+    cast-lay-blank-4
+    cast-lay-blank-5
     lay-blank-requires
     same-length
     returns
