@@ -13,7 +13,7 @@ use Rattle.meaning.proofs.Legality.{legal-facts}
 use Rattle.meaning.proofs.Places.{numbers-byte, length-header, slot-within, entry-slot-below, published-slot-below}
 use Rattle.entry.specs.Places.{placeIn, Has, Within, Begins}
 
-pub header-room : (b : List ℕ) → legal b ≡ true → 29 ≤ length b
+pub header-room : (b : List ℕ) → legal b ≡ true → 31 + nOf b ≤ length b
 header-room b h = omega (arith, legal-facts b h .long, length-header (nOf b) (numbersOf b))
 
 pub own-below : (b : List ℕ) → legal b ≡ true → ownOf b < nOf b
@@ -36,6 +36,7 @@ begins b j c n s k r has en es ek er small =
       is = is;
       within = record {
         n = legal-facts b (has .is-legal) .n;
+        down = legal-facts b (has .is-legal) .down;
         some = omega (arith, header-room b (has .is-legal));
         room = omega (arith, entry-room b j c has);
         small = small;

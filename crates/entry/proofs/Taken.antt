@@ -15,7 +15,7 @@ use Rattle.protocol.specs.Steps.{Out, Say, say, given, recorded, marked, reache
 use Rattle.protocol.specs.Thresholds.{rulesOf}
 use Rattle.meaning.specs.Slot.{slotAt, putSlot}
 use Rattle.meaning.specs.Layout.{heardSlot, slotPlace, entrySlot, echoSlot, readySlot, readySentSlot, deliveredSlot}
-use Rattle.meaning.specs.Book.{nOf, numbersOf, look, meant}
+use Rattle.meaning.specs.Book.{Care, downOf, careOf, nOf, numbersOf, look, meant}
 use Rattle.meaning.specs.Legal.{legal, IsDecl}
 use Rattle.meaning.proofs.Stores.{Stored, stored-entry, stored-heard, stored-taken}
 use Rattle.entry.specs.declared.Marks.{Marks}
@@ -36,26 +36,29 @@ module _ (b : List ℕ) (j c : ℕ) (has : Has b j c) (base : ℕ) (at : base �
   row-from i v = ap (λ (x : ℕ). count (λ p. holds (slotAt b (x + 21 * p)) v) (nOf b)) (from-base b j c has base at i)
 
   marks-echo : (v : Decl) → marksAt b ECHO base v
-      ≡ record { gives = reached (countsOf (nOf b) .quorum) (look b j c .readySent) (look b j c .echo) v (nOf b); delivers = false }
+      ≡ record {
+        gives = reached (countsOf (nOf b) (downOf b) .quorum) (look b j c .readySent) (look b j c .echo) v (nOf b);
+        delivers = false;
+      }
   unfolding marksAt
   marks-echo v = λ i.
       record {
-        gives = isNone (sent-from i) && leb (countsOf (nOf b) .quorum) ((row-from (echoSlot 0) v ∙ echoes-seen b j c has v) i);
+        gives = isNone (sent-from i) && leb (countsOf (nOf b) (downOf b) .quorum) ((row-from (echoSlot 0) v ∙ echoes-seen b j c has v) i);
         delivers = false;
       }
 
   marks-ready : (v : Decl) → marksAt b READY base v
       ≡ record {
-        gives = reached (countsOf (nOf b) .amplify) (look b j c .readySent) (look b j c .ready) v (nOf b);
-        delivers = reached (countsOf (nOf b) .deliver) (look b j c .delivered) (look b j c .ready) v (nOf b);
+        gives = reached (countsOf (nOf b) (downOf b) .amplify) (look b j c .readySent) (look b j c .ready) v (nOf b);
+        delivers = reached (countsOf (nOf b) (downOf b) .deliver) (look b j c .delivered) (look b j c .ready) v (nOf b);
       }
   unfolding marksAt
   marks-ready v =
       let votes = row-from (readySlot (nOf b) 0) v ∙ readies-seen b j c has v in
       λ i.
       record {
-        gives = isNone (sent-from i) && leb (countsOf (nOf b) .amplify) (votes i);
-        delivers = isNone (delivered-from i) && leb (countsOf (nOf b) .deliver) (votes i);
+        gives = isNone (sent-from i) && leb (countsOf (nOf b) (downOf b) .amplify) (votes i);
+        delivers = isNone (delivered-from i) && leb (countsOf (nOf b) (downOf b) .deliver) (votes i);
       }
 
 -- ---- a voucher taken: recorded, and marked as the vouchers now say
@@ -92,23 +95,25 @@ module _ (b : List ℕ) (h : legal b ≡ true) (bytes : Bytes b) (j c p : ℕ) (
       }
 
   pub echo-taken : taking ECHO (marksAt (heard-in ECHO) ECHO (placeIn b j c 0) v) ≡ takes R ECHO p v (look b j c)
-  unfolding takesEcho rulesBy rulesOf countsOf meant
+  unfolding takesEcho rulesBy rulesOf countsOf meant careOf
   echo-taken =
       let e = stored-entry b j c (heard-in ECHO) (recorded ECHO p v (look b j c)) (one ECHO) in
       let n = one ECHO .n in
+      let f = ap (λ (w : Care). w .down) (one ECHO .care) in
       ap (taking ECHO)
       (marks-echo (heard-in ECHO) j c (has-one ECHO) (placeIn b j c 0) (base-one ECHO) v
-      ∙ (λ i. record { gives = reached (countsOf (n i) .quorum) (e i .readySent) (e i .echo) v (n i); delivers = false }))
+      ∙ (λ i. record { gives = reached (countsOf (n i) (f i) .quorum) (e i .readySent) (e i .echo) v (n i); delivers = false }))
 
   pub ready-taken : taking READY (marksAt (heard-in READY) READY (placeIn b j c 0) v) ≡ takes R READY p v (look b j c)
-  unfolding takesReady rulesBy rulesOf countsOf meant
+  unfolding takesReady rulesBy rulesOf countsOf meant careOf
   ready-taken =
       let e = stored-entry b j c (heard-in READY) (recorded READY p v (look b j c)) (one READY) in
       let n = one READY .n in
+      let f = ap (λ (w : Care). w .down) (one READY .care) in
       ap (taking READY)
       (marks-ready (heard-in READY) j c (has-one READY) (placeIn b j c 0) (base-one READY) v
       ∙ (λ i.
       record {
-        gives = reached (countsOf (n i) .amplify) (e i .readySent) (e i .ready) v (n i);
-        delivers = reached (countsOf (n i) .deliver) (e i .delivered) (e i .ready) v (n i);
+        gives = reached (countsOf (n i) (f i) .amplify) (e i .readySent) (e i .ready) v (n i);
+        delivers = reached (countsOf (n i) (f i) .deliver) (e i .delivered) (e i .ready) v (n i);
       }))

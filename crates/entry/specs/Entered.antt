@@ -6,7 +6,7 @@ use mathlib.Core.List.{List, [], _∷_}
 use mathlib.Core.Option.{Option, none, some}
 use lib.Dec.{eqb, ltb}
 use lib.ListN.{length, replicate}
-use Rattle.card.specs.Card.{tolerated}
+use Rattle.card.specs.Card.{fitting}
 use Rattle.lot.specs.declared.Declaration.{Declaration}
 use Rattle.lot.specs.declared.Sheet.{Sheet}
 use Rattle.lot.specs.Declaration.{declarationAt}
@@ -44,6 +44,19 @@ giving answer message delivery =
       message = orZeros 36 message;
       delivers = isThere delivery;
       declaration = orZeros 20 delivery;
+      helps = false;
+    }
+
+-- an accepted request: no message, no delivery, and the asker is to be helped
+abbrev pub helping : Outcome
+helping =
+    record {
+      answer = 0;
+      gives = false;
+      message = replicate 36 0;
+      delivers = false;
+      declaration = replicate 20 0;
+      helps = true;
     }
 
 -- 20 bytes
@@ -62,7 +75,7 @@ okBy s v = isDecl v && plausible s (declarationAt v 0)
 -- the rules of a book: t and the quorum from the wall card
 unfoldable pub rulesBy : Meaning → Rules
 unfolding okBy
-rulesBy B = rulesOf (B .n) (tolerated (B .n)) (okBy (B .sheet))
+rulesBy B = rulesOf (B .n) (fitting (B .n) (B .care .down)) (B .care .down) (okBy (B .sheet))
 
 -- 1 SEND, 2 ECHO, 3 READY
 abbrev pub kindNumber : Kind → ℕ
@@ -97,6 +110,7 @@ withEntry B j c e =
       own = B .own;
       season = B .season;
       sheet = B .sheet;
+      care = B .care;
       entries = place (B .entries) j c e;
     }
 

@@ -2,18 +2,18 @@
 -- Assumes nothing.
 use Prim.Native.Nat.{ℕ, _+_, _*_, _≤_, _<_}
 use mathlib.Core.Path.{_≡_}
-use mathlib.Core.Bool.{Bool, true, false, _&&_}
+use mathlib.Core.Bool.{true, false, _&&_}
 use mathlib.Core.List.{List}
 use mathlib.Core.Option.{Option}
 use lib.Dec.{leb}
 use lib.ListN.{length}
-use Rattle.card.specs.Card.{houses, countsOf}
+use Rattle.card.specs.Card.{houses, downOk, countsOf}
 use Rattle.card.specs.Count.{count}
 use Rattle.protocol.specs.Entry.{Decl, Kind, SEND, ECHO, READY, isNone, holds}
 use Rattle.meaning.specs.Slot.{slotAt}
 use Rattle.meaning.specs.Layout.{slotLength, slotPlace, perEntry, entrySlot, readySentSlot, deliveredSlot}
 use Rattle.meaning.specs.Layout.{heardSlot}
-use Rattle.meaning.specs.Book.{nOf, numbersOf}
+use Rattle.meaning.specs.Book.{nOf, numbersOf, downOf}
 use Rattle.meaning.specs.Legal.{legal}
 use Rattle.entry.specs.declared.Marks.{Marks}
 
@@ -27,10 +27,11 @@ pub record Has (b : List ℕ) (j c : ℕ) : Type 0 where
   pub sender : j < nOf b
   pub number : c < numbersOf b
 
--- n is a number of houses, and the slots of an entry that begins at `base` lie within the bytes
+-- n is a number of houses, f a number that may be down, and the slots of an entry that begins at `base` lie within the bytes
 pub record Within (b : List ℕ) (base : ℕ) : Type 0 where
   pub n : houses (nOf b) ≡ true
-  pub some : 0 < length b
+  pub down : downOk (nOf b) (downOf b) ≡ true
+  pub some : 29 < length b
   pub room : base + slotLength * perEntry (nOf b) ≤ length b
   pub small : base < 4294967296
 
@@ -53,12 +54,12 @@ marksAt b SEND base v = record { gives = false; delivers = false }
 marksAt b ECHO base v =
     record {
       gives = isNone (slotFrom b base (readySentSlot (nOf b)))
-          && leb (countsOf (nOf b) .quorum) (votesFrom b base (heardSlot (nOf b) ECHO 0) v);
+          && leb (countsOf (nOf b) (downOf b) .quorum) (votesFrom b base (heardSlot (nOf b) ECHO 0) v);
       delivers = false;
     }
 marksAt b READY base v =
     let votes : ℕ = votesFrom b base (heardSlot (nOf b) READY 0) v in
     record {
-      gives = isNone (slotFrom b base (readySentSlot (nOf b))) && leb (countsOf (nOf b) .amplify) votes;
-      delivers = isNone (slotFrom b base (deliveredSlot (nOf b))) && leb (countsOf (nOf b) .deliver) votes;
+      gives = isNone (slotFrom b base (readySentSlot (nOf b))) && leb (countsOf (nOf b) (downOf b) .amplify) votes;
+      delivers = isNone (slotFrom b base (deliveredSlot (nOf b))) && leb (countsOf (nOf b) (downOf b) .deliver) votes;
     }

@@ -13,11 +13,11 @@ ghost use Rattle.meaning.specs.Slot.{slotAt, putSlot};
 ghost use Rattle.meaning.specs.Layout.{heardSlot};
 ghost use Rattle.meaning.specs.Book.{nOf, numbersOf, look};
 ghost use Rattle.meaning.specs.Legal.{legal, IsDecl};
-ghost use Rattle.entry.specs.Entered.{result, giving, orZeros, kindOf, wired, taken, publishedAt};
+ghost use Rattle.entry.specs.Entered.{result, giving, helping, orZeros, kindOf, wired, taken, publishedAt};
 ghost use Rattle.entry.specs.Places.{Has, Within, Begins, marksAt};
 use lot::Declaration;
 
-// What publishing and receiving give. An absent message or declaration is zeros.
+// What publishing and receiving give. An absent message or declaration is zeros; `helps` says that an asker is to be helped.
 #[repr(C)]
 pub struct Outcome {
     pub answer: u8,
@@ -25,6 +25,7 @@ pub struct Outcome {
     pub message: [u8; 36],
     pub delivers: bool,
     pub declaration: [u8; 20],
+    pub helps: bool,
 }
 
 // Whether a message's vouchers now make a READY, and deliver.
@@ -43,6 +44,21 @@ pub fn refuse(answer: u8) -> Outcome
         message: [0; 36],
         delivers: false,
         declaration: [0; 20],
+        helps: false,
+    }
+}
+
+// An accepted request: no message, no delivery, and the asker is to be helped.
+pub fn help() -> Outcome
+    ensures { λ r. ⌜ r ≡ helping ⌝ }
+{
+    Outcome {
+        answer: 0,
+        gives: false,
+        message: [0; 36],
+        delivers: false,
+        declaration: [0; 20],
+        helps: true,
     }
 }
 
@@ -89,6 +105,7 @@ fn accept(
         message,
         delivers,
         declaration,
+        helps: false,
     }
 }
 
@@ -154,7 +171,7 @@ fn marks_of(book: &[u8], kind: u8, base: usize, d: [u8; 20]) -> Marks
     ensures { λ r. ⌜ r ≡ marksAt (now (book .entry)) (kindOf kind) base d ⌝ }
 {
     let n = book::n_of(book);
-    let counts = card::counts_of(n);
+    let counts = card::counts_of(n, book::down_of(book));
     let sent = base + 21 * (1 + 2 * n);
     let votes = book::count_same(book, base + 21 * heard_slot(kind, n, 0), n, d);
     if kind == 2 {

@@ -32,6 +32,7 @@ returns c =
       message = c .before .letter-of .ensures i;
       delivers = there (a .delivers) (bytesOf (a .d)) i;
       declaration = c .lot-of .ensures i;
+      helps = false;
     }
 
 pub accept-spec : {M : Type 1} → statement M
