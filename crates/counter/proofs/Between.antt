@@ -1,5 +1,6 @@
 -- The rule between entries at the bytes: an accepted publication or message changes the named entry alone, and what it gives and leaves
--- there hangs on the book's header and that entry. The waiting search reads all entries and is the one exception.
+-- there hangs on the book's header and that entry. The waiting search reads all entries and is the one exception. A return or a request
+-- names no entry and is left out; it changes none.
 -- Assumes nothing.
 use Prim.Native.Nat.{ℕ}
 use mathlib.Core.Path.{_≡_, refl, sym, ap, _∙_, subst, subst₂}
@@ -7,21 +8,22 @@ use mathlib.Core.Bool.{Bool, true, false, cond}
 use mathlib.Core.List.{List}
 use mathlib.Core.Option.{Option, none, some}
 use lib.Dec.{eqb}
-use Rattle.card.specs.Card.{tolerated}
+use Rattle.card.specs.Card.{fitting}
 use Rattle.words.specs.Words.{Bytes}
-use Rattle.message.specs.Message.{Five, readOf}
+use Rattle.message.specs.Message.{Five, readOf, isRequest, requestOf}
+use Rattle.message.proofs.Request.{no-request}
 use Rattle.protocol.specs.Entry.{Decl, Entry}
 use Rattle.protocol.specs.Steps.{Out}
 use Rattle.protocol.specs.Book.{PerEntry, sameEntry, place, Call, publishing, senderOf, numberOf, outcome}
 use Rattle.protocol.specs.Thresholds.{rulesOf}
 use Rattle.protocol.proofs.Calls.{alone}
-use Rattle.meaning.specs.Book.{numbersOf, ownOf, seasonOf, look, meant}
+use Rattle.meaning.specs.Book.{careOf, numbersOf, ownOf, seasonOf, look, meant}
 use Rattle.meaning.specs.Legal.{legal}
 use Rattle.meaning.proofs.Entries.{same-entry}
 use Rattle.meaning.proofs.Stores.{stored-entry}
 use Rattle.entry.specs.Entered.{Result, giving, okBy, rulesBy, letters}
-use Rattle.counter.specs.Call.{refusal, stepOf, called, published, asked, heardFrom, received}
-use Rattle.counter.proofs.Keeps.{SameHeader, called-stored, called-given}
+use Rattle.counter.specs.Call.{refusal, stepOf, called, published, asked, heardFrom, heardAny, received}
+use Rattle.counter.proofs.Keeps.{SameHeader, called-stored, called-given, requested-entries}
 
 -- an entry other than that of sender j and number c
 abbrev pub Other : (j c j₂ c₂ : ℕ) → Type 0
@@ -51,7 +53,7 @@ module _ (b : List ℕ) (h : legal b ≡ true) (bytes : Bytes b) where
       → ((m : Five) → readOf message .five ≡ some m → Other (m .sender) (m .number) j c)
       → look (received b p message .book) j c ≡ look b j c
   unfolding received
-  received-others p message j c d = rw h (go (readOf message .five) d)
+  received-others p message j c d = rw h (any (requestOf message) (readOf message .five) d)
     where
       in-season : (m : Five) → Other (m .sender) (m .number) j c → (t : Bool)
           → look (cond t (called b (asked p m)) (refusal 3 b) .book) j c ≡ look b j c
@@ -62,6 +64,11 @@ module _ (b : List ℕ) (h : legal b ≡ true) (bytes : Bytes b) where
       go none d = refl
       go (some m) d = in-season m (d m refl) (eqb (m .season) (seasonOf b))
 
+      any : (o : Option ℕ) (x : Option Five) → ((m : Five) → x ≡ some m → Other (m .sender) (m .number) j c)
+          → look (heardAny b p o x .book) j c ≡ look b j c
+      any none x d = go x d
+      any (some season) x d = ap (λ (f : PerEntry Entry). f j c) (requested-entries b h bytes p season)
+
 -- ---- two books that agree on the header and on one entry
 
 -- two results give the same answer, message and delivery, and end agreeing on the entry of sender j and number c
@@ -71,13 +78,13 @@ pub record Alike (r s : Result) (j c : ℕ) : Type 0 where
 
 module _ (b d : List ℕ) (hb : legal b ≡ true) (hd : legal d ≡ true) (bb : Bytes b) (bd : Bytes d) (same : SameHeader b d) where
   step-same : (a : Call) → look b (senderOf (ownOf b) a) (numberOf a) ≡ look d (senderOf (ownOf b) a) (numberOf a) → stepOf b a ≡ stepOf d a
-  unfolding stepOf meant rulesBy
+  unfolding stepOf meant rulesBy careOf
   step-same a e =
       alone (rulesBy (meant b)) (numbersOf b) (ownOf b) a .same (look b) (look d) e
       ∙ (λ i. outcome (rules i) (same .numbers i) (same .own i) a (look d))
     where
       rules : rulesBy (meant b) ≡ rulesBy (meant d)
-      rules = λ i. rulesOf (same .n i) (tolerated (same .n i)) (okBy (same .sheet i))
+      rules = λ i. rulesOf (same .n i) (fitting (same .n i) (same .down i)) (same .down i) (okBy (same .sheet i))
 
   pub called-same : (a : Call) → look b (senderOf (ownOf b) a) (numberOf a) ≡ look d (senderOf (ownOf b) a) (numberOf a)
       → Alike (called b a) (called d a) (senderOf (ownOf b) a) (numberOf a)
@@ -100,11 +107,11 @@ module _ (b d : List ℕ) (hb : legal b ≡ true) (hd : legal d ≡ true) (bb : 
   unfolding published
   published-same c v e = rw (hb, hd) (called-same (publishing c v) e)
 
-  pub received-same : (p : ℕ) (message : List ℕ) (j c : ℕ)
+  pub received-same : (p : ℕ) (message : List ℕ) (j c : ℕ) → isRequest message ≡ false
       → ((m : Five) → readOf message .five ≡ some m → (m .sender ≡ j) × (m .number ≡ c))
       → look b j c ≡ look d j c → Alike (received b p message) (received d p message) j c
   unfolding received
-  received-same p message j c names e = rw (hb, hd) (go (readOf message .five) names)
+  received-same p message j c t names e = rw (hb, hd, no-request message t) (go (readOf message .five) names)
     where
       in-season : (m : Five) → m .sender ≡ j → m .number ≡ c → (t : Bool)
           → Alike (cond t (called b (asked p m)) (refusal 3 b)) (cond t (called d (asked p m)) (refusal 3 d)) j c

@@ -1,11 +1,12 @@
--- What publishing and receiving keep of a legal book: it stays legal, its header stays, slots only ever fill; a refusal leaves every
--- byte, and an accepted call's bytes mean the book with the named entry as the step leaves it.
+-- What a call keeps of a legal book: it stays legal, its header stays but for the help counted, slots only ever fill; a refusal leaves
+-- every byte, and an accepted call's bytes mean the book with the named entry as the step leaves it.
 -- Assumes nothing.
-use Prim.Native.Nat.{ℕ, _≤_}
-use mathlib.Core.Path.{_≡_, refl, sym, ap, ap₂, _∙_}
+use Prim.Native.Nat.{ℕ, suc, _≤_}
+use mathlib.Core.Path.{_≡_, refl, sym, ap, ap₂, _∙_, subst}
 use mathlib.Core.Bool.{Bool, true, false, cond, and-eq-true-iff}
 use mathlib.Core.List.{List}
 use mathlib.Core.Option.{Option, none, some}
+use native.Mathlib.Nat.{le-refl}
 use native.Mathlib.Omega.{arith}
 use lib.Dec.{T, eqb, ltb}
 use lib.ListN.{length}
@@ -15,16 +16,17 @@ use Rattle.lot.specs.declared.Sheet.{Sheet}
 use Rattle.lot.specs.Sheet.{plausible}
 use Rattle.lot.specs.Declaration.{declarationAt}
 use Rattle.sheet.specs.Kept.{sheetAt}
-use Rattle.message.specs.Message.{Five, readOf}
-use Rattle.protocol.specs.Entry.{Decl, fresh}
+use Rattle.message.specs.Message.{Five, readOf, requestOf}
+use Rattle.protocol.specs.Entry.{Decl, Entry, fresh}
 use Rattle.protocol.specs.Steps.{Out, refused}
 use Rattle.protocol.specs.Book.{PerEntry, sameEntry, place, Call, publishing, senderOf, numberOf}
 use Rattle.protocol.specs.Thresholds.{rulesOf}
 use Rattle.protocol.specs.Claims.{Filled}
-use Rattle.protocol.proofs.Basics.{true-of, and-l}
+use Rattle.protocol.proofs.Basics.{true-of, and-l, upd-all}
 use Rattle.protocol.proofs.Moves.{filled-refl}
 use Rattle.protocol.proofs.Calls.{outcome-done}
 use Rattle.meaning.specs.Layout.{lengthOf}
+use Rattle.meaning.specs.Book.{Care, downOf, limitOf, helpedOf, careOf, moreCare, countHelp}
 use Rattle.meaning.specs.Book.{Meaning, nOf, numbersOf, ownOf, seasonOf, sheetPlace, look, meant}
 use Rattle.meaning.specs.Legal.{legal, IsDecl, IsEntry, IsBook}
 use Rattle.meaning.proofs.Legality.{legal-facts}
@@ -32,12 +34,14 @@ use Rattle.meaning.proofs.Entries.{same-entry}
 use Rattle.meaning.proofs.Stores.{Stored, stored-none}
 use Rattle.meaning.proofs.OneForm.{stored-meant}
 use Rattle.meaning.proofs.Meant.{meant-is-book}
+use Rattle.meaning.proofs.Helped.{withCare, help-legal, help-bytes, help-meant}
 use Rattle.meaning.proofs.Every.{written-legal, written-bytes, written-meant}
 use Rattle.entry.specs.declared.Outcome.{Outcome}
-use Rattle.entry.specs.Entered.{Result, giving, okBy, isDecl, rulesBy, letters, withEntry, entered}
+use Rattle.entry.specs.Entered.{Result, giving, helping, okBy, isDecl, rulesBy, letters, withEntry, entered}
 use Rattle.counter.specs.Call.{refusal, stepOf, called}
-use Rattle.counter.specs.Call.{published, asked, heardFrom, received}
-use Rattle.counter.specs.Calls.{Calling, publish, receive, search, answered}
+use Rattle.counter.specs.Call.{published, asked, heardFrom, heardAny, requestAnswer, requested, received}
+use Rattle.counter.specs.Calls.{Calling, publish, receive, search, comeback, sent, answered}
+use Rattle.counter.proofs.Requests.{request-from, request-low}
 use Rattle.counter.proofs.Fits.{is-decl, Fits, outcome-fits, outcome-in-book, outcome-refused}
 
 -- what is plausible by a sheet is 20 bytes
@@ -53,19 +57,23 @@ place-all Φ f j c x a g j₂ c₂ = go (sameEntry j c j₂ c₂) refl
     go true e = let p = same-entry j c j₂ c₂ e in rw (p .0, p .1) a
     go false e = g j₂ c₂
 
--- two books agree on n, S, own number, season, sheet
+-- two books agree on n, S, own number, season, sheet and f
 pub record SameHeader (b d : List ℕ) : Type 0 where
   pub n : nOf b ≡ nOf d
   pub numbers : numbersOf b ≡ numbersOf d
   pub own : ownOf b ≡ ownOf d
   pub season : seasonOf b ≡ seasonOf d
   pub sheet : sheetAt b sheetPlace ≡ sheetAt d sheetPlace
+  pub down : downOf b ≡ downOf d
 
 -- bytes a after bytes b
 pub record Kept (b a : List ℕ) : Type 0 where
   pub legal : legal a ≡ true
   pub bytes : Bytes a
   pub header : SameHeader a b
+  pub limit : limitOf a ≡ limitOf b
+  -- help is only ever counted
+  pub helped : (p : ℕ) → helpedOf b p ≤ helpedOf a p
   -- what stands in a slot stays
   pub fills : (j c : ℕ) → Filled (look b j c) (look a j c)
 
@@ -75,7 +83,9 @@ module _ (b : List ℕ) (h : legal b ≡ true) (bytes : Bytes b) where
       record {
         legal = h;
         bytes = bytes;
-        header = record { n = refl; numbers = refl; own = refl; season = refl; sheet = refl };
+        header = record { n = refl; numbers = refl; own = refl; season = refl; sheet = refl; down = refl };
+        limit = refl;
+        helped = λ p. le-refl (helpedOf b p);
         fills = λ j c. filled-refl (look b j c);
       }
 
@@ -119,6 +129,10 @@ module _ (b : List ℕ) (h : legal b ≡ true) (bytes : Bytes b) where
           moisture = I .moisture;
           conductivity = I .conductivity;
           sheet = I .sheet;
+          down = I .down;
+          limit = I .limit;
+          helped = I .helped;
+          helped-past = I .helped-past;
           entries = place-all (λ j c x. IsEntry (nOf b) x) (look b) j c (o .entry) (fits .entry) (I .entries);
           others = place-all (λ j c x. (j ≡ ownOf b → ⊥) → x .published ≡ none) (look b) j c (o .entry) (fits .others) (I .others);
           past-sender =
@@ -140,6 +154,7 @@ module _ (b : List ℕ) (h : legal b ≡ true) (bytes : Bytes b) where
           own = ap (λ (B : Meaning). B .own) M;
           season = ap (λ (B : Meaning). B .season) M;
           sheet = ap (λ (B : Meaning). B .sheet) M;
+          care = ap (λ (B : Meaning). B .care) M;
           entries = ap (λ (B : Meaning). B .entries) M;
         }
 
@@ -177,15 +192,76 @@ module _ (b : List ℕ) (h : legal b ≡ true) (bytes : Bytes b) where
     step-fills = outcome-done (rulesBy (meant b)) (numbersOf b) (ownOf b) a (look b) .moves .filled
 
     pub called-keeps : Kept b (called b a .book)
+    unfolding careOf
     called-keeps =
         let s = called-stored in
         record {
           legal = s .legal;
           bytes = s .bytes;
-          header = record { n = s .n; numbers = s .numbers; own = s .own; season = s .season; sheet = s .sheet };
+          header = record {
+            n = s .n;
+            numbers = s .numbers;
+            own = s .own;
+            season = s .season;
+            sheet = s .sheet;
+            down = ap (λ (w : Care). w .down) (s .care);
+          };
+          limit = ap (λ (w : Care). w .limit) (s .care);
+          helped = λ p. omega (arith, ap (λ (w : Care). w .helped p) (s .care));
           fills = λ j₂ c₂. rw (s .entries)
               (place-all (λ j c x. Filled (look b j c) x) (look b) j c (o .entry) step-fills (λ j c. filled-refl (look b j c)) j₂ c₂);
         }
+
+  -- ---- a request
+
+  module _ (p season : ℕ) where
+    abbrev accepted : Type 0
+    accepted = requestAnswer b p season ≡ 0
+
+    -- an accepted request's bytes mean the book with one more help for the asker
+    pub helped-meant : accepted → meant (countHelp b p) ≡ withCare (meant b) (moreCare (careOf b) p)
+    helped-meant z = help-meant b h bytes p (request-from b p season z) (request-low b p season z)
+
+    pub helped-keeps : accepted → Kept b (countHelp b p)
+    unfolding meant careOf
+    helped-keeps z =
+        let M = helped-meant z in
+        record {
+          legal = help-legal b h bytes p (request-from b p season z) (request-low b p season z);
+          bytes = help-bytes b h bytes p (request-from b p season z) (request-low b p season z);
+          header = record {
+            n = ap (λ (B : Meaning). B .n) M;
+            numbers = ap (λ (B : Meaning). B .numbers) M;
+            own = ap (λ (B : Meaning). B .own) M;
+            season = ap (λ (B : Meaning). B .season) M;
+            sheet = ap (λ (B : Meaning). B .sheet) M;
+            down = ap (λ (B : Meaning). B .care .down) M;
+          };
+          limit = ap (λ (B : Meaning). B .care .limit) M;
+          helped = λ q. subst (λ (f : ℕ → ℕ). helpedOf b q ≤ f q) (sym (ap (λ (B : Meaning). B .care .helped) M))
+              (upd-all (λ q x. helpedOf b q ≤ x) (helpedOf b) p (suc (helpedOf b p)) (omega arith) (λ q. le-refl (helpedOf b q)) q);
+          fills = λ j c. subst (λ (f : PerEntry Entry). Filled (look b j c) (f j c)) (sym (ap (λ (B : Meaning). B .entries) M))
+              (filled-refl (look b j c));
+        }
+
+    pub requested-keeps : Kept b (requested b p season .book)
+    unfolding requested
+    requested-keeps = go (eqb (requestAnswer b p season) 0) refl
+      where
+        go : (t : Bool) → eqb (requestAnswer b p season) 0 ≡ t
+            → Kept b (cond t (record { given = helping; book = countHelp b p }) (refusal (requestAnswer b p season) b) .book)
+        go true e = helped-keeps (eqb-true (requestAnswer b p season) 0 e)
+        go false e = kept-none
+
+    -- it changes no entry
+    pub requested-entries : look (requested b p season .book) ≡ look b
+    unfolding requested meant
+    requested-entries = go (eqb (requestAnswer b p season) 0) refl
+      where
+        go : (t : Bool) → eqb (requestAnswer b p season) 0 ≡ t
+            → look (cond t (record { given = helping; book = countHelp b p }) (refusal (requestAnswer b p season) b) .book) ≡ look b
+        go true e = ap (λ (B : Meaning). B .entries) (helped-meant (eqb-true (requestAnswer b p season) 0 e))
+        go false e = refl
 
   -- for every number and declaration, every house number and message
   pub published-keeps : (c : ℕ) (v : Decl) → Kept b (published b c v .book)
@@ -194,7 +270,7 @@ module _ (b : List ℕ) (h : legal b ≡ true) (bytes : Bytes b) where
 
   pub received-keeps : (p : ℕ) (message : List ℕ) → Kept b (received b p message .book)
   unfolding received
-  received-keeps p message = rw h (go (readOf message .five))
+  received-keeps p message = rw h (any (requestOf message) (readOf message .five))
     where
       in-season : (m : Five) (t : Bool) → Kept b (cond t (called b (asked p m)) (refusal 3 b) .book)
       in-season m true = called-keeps (asked p m)
@@ -204,12 +280,18 @@ module _ (b : List ℕ) (h : legal b ≡ true) (bytes : Bytes b) where
       go none = kept-none
       go (some m) = in-season m (eqb (m .season) (seasonOf b))
 
+      any : (o : Option ℕ) (x : Option Five) → Kept b (heardAny b p o x .book)
+      any none x = go x
+      any (some season) x = requested-keeps p season
+
   -- every call on a legal book leaves a legal book with the same header
   pub answered-keeps : (a : Calling) → Kept b (answered b a .book)
   unfolding answered
   answered-keeps (publish c v) = published-keeps c v
   answered-keeps (receive p message) = received-keeps p message
   answered-keeps search = kept-none
+  answered-keeps comeback = kept-none
+  answered-keeps (sent kind j c) = kept-none
 
 -- ---- every refusal leaves the lent buffer byte for byte, whatever bytes it is
 
@@ -237,15 +319,24 @@ module _ (b : List ℕ) where
       go true f = called-refused (publishing c v) f
       go false f = refl
 
+  pub requested-refused : (p season : ℕ) → (requested b p season .given .answer ≡ 0 → ⊥) → requested b p season .book ≡ b
+  unfolding requested
+  requested-refused p season = go (eqb (requestAnswer b p season) 0)
+    where
+      go : (t : Bool) → Leaves (cond t (record { given = helping; book = countHelp b p }) (refusal (requestAnswer b p season) b))
+      go true f = absurd (f refl)
+      go false f = refl
+
   pub received-refused : (p : ℕ) (message : List ℕ) → (received b p message .given .answer ≡ 0 → ⊥) → received b p message .book ≡ b
   unfolding received
-  received-refused p message = go (legal b) (readOf message .five)
+  received-refused p message = go (legal b) (requestOf message) (readOf message .five)
     where
       in-season : (m : Five) (t : Bool) → Leaves (cond t (called b (asked p m)) (refusal 3 b))
       in-season m true f = called-refused (asked p m) f
       in-season m false f = refl
 
-      go : (t : Bool) (x : Option Five) → Leaves (cond t (heardFrom b p x) (refusal 1 b))
-      go true none f = refl
-      go true (some m) f = in-season m (eqb (m .season) (seasonOf b)) f
-      go false x f = refl
+      go : (t : Bool) (o : Option ℕ) (x : Option Five) → Leaves (cond t (heardAny b p o x) (refusal 1 b))
+      go true none none f = refl
+      go true none (some m) f = in-season m (eqb (m .season) (seasonOf b)) f
+      go true (some season) x f = requested-refused p season f
+      go false o x f = refl

@@ -4,6 +4,8 @@ pub mod Declarations
 pub mod Checking
 pub mod Carried
 pub mod Received
+pub mod Requests
+pub mod Again
 pub mod Published
 pub mod Searching
 pub mod Settled

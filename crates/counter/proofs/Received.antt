@@ -6,12 +6,14 @@ use mathlib.Core.Bool.{true, false}
 use mathlib.Core.List.{List}
 use mathlib.Core.Option.{none, some}
 use borrow.Author.Tests.{eq-eqb, ne-eqb}
-use Rattle.message.specs.Message.{Five, Told, gives, malformed, readOf}
+use Rattle.message.specs.Message.{Five, Told, gives, malformed, readOf, isRequest}
+use Rattle.message.proofs.Request.{request-names, no-request}
+use Rattle.words.specs.Words.{wordAt}
 use Rattle.meaning.specs.Book.{seasonOf}
 use Rattle.meaning.specs.Legal.{legal}
 use Rattle.entry.specs.declared.Outcome.{Outcome}
 use Rattle.entry.specs.Entered.{Result, result, giving}
-use Rattle.counter.specs.Call.{asked, called, heardFrom, received}
+use Rattle.counter.specs.Call.{asked, called, heardFrom, requested, received}
 
 -- 3, or past it
 module _ (b : List ℕ) (p : ℕ) (m : Five) (season : ℕ) (e : season ≡ seasonOf b) where
@@ -27,13 +29,18 @@ module _ (b : List ℕ) (p : ℕ) (message : List ℕ) where
   unfolding received
   received-no-book h r q = rw h (ap (λ (x : Outcome). result x b) q)
 
-  pub received-malformed : legal b ≡ true → malformed ≡ readOf message → (r : Outcome) → r ≡ giving 2 none none
+  pub received-request : legal b ≡ true → isRequest message ≡ true → (season : ℕ) → season ≡ wordAt message 7 → (x : Result)
+      → x ≡ requested b p season → x ≡ received b p message
+  unfolding received
+  received-request h t season e x q = rw (h, request-names message t) (q ∙ ap (requested b p) e)
+
+  pub received-malformed : legal b ≡ true → isRequest message ≡ false → malformed ≡ readOf message → (r : Outcome) → r ≡ giving 2 none none
       → result r b ≡ received b p message
   unfolding received
-  received-malformed h e r q =
-      rw h (ap (λ (x : Outcome). result x b) q ∙ ap (λ (x : Told). heardFrom b p (x .five)) e)
+  received-malformed h t e r q =
+      rw (h, no-request message t) (ap (λ (x : Outcome). result x b) q ∙ ap (λ (x : Told). heardFrom b p (x .five)) e)
 
-  pub received-message : legal b ≡ true → (m : Five) → gives m ≡ readOf message → (x : Result) → x ≡ heardFrom b p (some m)
-      → x ≡ received b p message
+  pub received-message : legal b ≡ true → isRequest message ≡ false → (m : Five) → gives m ≡ readOf message → (x : Result)
+      → x ≡ heardFrom b p (some m) → x ≡ received b p message
   unfolding received
-  received-message h m e x q = rw h (q ∙ ap (λ (y : Told). heardFrom b p (y .five)) e)
+  received-message h t m e x q = rw (h, no-request message t) (q ∙ ap (λ (y : Told). heardFrom b p (y .five)) e)

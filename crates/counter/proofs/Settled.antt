@@ -1,5 +1,5 @@
--- Two outcomes that meet the contract of publishing, of receiving or of the waiting search, as Rattle reads it from the source, are
--- equal: the answer, the message, the delivery and each byte of the lent buffer.
+-- Two outcomes that meet the contract of publishing, of receiving, of the waiting search, of a return or of what was sent, as Rattle
+-- reads it from the source, are equal: the answer, the message, the delivery and each byte of the lent buffer.
 -- Assumes nothing.
 use mathlib.Core.Path.{_≡_, sym, ap, _∙_}
 use contract.Lifetimes.{Lfts}
@@ -17,6 +17,12 @@ use Rattle.counter.proofs.receive.Kinds as receive-kinds
 use Rattle.counter.proofs.earliest_waiting
 use Rattle.counter.proofs.earliest_waiting.Reads as waiting-reads
 use Rattle.counter.proofs.earliest_waiting.Kinds as waiting-kinds
+use Rattle.counter.proofs.come_back
+use Rattle.counter.proofs.come_back.Reads as return-reads
+use Rattle.counter.proofs.come_back.Kinds as return-kinds
+use Rattle.counter.proofs.sent_on
+use Rattle.counter.proofs.sent_on.Reads as sent-reads
+use Rattle.counter.proofs.sent_on.Kinds as sent-kinds
 
 pub publish-settled : (κs : Lfts 2) (a : ArgsD publish.signature κs) (r r' : ResD publish.signature κs)
     (s s' : AtExit (endedOf 2 publish-kinds.ps publish-kinds.r) κs) → publish-reads.Post κs a r s → publish-reads.Post κs a r' s'
@@ -35,3 +41,11 @@ receive-settled κs a r r' s s' p q =
 pub waiting-settled : (κs : Lfts 1) (a : ArgsD «earliest_waiting».signature κs) (r r' : ResD «earliest_waiting».signature κs)
     (s s' : AtExit (endedOf 1 waiting-kinds.ps waiting-kinds.r) κs) → waiting-reads.Post κs a r s → waiting-reads.Post κs a r' s' → r ≡ r'
 waiting-settled κs a r r' s s' p q = p ∙ sym q
+
+pub return-settled : (κs : Lfts 1) (a : ArgsD «come_back».signature κs) (r r' : ResD «come_back».signature κs)
+    (s s' : AtExit (endedOf 1 return-kinds.ps return-kinds.r) κs) → return-reads.Post κs a r s → return-reads.Post κs a r' s' → r ≡ r'
+return-settled κs a r r' s s' p q = p ∙ sym q
+
+pub sent-settled : (κs : Lfts 1) (a : ArgsD «sent_on».signature κs) (r r' : ResD «sent_on».signature κs)
+    (s s' : AtExit (endedOf 1 sent-kinds.ps sent-kinds.r) κs) → sent-reads.Post κs a r s → sent-reads.Post κs a r' s' → r ≡ r'
+sent-settled κs a r r' s s' p q = p ∙ sym q

@@ -1,4 +1,5 @@
--- Publishing and receiving at the bytes: the order of answers, and what a call gives and leaves in the lent buffer.
+-- Publishing and receiving at the bytes, a request for help among what is received: the order of answers, and what a call gives and
+-- leaves in the lent buffer.
 -- Assumes nothing.
 use Prim.Native.Nat.{ℕ}
 use mathlib.Core.Bool.{cond}
@@ -7,13 +8,14 @@ use mathlib.Core.Option.{Option, none, some}
 use lib.Dec.{eqb}
 use Rattle.lot.specs.Declaration.{bytesOf}
 use Rattle.sheet.specs.Kept.{sheetAt}
-use Rattle.message.specs.Message.{Five, readOf}
+use Rattle.message.specs.Message.{Five, readOf, requestOf}
 use Rattle.protocol.specs.Entry.{Decl, Kind, heard}
 use Rattle.protocol.specs.Steps.{Out, must, may, recording}
 use Rattle.protocol.specs.Book.{Call, publishing, receiving, senderOf, numberOf, outcome}
-use Rattle.meaning.specs.Book.{Meaning, meant, look, ownOf, seasonOf, sheetPlace}
+use Rattle.protocol.specs.Run.{helpAnswer}
+use Rattle.meaning.specs.Book.{Meaning, meant, look, nOf, ownOf, seasonOf, sheetPlace, limitOf, helpedOf, countHelp}
 use Rattle.meaning.specs.Legal.{legal}
-use Rattle.entry.specs.Entered.{Result, giving, okBy, rulesBy, kindOf, entered}
+use Rattle.entry.specs.Entered.{Result, giving, helping, okBy, rulesBy, kindOf, entered}
 
 -- Every refusal leaves the lent buffer byte for byte and carries no message and no delivery.
 abbrev pub refusal : ℕ → List ℕ → Result
@@ -54,7 +56,23 @@ abbrev pub heardFrom : List ℕ → (house : ℕ) → Option Five → Result
 heardFrom b p none = refusal 2 b
 heardFrom b p (some m) = cond (eqb (m .season) (seasonOf b)) (called b (asked p m)) (refusal 3 b)
 
--- Receiving: 1 to 7 in order.
+-- the answer to house p's request for help: 3, 4, then, past d, 14
+unfoldable pub requestAnswer : List ℕ → (house season : ℕ) → ℕ
+unfolding helpAnswer helpedOf
+requestAnswer b p season = must (eqb season (seasonOf b)) 3 (helpAnswer (nOf b) (limitOf b) p (helpedOf b p))
+
+-- an accepted request: the asker was helped once more, and nothing else changes
+unfoldable pub requested : List ℕ → (house season : ℕ) → Result
+unfolding requestAnswer countHelp
+requested b p season =
+    cond (eqb (requestAnswer b p season) 0) (record { given = helping; book = countHelp b p }) (refusal (requestAnswer b p season) b)
+
+-- past answer 1: the season that a request names, or what reading gives
+abbrev pub heardAny : List ℕ → (house : ℕ) → Option ℕ → Option Five → Result
+heardAny b p (some season) m = requested b p season
+heardAny b p none m = heardFrom b p m
+
+-- Receiving: 1 to 7 in order; a request 1 to 4, then 14.
 unfoldable pub received : List ℕ → (house : ℕ) → List ℕ → Result
-unfolding called
-received b p message = cond (legal b) (heardFrom b p (readOf message .five)) (refusal 1 b)
+unfolding called requested
+received b p message = cond (legal b) (heardAny b p (requestOf message) (readOf message .five)) (refusal 1 b)

@@ -5,19 +5,26 @@ use mathlib.Core.List.{List}
 use Rattle.protocol.specs.Entry.{Decl}
 use Rattle.entry.specs.declared.Outcome.{Outcome}
 use Rattle.counter.specs.declared.Waiting.{Waiting}
+use Rattle.counter.specs.declared.Returned.{Returned}
+use Rattle.counter.specs.declared.Sent.{Sent}
 use Rattle.entry.specs.Entered.{Result}
 use Rattle.counter.specs.Call.{published, received}
 use Rattle.counter.specs.Search.{waiting}
+use Rattle.counter.specs.Again.{returned, sentOf}
 
 pub data Calling : Type 0 where
   publish : (number : ℕ) → Decl → Calling
   receive : (house : ℕ) → (message : List ℕ) → Calling
   search : Calling
+  comeback : Calling
+  sent : (kind sender number : ℕ) → Calling
 
--- what publishing and receiving give, or what the waiting search gives
+-- what publishing and receiving give, what the waiting search gives, what a return and what was sent
 pub data Answer : Type 0 where
   gave : Outcome → Answer
   found : Waiting → Answer
+  asks : Returned → Answer
+  sends : Sent → Answer
 
 -- an answer, and each byte of the book afterwards
 pub record Answered : Type 0 where
@@ -31,3 +38,5 @@ unfoldable pub answered : List ℕ → Calling → Answered
 answered b (publish c v) = moved (published b c v)
 answered b (receive p message) = moved (received b p message)
 answered b search = record { answer = found (waiting b); book = b }
+answered b comeback = record { answer = asks (returned b); book = b }
+answered b (sent kind j c) = record { answer = sends (sentOf b kind j c); book = b }

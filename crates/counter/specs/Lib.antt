@@ -1,3 +1,4 @@
 pub mod Call
 pub mod Search
+pub mod Again
 pub mod Calls

@@ -1,17 +1,21 @@
-// The counter: publishing, receiving, and the earliest waiting entry.
+// The counter: publishing, receiving, the earliest waiting entry, and what a house that returns asks and sends again.
 ghost use mathlib.Core.Path.{_≡_};
 ghost use mathlib.Core.Bool.{true};
-ghost use mathlib.Core.Option.{some};
-ghost use Prim.Native.Nat.{_<_};
+ghost use mathlib.Core.Option.{none, some};
+ghost use Prim.Native.Nat.{_+_, _<_, _≤_};
 ghost use lib.ListN.{length};
+ghost use Rattle.message.specs.Message.{isKind};
 ghost use Rattle.lot.specs.Declaration.{bytesOf};
 ghost use Rattle.protocol.specs.Book.{publishing, receiving};
-ghost use Rattle.meaning.specs.Book.{nOf, numbersOf};
+ghost use Rattle.meaning.specs.Slot.{slotAt};
+ghost use Rattle.meaning.specs.Book.{nOf, numbersOf, seasonOf};
 ghost use Rattle.meaning.specs.Legal.{legal, IsDecl};
-ghost use Rattle.entry.specs.Entered.{result, kindOf, fiveOf};
+ghost use Rattle.entry.specs.Entered.{result, kindOf, fiveOf, letters};
 ghost use Rattle.entry.specs.Places.{Has};
 ghost use Rattle.counter.specs.Call.{fromAnswer, lotAnswer, stepOf, called, heardFrom, received, published};
+ghost use Rattle.counter.specs.Call.{requestAnswer, requested};
 ghost use Rattle.counter.specs.Search.{waits, earliest, placeOf, waiting};
+ghost use Rattle.counter.specs.Again.{returned, sending, saidOf, sentOn, sentOf};
 use entry::Outcome;
 use lot::Declaration;
 use message::Reading;
@@ -23,6 +27,21 @@ pub struct Waiting {
     pub waits: bool,
     pub number: u8,
     pub sender: u8,
+}
+
+// What a return gives: the request, or answer 1 and zeros.
+#[repr(C)]
+pub struct Returned {
+    pub answer: u8,
+    pub request: [u8; 11],
+}
+
+// What this house sent, or a plain none (zeros), or why not.
+#[repr(C)]
+pub struct Sent {
+    pub answer: u8,
+    pub gives: bool,
+    pub message: [u8; 36],
 }
 
 // 6, then 7, else 0.
@@ -123,11 +142,44 @@ fn hear(
     entry::refuse(3)
 }
 
-// Receiving: 1 to 7 in order.
+// 3, then 4, then 14, else 0.
+fn check_request(book: &[u8], house: u32, season: u32) -> u8
+    requires { ⌜ legal (now book) ≡ true ⌝ }
+    ensures { λ r. ⌜ r ≡ requestAnswer (now (book .entry)) house season ⌝ }
+{
+    if season == book::season_of(book) {
+        if (house as usize) < book::n_of(book) {
+            if book::helped_at(book, house as usize) < book::limit_of(book) {
+                return 0;
+            }
+            return 14;
+        }
+        return 4;
+    }
+    3
+}
+
+// A request on a legal book: its answer, and where that is 0 the asker is helped once more.
+fn hear_request(book: &mut [u8], house: u32, season: u32) -> Outcome
+    requires { ⌜ legal (now book) ≡ true ⌝ }
+    ensures { λ r. ⌜ result r (now (book .exit)) ≡ requested (now (book .entry)) house season ⌝ }
+{
+    let answer = check_request(book, house, season);
+    if answer == 0 {
+        book::count_help(book, house as usize);
+        return entry::help();
+    }
+    entry::refuse(answer)
+}
+
+// Receiving: 1 to 7 in order; a request 1 to 4, then 14.
 pub fn receive(book: &mut [u8], house: u32, message: &[u8]) -> Outcome
     ensures { λ r. ⌜ result r (now (book .exit)) ≡ received (now (book .entry)) house (now (message .entry)) ⌝ }
 {
     if book::is_legal(book) {
+        if message::is_request(message) {
+            return hear_request(book, house, words::word_at(message, 7));
+        }
         let Reading::Message {
             kind,
             season,
@@ -267,4 +319,95 @@ pub fn earliest_waiting(book: &[u8]) -> Waiting
         number: 0,
         sender: 0,
     }
+}
+
+// ---- a house that returns
+
+// A return: 1, else 0 and the request to all.
+pub fn come_back(book: &[u8]) -> Returned
+    ensures { λ r. ⌜ r ≡ returned (now (book .entry)) ⌝ }
+{
+    if book::is_legal(book) {
+        let request = message::write_request(book::season_of(book));
+        return Returned { answer: 0, request };
+    }
+    Returned {
+        answer: 1,
+        request: [0; 11],
+    }
+}
+
+// An answer and no message.
+fn send_nothing(answer: u8) -> Sent
+    ensures { λ r. ⌜ r ≡ sending answer none ⌝ }
+{
+    Sent {
+        answer,
+        gives: false,
+        message: [0; 36],
+    }
+}
+
+// The message of the kind with the declaration in the slot at `at`, or none.
+fn sent_in(book: &[u8], at: usize, kind: u8, sender: u8, number: u8) -> Sent
+    requires { ⌜ (at + 21 ≤ length (now book)) × (6 < length (now book)) × (isKind kind ≡ true) ⌝ }
+    ensures { λ r. ⌜ r ≡ sending 0 (letters (seasonOf (now (book .entry))) sender number
+        (saidOf (kindOf kind) (slotAt (now (book .entry)) at))) ⌝ }
+{
+    if book::is_full(book, at) {
+        let d = lot::declaration_at(book, at + 1);
+        let season = book::season_of(book);
+        let written = message::write_message(kind, season, sender, number, d);
+        let message = written.message;
+        return Sent {
+            answer: 0,
+            gives: true,
+            message,
+        };
+    }
+    send_nothing(0)
+}
+
+// What this house sent of the kind on an entry of the book.
+fn sent_entry(book: &[u8], kind: u8, sender: u8, number: u8) -> Sent
+    requires { ⌜ Has (now book) sender number × (isKind kind ≡ true) ⌝ }
+    ensures { λ r. ⌜ r ≡ sending 0 (sentOn (now (book .entry)) (kindOf kind) sender number) ⌝ }
+{
+    let n = book::n_of(book);
+    if kind == 1 {
+        if (sender as usize) == book::own_of(book) {
+            return sent_in(
+                book,
+                book::slot_place(n, number as usize),
+                kind,
+                sender,
+                number,
+            );
+        }
+        return send_nothing(0);
+    }
+    let base = entry::entry_at(book, sender as usize, number as usize);
+    if kind == 2 {
+        return sent_in(book, base, kind, sender, number);
+    }
+    sent_in(book, base + 21 * (1 + 2 * n), kind, sender, number)
+}
+
+// What was sent: 1, 2 for a kind not 1 to 3, 4; else the message, or a plain none.
+pub fn sent_on(book: &[u8], kind: u8, sender: u32, number: u32) -> Sent
+    ensures { λ r. ⌜ r ≡ sentOf (now (book .entry)) kind sender number ⌝ }
+{
+    if book::is_legal(book) {
+        if message::is_kind(kind) {
+            if (sender as usize) < book::n_of(book) {
+                if (number as usize) < book::numbers_of(book) {
+                    return sent_entry(book, kind, sender as u8, number as u8);
+                }
+                return send_nothing(4);
+            }
+            return send_nothing(4);
+        }
+        return send_nothing(2);
+    }
+    send_nothing(1)
 }
