@@ -1,21 +1,24 @@
--- A call at the bytes is the protocol's call: where books and copies mean the same before, they mean the same afterwards.
+-- A call at the bytes is the protocol's call, and an accepted request the protocol's help: where books, copies and requests mean the same
+-- before, they mean the same afterwards.
 -- Assumes nothing.
-use Prim.Native.Nat.{ℕ, zero, suc}
+use Prim.Native.Nat.{ℕ, zero, suc, _<_}
 use mathlib.Core.Path.{_≡_, refl, sym, ap, _∙_, fun-ext, subst}
 use mathlib.Core.Bool.{Bool, true, false, cond}
-use mathlib.Core.List.{List, append-nil}
+use mathlib.Core.List.{List, [], _++_, append-nil}
 use mathlib.Core.Option.{Option, none, some}
 use native.Mathlib.Omega.{arith}
 use lib.Dec.{T, eqb}
-use borrow.Author.Tests.{ne-eqb}
-use Rattle.card.specs.Card.{tolerated}
+use borrow.Author.Tests.{eqb-true, eq-eqb, ne-eqb, lt-ltb}
+use Rattle.card.specs.Card.{fitting}
 use Rattle.words.specs.Words.{Bytes}
 use Rattle.sheet.specs.Kept.{sheetAt}
-use Rattle.meaning.specs.Book.{nOf, numbersOf, ownOf, seasonOf, sheetPlace, look, meant}
-use Rattle.meaning.specs.Legal.{legal, IsDecl}
+use Rattle.meaning.specs.Book.{Care, Meaning, nOf, numbersOf, ownOf, seasonOf, sheetPlace, downOf, limitOf, helpedOf, careOf, countHelp}
+use Rattle.meaning.specs.Book.{look, meant}
+use Rattle.meaning.specs.Legal.{legal, IsDecl, IsSlot, IsEntry}
+use Rattle.meaning.proofs.Meant.{meant-is-book}
 use Rattle.meaning.proofs.Entries.{same-entry}
 use Rattle.meaning.proofs.Stores.{Stored}
-use Rattle.protocol.specs.Entry.{Decl, Kind, upd}
+use Rattle.protocol.specs.Entry.{Decl, Kind, SEND, ECHO, READY, Entry, own, upd}
 use Rattle.protocol.specs.Steps.{say, Out}
 use Rattle.protocol.specs.Book.{Book, sameEntry, place, Call, publishing, senderOf, numberOf, outcome, after, publication}
 use Rattle.protocol.specs.Run.{Wall, noted}
@@ -24,12 +27,13 @@ use Rattle.protocol.specs.Thresholds.{rulesOf, wallOf}
 use Rattle.protocol.proofs.Basics.{upd-all}
 use Rattle.protocol.proofs.Calls.{outcome-done}
 use Rattle.entry.specs.declared.Outcome.{Outcome}
-use Rattle.entry.specs.Entered.{giving, okBy, rulesBy, letters}
-use Rattle.counter.specs.Call.{refusal, stepOf, called}
-use Rattle.counter.proofs.Keeps.{plausible-decl, called-stored, called-given}
+use Rattle.entry.specs.Entered.{result, giving, helping, okBy, rulesBy, kindNumber, letters}
+use Rattle.counter.specs.Call.{refusal, stepOf, called, requestAnswer, requested}
+use Rattle.counter.specs.Again.{sending, saidOf, sentOn, sentOf}
+use Rattle.counter.proofs.Keeps.{Kept, plausible-decl, called-stored, called-given, called-keeps, helped-meant, helped-keeps}
 use Rattle.season.specs.Run.{Houses, isHonest, Copy, Noted, Given, State, messageOf, deliveryOf, publicationOf, Named, nothing, entry}
-use Rattle.season.specs.Run.{noting, posted, ended}
-use Rattle.season.proofs.Mail.{Mails, mails-append, mails-posted}
+use Rattle.season.specs.Run.{noting, posted, sentAgain, againOn, again, sends, ended}
+use Rattle.season.proofs.Mail.{kind-known, kind-of-number, Says, Asks, Mails, mails-append, mails-each, mails-to-those, mails-posted}
 
 message-of : (a : ℕ) (m : Option (List ℕ)) (d : Option Decl) → messageOf (giving a m d) ≡ m
 message-of a none d = refl
@@ -58,9 +62,22 @@ noting-none f r (entry j c) = fun-ext (λ q. upd-all (λ q x. x ≡ f q) f r (pl
         go j₂ c₂ true q = let p = same-entry j c j₂ c₂ q in rw (p .0, p .1)
         go j₂ c₂ false q = refl
 
+-- what a request answers
+requested-answer : (b : List ℕ) (p season : ℕ) → requested b p season .given .answer ≡ requestAnswer b p season
+unfolding requested
+requested-answer b p season = go (eqb (requestAnswer b p season) 0) refl
+  where
+    a : ℕ
+    a = requestAnswer b p season
+
+    go : (t : Bool) → eqb a 0 ≡ t → cond t (result helping (countHelp b p)) (refusal a b) .given .answer ≡ a
+    go true e = sym (eqb-true a 0 e)
+    go false e = refl
+
 -- the wall that the houses' openings give
 abbrev pub wall : Houses → Wall
-wall H = wallOf (H .n) (tolerated (H .n)) (H .numbers) (okBy (sheetAt (H .sheet) 0)) (H .honest)
+wall H =
+    wallOf (H .n) (fitting (H .n) (H .down)) (H .down) (H .limit) (H .numbers) (okBy (sheetAt (H .sheet) 0)) (H .honest)
 
 module _ (H : Houses) where
   -- a legal book of house r
@@ -72,35 +89,72 @@ module _ (H : Houses) where
     pub own : ownOf b ≡ r
     pub season : seasonOf b ≡ H .season
     pub sheet : sheetAt b sheetPlace ≡ sheetAt (H .sheet) 0
+    pub down : downOf b ≡ H .down
+    pub limit : limitOf b ≡ H .limit
+
+  -- and so is what a call leaves of it
+  is-kept : (r : ℕ) (b a : List ℕ) → IsOf r b → Kept b a → IsOf r a
+  is-kept r b a K k =
+      record {
+        legal = k .legal;
+        bytes = k .bytes;
+        n = k .header .n ∙ K .n;
+        numbers = k .header .numbers ∙ K .numbers;
+        own = k .header .own ∙ K .own;
+        season = k .header .season ∙ K .season;
+        sheet = k .header .sheet ∙ K .sheet;
+        down = k .header .down ∙ K .down;
+        limit = k .limit ∙ K .limit;
+      }
 
   -- what calls gave at the bytes, and what they gave in the protocol
-  pub record Gave (g : Given) (y : protocol.Given) : Type 0 where
+  pub record Gave (g : Given) (y : protocol.Given) (f : ℕ → ℕ → ℕ) : Type 0 where
     pub books : (r : ℕ) → T (isHonest H r) → IsOf r (g .books r)
     pub entries : (r : ℕ) → T (isHonest H r) → y .books r ≡ look (g .books r)
+    pub helped : (r : ℕ) → T (isHonest H r) → f r ≡ helpedOf (g .books r)
     pub deliveries : y .deliveries ≡ g .deliveries
     pub publications : y .publications ≡ g .publications
 
   pub record Means (s : State) (z : protocol.State) : Type 0 where
-    pub gave : Gave (s .gave) (z .gave)
-    pub mail : Mails (H .season) (s .mail) (z .mail)
+    pub gave : Gave (s .gave) (z .gave) (z .power .helped)
+    pub mail : Mails (Says (H .season)) (s .mail) (z .mail)
+    pub down : z .power .down ≡ s .power .down
+    pub returned : z .power .returned ≡ s .power .returned
+    pub requests : Mails (Asks (H .season)) (s .power .requests) (z .power .requests)
 
-  module _ (r : ℕ) (g : Given) (y : protocol.Given) (G : Gave g y) (honest : T (isHonest H r)) where
+  module _ (r : ℕ) (s : State) (z : protocol.State) (M : Means s z) (honest : T (isHonest H r)) where
+    abbrev g : Given
+    g = s .gave
+
+    abbrev y : protocol.Given
+    y = z .gave
+
     abbrev b : List ℕ
     b = g .books r
+
+    abbrev G : Gave g y (z .power .helped)
+    G = M .gave
 
     K : IsOf r b
     K = G .books r honest
 
-    -- house r's book replaced on both sides
+    -- house r's book replaced
     books-after : (d : List ℕ) → IsOf r d → (q : ℕ) → T (isHonest H q) → IsOf q (upd (g .books) r d q)
     books-after d D = upd-all (λ q x. T (isHonest H q) → IsOf q x) (g .books) r d (λ t. D) (G .books)
 
-    entries-after : (d : List ℕ) (x : Book) → x ≡ look d → (q : ℕ) → T (isHonest H q) → upd (y .books) r x q ≡ look (upd (g .books) r d q)
-    entries-after d x e q t = go (eqb q r)
-      where
-        go : (w : Bool) → cond w x (y .books q) ≡ look (cond w d (g .books q))
-        go true = e
-        go false = G .entries q t
+    -- what F reads off the books, replaced on both sides, or on one where F reads the same
+    module _ {A : Type 0} (F : List ℕ → A) (f : ℕ → A) (was : (q : ℕ) → T (isHonest H q) → f q ≡ F (g .books q)) (d : List ℕ) where
+      both-after : (x : A) → x ≡ F d → (q : ℕ) → T (isHonest H q) → upd f r x q ≡ F (upd (g .books) r d q)
+      both-after x e q t = go (eqb q r)
+        where
+          go : (w : Bool) → cond w x (f q) ≡ F (cond w d (g .books q))
+          go true = e
+          go false = was q t
+
+      same-after : F b ≡ F d → (q : ℕ) → T (isHonest H q) → f q ≡ F (upd (g .books) r d q)
+      same-after e = upd-all (λ q x. T (isHonest H q) → f q ≡ F x) (g .books) r d (λ t. was r t ∙ e) was
+
+    -- ---- a call on an entry
 
     module _ (a : Call) where
       abbrev j : ℕ
@@ -113,24 +167,21 @@ module _ (H : Houses) where
       o = outcome (wall H .rules) (wall H .numbers) r a (y .books r)
 
       step-is : stepOf b a ≡ o
-      unfolding stepOf meant rulesBy wallOf
+      unfolding stepOf meant careOf rulesBy wallOf
       step-is =
-          λ i. outcome (rulesOf (K .n i) (tolerated (K .n i)) (okBy (K .sheet i))) (K .numbers i) (K .own i) a (sym (G .entries r honest) i)
+          λ i.
+          outcome (rulesOf (K .n i) (fitting (K .n i) (K .down i)) (K .down i) (okBy (K .sheet i))) (K .numbers i) (K .own i) a
+          (sym (G .entries r honest) i)
 
       stored : Stored b (called b a .book) (senderOf (ownOf b) a) c (stepOf b a .entry)
       stored = called-stored b (K .legal) (K .bytes) a
 
       book-is : IsOf r (called b a .book)
-      book-is =
-          record {
-            legal = stored .legal;
-            bytes = stored .bytes;
-            n = stored .n ∙ K .n;
-            numbers = stored .numbers ∙ K .numbers;
-            own = stored .own ∙ K .own;
-            season = stored .season ∙ K .season;
-            sheet = stored .sheet ∙ K .sheet;
-          }
+      book-is = is-kept r b (called b a .book) K (called-keeps b (K .legal) (K .bytes) a)
+
+      helped-is : helpedOf b ≡ helpedOf (called b a .book)
+      unfolding careOf
+      helped-is = sym (ap (λ (w : Care). w .helped) (stored .care))
 
       entries-are : after (wall H .rules) (wall H .numbers) r a (y .books r) ≡ look (called b a .book)
       unfolding after
@@ -151,6 +202,10 @@ module _ (H : Houses) where
       message-is : letters (H .season) j c (o .message) ≡ messageOf (called b a .given)
       message-is = sym (ap messageOf given-is ∙ message-of (o .answer) (letters (H .season) j c (o .message)) (o .delivery))
 
+      -- it helps nobody
+      pub sends-is : (p : ℕ) → sends H r p (called b a) ≡ posted r (messageOf (called b a .given)) (H .n)
+      sends-is p = rw (ap (λ (x : Outcome). x .helps) given-is)
+
       -- a message that a call gives is of 20 bytes
       decl-is : (k : Kind) (v : Decl) → o .message ≡ some (say k v) → IsDecl v
       unfolding wallOf rulesOf
@@ -158,35 +213,182 @@ module _ (H : Houses) where
           plausible-decl (sheetAt (H .sheet) 0) v (outcome-done (wall H .rules) (wall H .numbers) r a (y .books r) .moves .says k v e .2)
 
       pub call-means : (x : Option Decl) → x ≡ publication a (called b a .given .answer) → (k : List Copy) (l : List protocol.Copy)
-          → Mails (H .season) k l → Means (ended H r (entry j c) (called b a) x g k) (protocol.called (wall H) r a y l)
+          → Mails (Says (H .season)) k l
+          → Means (ended r (entry j c) (called b a) x s (k ++ posted r (messageOf (called b a .given)) (H .n)))
+          (protocol.called (wall H) r a z l)
       unfolding ended protocol.called wallOf rulesOf
-      call-means x e k l M =
+      call-means x e k l N =
           record {
             gave = record {
               books = books-after (called b a .book) book-is;
-              entries = entries-after (called b a .book) _ entries-are;
+              entries = both-after look (y .books) (G .entries) (called b a .book) _ entries-are;
+              helped = same-after helpedOf (z .power .helped) (G .helped) (called b a .book) helped-is;
               deliveries = λ i. noted (G .deliveries i) r j c (delivery-is i);
               publications = λ i. noted (G .publications i) r j c (publication-is i);
             };
-            mail = mails-append (H .season) k l _ _ M
-                (subst (λ (m : Option (List ℕ)). Mails (H .season) (posted r m (H .n)) (protocol.posted j c r (o .message) (H .n)))
+            mail = mails-append (Says (H .season)) k l _ _ N
+                (subst
+                (λ (m : Option (List ℕ)). Mails (Says (H .season)) (posted r m (H .n)) (protocol.posted j c r (o .message) (H .n)))
                 message-is (mails-posted (H .season) r j c (H .n) (o .message) decl-is));
+            down = M .down;
+            returned = M .returned;
+            requests = M .requests;
           }
         where
           publication-is : publication a (o .answer) ≡ x
           publication-is = sym (e ∙ ap (publication a) answer-is)
 
     -- a refusal is no call of the protocol
-    pub refusal-means : (e : Named) (n : ℕ) (k : List Copy) (l : List protocol.Copy) → Mails (H .season) k l
-        → Means (ended H r e (refusal n b) none g k) (record { gave = y; mail = l })
+    pub refusal-means : (e : Named) (n : ℕ) → Means (ended r e (refusal n b) none s (s .mail ++ [])) z
     unfolding ended
-    refusal-means e n k l M =
+    refusal-means e n =
         record {
           gave = record {
             books = books-after b K;
-            entries = upd-all (λ q x. T (isHonest H q) → y .books q ≡ look x) (g .books) r b (G .entries r) (G .entries);
+            entries = same-after look (y .books) (G .entries) b refl;
+            helped = same-after helpedOf (z .power .helped) (G .helped) b refl;
             deliveries = G .deliveries ∙ sym (noting-none (g .deliveries) r e);
             publications = G .publications ∙ sym (noting-none (g .publications) r e);
           };
-          mail = rw (append-nil k) M;
+          mail = rw (append-nil (s .mail)) (M .mail);
+          down = M .down;
+          returned = M .returned;
+          requests = M .requests;
         }
+
+    -- ---- what is sent again
+
+    own-slot : (n : ℕ) (k : Kind) (e : Entry) → IsEntry n e → IsSlot (own k e)
+    own-slot n SEND e h = h .published
+    own-slot n ECHO e h = h .send
+    own-slot n READY e h = h .readySent
+
+    module _ (d : List ℕ) (D : IsOf r d) (Q : ℕ → Bool) where
+      sent-is : (k : Kind) (j c : ℕ) → j < H .n → c < H .numbers
+          → sentOf d (kindNumber k) j c ≡ sending 0 (letters (H .season) j c (saidOf k (own k (look d j c))))
+      unfolding sentOf sentOn
+      sent-is k j c lj lc =
+          let in-senders = lt-ltb j (nOf d) (omega (arith, D .n)) in
+          let in-numbers = lt-ltb c (numbersOf d) (omega (arith, D .numbers)) in
+          rw (D .legal, kind-known k, kind-of-number k, in-senders, in-numbers)
+          (ap (λ (x : ℕ). sending 0 (letters x j c (saidOf k (own k (look d j c))))) (D .season))
+
+      slot-again : (k : Kind) (j c : ℕ) (x : Option Decl) → IsSlot x
+          → Mails (Says (H .season)) (sentAgain Q r (H .n) (sending 0 (letters (H .season) j c (saidOf k x))))
+          (protocol.againKind Q j c r k x (H .n))
+      slot-again k j c none i = tt
+      slot-again k j c (some v) i = mails-to-those (H .season) Q r j c k v i (H .n)
+
+      abbrev mine : Kind → ℕ → ℕ → List Copy
+      mine k j c = sentAgain Q r (H .n) (sentOf d (kindNumber k) j c)
+
+      abbrev theirs : Kind → ℕ → ℕ → List protocol.Copy
+      theirs k j c = protocol.againKind Q j c r k (own k (look d j c)) (H .n)
+
+      kind-again : (k : Kind) (j c : ℕ) → j < H .n → c < H .numbers → Mails (Says (H .season)) (mine k j c) (theirs k j c)
+      unfolding meant
+      kind-again k j c lj lc =
+          rw (sent-is k j c lj lc)
+          (slot-again k j c (own k (look d j c))
+          (own-slot (nOf d) k (look d j c) (meant-is-book d (D .legal) (D .bytes) .entries j c)))
+
+      entry-again : (j c : ℕ) → j < H .n → c < H .numbers
+          → Mails (Says (H .season)) (againOn Q r (H .n) d j c) (protocol.againOn Q r (H .n) j c (look d j c))
+      entry-again j c lj lc =
+          mails-append (Says (H .season)) (mine SEND j c) (theirs SEND j c) (mine ECHO j c ++ mine READY j c)
+          (theirs ECHO j c ++ theirs READY j c)
+          (kind-again SEND j c lj lc)
+          (mails-append (Says (H .season)) (mine ECHO j c) (theirs ECHO j c) (mine READY j c) (theirs READY j c)
+          (kind-again ECHO j c lj lc)
+          (kind-again READY j c lj lc))
+
+      pub again-means : (E : Book) → E ≡ look d
+          → Mails (Says (H .season)) (again Q r (H .n) (H .numbers) d) (protocol.again Q r (H .n) (H .numbers) E)
+      again-means E e =
+          rw e
+          (mails-each (Says (H .season)) _ _ (H .numbers) (λ c lc.
+          mails-each (Says (H .season)) _ _ (H .n) (λ j lj. entry-again j c lj lc)))
+
+    -- ---- a request
+
+    module _ (p : ℕ) where
+      answer-same : requestAnswer b p (H .season) ≡ protocol.helpAnswer (protocol.n (wall H)) (wall H .limit) p (z .power .helped r p)
+      unfolding requestAnswer wallOf rulesOf
+      answer-same =
+          rw (eq-eqb (H .season) (seasonOf b) (sym (K .season)))
+          (λ i. protocol.helpAnswer (K .n i) (K .limit i) p (sym (G .helped r honest) i p))
+
+      pub asked-answer : requested b p (H .season) .given .answer ≡ protocol.helpAnswer (H .n) (H .limit) p (z .power .helped r p)
+      unfolding wallOf rulesOf
+      asked-answer = requested-answer b p (H .season) ∙ answer-same
+
+      accepted-means : requestAnswer b p (H .season) ≡ 0
+          → Means
+          (ended r nothing (result helping (countHelp b p)) none s (s .mail ++ again (eqb p) r (H .n) (H .numbers) (countHelp b p)))
+          (record {
+            gave = y;
+            mail = z .mail ++ protocol.again (eqb p) r (H .n) (H .numbers) (y .books r);
+            power = record {
+              down = z .power .down;
+              returned = z .power .returned;
+              helped = protocol.oneMore (z .power .helped) r p;
+              requests = z .power .requests;
+            };
+          })
+      unfolding ended meant careOf
+      accepted-means e =
+          let d = countHelp b p in
+          let B = helped-meant b (K .legal) (K .bytes) p (H .season) e in
+          let D = is-kept r b d K (helped-keeps b (K .legal) (K .bytes) p (H .season) e) in
+          let same : look b ≡ look d = sym (ap (λ (B : Meaning). B .entries) B) in
+          let more = (λ i. upd (G .helped r honest i) p (suc (G .helped r honest i p))) ∙ sym (ap (λ (B : Meaning). B .care .helped) B) in
+          record {
+            gave = record {
+              books = books-after d D;
+              entries = same-after look (y .books) (G .entries) d same;
+              helped = both-after helpedOf (z .power .helped) (G .helped) d _ more;
+              deliveries = G .deliveries;
+              publications = G .publications;
+            };
+            mail = mails-append (Says (H .season)) (s .mail) (z .mail) _ _ (M .mail)
+                (again-means d D (eqb p) (y .books r) (G .entries r honest ∙ same));
+            down = M .down;
+            returned = M .returned;
+            requests = M .requests;
+          }
+
+      -- a request of the season is the protocol's
+      pub request-means : Means
+          (ended r nothing (requested b p (H .season)) none s (s .mail ++ sends H r p (requested b p (H .season))))
+          (protocol.helps (wall H) r p z)
+      unfolding requested protocol.helps wallOf rulesOf
+      request-means = rw (← answer-same) (go (eqb (requestAnswer b p (H .season)) 0) refl)
+        where
+          a : ℕ
+          a = requestAnswer b p (H .season)
+
+          go : (t : Bool) → eqb a 0 ≡ t
+              → Means
+              (ended r nothing (cond t (result helping (countHelp b p)) (refusal a b)) none s
+              (s .mail ++ sends H r p (cond t (result helping (countHelp b p)) (refusal a b))))
+              (cond t
+              (record {
+                gave = y;
+                mail = z .mail ++ protocol.again (eqb p) r (H .n) (H .numbers) (y .books r);
+                power = record {
+                  down = z .power .down;
+                  returned = z .power .returned;
+                  helped = protocol.oneMore (z .power .helped) r p;
+                  requests = z .power .requests;
+                };
+              })
+              z)
+          go true e = accepted-means (eqb-true a 0 e)
+          go false e = refusal-means nothing a
+
+      -- and one of another season is refused
+      pub other-means : (season : ℕ) → (season ≡ H .season → ⊥)
+          → Means (ended r nothing (requested b p season) none s (s .mail ++ sends H r p (requested b p season))) z
+      unfolding requested requestAnswer
+      other-means season f =
+          rw (ne-eqb season (seasonOf b) (λ e. f (e ∙ K .season))) (refusal-means nothing 3)

@@ -3,3 +3,4 @@ pub mod Calls
 pub mod Steps
 pub mod Season
 pub mod Example
+pub mod Liar

@@ -1,35 +1,55 @@
 -- Demand 3 at the bytes: what is claimed of every run, from the run of the protocol that it means.
 -- Assumes nothing.
-use Prim.Native.Nat.{ℕ, _≤_, _<_}
+use Prim.Native.Nat.{ℕ, _*_, _≤_, _<_}
 use mathlib.Core.Path.{_≡_, refl, sym, ap, ap₂, subst, _∙_}
-use mathlib.Core.Bool.{Bool, true, false, not, _&&_}
-use mathlib.Core.List.{List}
+use mathlib.Core.Logic.{_⊎_, inl, inr, ⊎-elim}
+use mathlib.Core.Bool.{Bool, true, false, not, cond, _&&_}
+use mathlib.Core.List.{List, []}
 use mathlib.Core.Option.{Option, none, some}
 use native.Mathlib.Omega.{arith}
-use lib.Dec.{T}
+use lib.Dec.{T, eqb, ltb, eqb-refl, ltb→lt}
 use lib.ListN.{length}
-use Rattle.card.specs.Card.{tolerated}
+use borrow.Author.Tests.{lt-ltb}
+use Rattle.card.specs.Card.{tolerated, fitting}
+use Rattle.card.specs.Count.{count}
+use Rattle.card.proofs.Wall.{down-between}
+use Rattle.card.proofs.Counting.{count-not, count-find, count-none}
+use Rattle.card.proofs.Overlap.{fitting-fits}
 use Rattle.lot.specs.Declaration.{declarationAt}
 use Rattle.lot.specs.Sheet.{plausible}
+use Rattle.lot.proofs.Declared.{bytes-of-numbers}
 use Rattle.sheet.specs.Kept.{sheetAt, isSheet, judged}
-use Rattle.meaning.proofs.Opening.{opened-facts}
-use Rattle.protocol.specs.Entry.{READY, isKind}
-use Rattle.protocol.specs.Book.{Call, receiving, outcome}
+use Rattle.message.specs.Message.{readOf}
+use Rattle.meaning.specs.Legal.{IsDecl}
+use Rattle.meaning.proofs.Opening.{opened-facts, allowed-facts}
+use Rattle.protocol.specs.Entry.{Decl, READY, Rules, heard, isKind}
+use Rattle.protocol.specs.Steps.{publish, publishAnswer, publishes}
+use Rattle.protocol.specs.Book.{Book, inBook, Call, publishing, receiving, outcome}
 use Rattle.protocol.specs.Run.{at}
 use Rattle.protocol.specs.Run as protocol
 use Rattle.protocol.specs.Claims as protocol-claims
-use Rattle.protocol.specs.Thresholds.{rulesOf, wallOf, AtMost}
-use Rattle.protocol.proofs.Basics.{true-of, and-r}
-use Rattle.protocol.proofs.Invariant.{entry-refl}
+use Rattle.protocol.specs.Thresholds.{rulesOf, wallOf, AtMost, downs}
+use Rattle.protocol.specs.Thresholds as thresholds
+use Rattle.protocol.proofs.Basics.{true-of, not-of, and-l, and-r, and-mk}
+use Rattle.protocol.proofs.Moves.{listOf}
+use Rattle.protocol.proofs.Again.{entry-refl}
+use Rattle.protocol.proofs.Mail.{tally-at}
+use Rattle.protocol.proofs.Invariant.{Inv}
+use Rattle.protocol.proofs.Views.{view}
+use Rattle.protocol.proofs.Runs.{holds-from-start}
 use Rattle.protocol.proofs.Season as protocol-season
 use Rattle.entry.specs.Entered.{Result, isDecl, okBy}
-use Rattle.counter.specs.Call.{received}
-use Rattle.season.specs.Run.{Houses, isHonest, Open, Copy, Noted, State, Step, start, run, onIt, isReady, copiesOf, copies, readies}
-use Rattle.season.specs.Run.{isBetween, between, consumedBetween, Drained}
-use Rattle.season.specs.Claims.{Delivered, Published, Bounded, Agreed, Complete, Few, Season, Claims}
-use Rattle.season.proofs.Mail.{Says, says-on-it, says-ready, Both, mails-at, mails-tally}
-use Rattle.season.proofs.Calls.{wall, Means, answer-is}
-use Rattle.season.proofs.Steps.{copy-called, season-means}
+use Rattle.counter.specs.Call.{published, received}
+use Rattle.counter.specs.Again.{returned}
+use Rattle.counter.proofs.Declarations.{decl-true}
+use Rattle.season.specs.Run.{Houses, isHonest, isUp, Open, Copy, Noted, State, Step, start, run, onIt, isReady, copiesOf}
+use Rattle.season.specs.Run.{copies, readies, isBetween, between, consumedBetween, upBetween, Drained, Limited}
+use Rattle.season.specs.Run as season
+use Rattle.season.specs.Claims.{Stands, Delivered, Published, Safe, Bounded, Agreed, Complete, Exact, Few, Season, Claims}
+use Rattle.season.proofs.Mail.{kind-of-number, Says, says-on-it, says-ready, Asks, Both, mails-at, mails-tally}
+use Rattle.season.proofs.Calls.{wall, Means, answer-is, asked-answer}
+use Rattle.season.proofs.Steps as steps-proofs
+use Rattle.season.proofs.Steps.{copy-called, up-is, season-means}
 
 -- what the steps take for plausible, judging answers 0
 judged-zero : (sheet v : List ℕ) → isSheet sheet ≡ true → T (okBy (sheetAt sheet 0) v) → judged sheet v ≡ 0
@@ -37,10 +57,45 @@ unfolding judged okBy
 judged-zero sheet v e t =
     rw (e, true-of (plausible (sheetAt sheet 0) (declarationAt v 0)) (and-r (isDecl v) (plausible (sheetAt sheet 0) (declarationAt v 0)) t))
 
+-- and the other way round, of 20 bytes
+judged-ok : (sheet v : List ℕ) → isSheet sheet ≡ true → IsDecl v → judged sheet v ≡ 0 → okBy (sheetAt sheet 0) v ≡ true
+unfolding judged okBy
+judged-ok sheet v s d e = rw (decl-true v d) (go (plausible (sheetAt sheet 0) (declarationAt v 0)) (rw s at e))
+  where
+    go : (t : Bool) → _≡_ {A = ℕ} (cond t 0 5) 0 → t ≡ true
+    go true e = refl
+    go false e = absurd (omega arith)
+
+-- a first plausible publication is accepted
+first-accepted : (R : Rules) (S own c : ℕ) (v : Decl) (b : Book) → inBook R S own c ≡ true → R .ok v ≡ true → b own c .published ≡ none
+    → outcome R S own (publishing c v) b .answer ≡ 0
+unfolding outcome publish publishAnswer publishes
+first-accepted R S own c v b i g e = rw (i, g, e)
+
+none-listed : (o : Option Decl) → listOf o ≡ [] → o ≡ none
+none-listed none e = refl
+none-listed (some x) e = absurd (omega (arith, ap length e))
+
 module _ (H : Houses) (s : State) (z : protocol.State) (M : Means H s z) where
+  honest-both : (x y u w : ℕ) → x ≡ u → y ≡ w → isHonest H x && isHonest H y ≡ isHonest H u && isHonest H w
+  honest-both x y u w e q = λ i. isHonest H (e i) && isHonest H (q i)
+
+  up-both : (x y u w : ℕ) → x ≡ u → y ≡ w
+      → isUp H s x && isUp H s y ≡ protocol.isUp (wall H) z u && protocol.isUp (wall H) z w
+  up-both x y u w e q =
+      (λ i. isUp H s (e i) && isUp H s (q i)) ∙ sym (λ i. up-is H s z M u i && up-is H s z M w i)
+
   between-same : (m : Copy) (x : protocol.Copy) → Says (H .season) m x → isBetween H m ≡ protocol.isBetween (wall H) x
   unfolding wallOf rulesOf
-  between-same m x S = λ i. isHonest H (S .from i) && isHonest H (S .to i)
+  between-same m x S = honest-both (m .from) (m .to) (x .from) (x .to) (S .from) (S .to)
+
+  downs-same : downs (wall H) z ≡ season.downs H s
+  unfolding wallOf rulesOf
+  downs-same = λ i. count (λ p. isHonest H p && M .down i p) (H .n)
+
+  limited-to : Limited H s → protocol.Limited (wall H) (z .power)
+  unfolding wallOf rulesOf
+  limited-to L r t = omega (arith, L r t, ap (λ (f : ℕ → ℕ). f r) (M .returned))
 
   -- a copy's consumption is answered as the protocol answers it
   copy-answered : (m : Copy) (x : protocol.Copy) → Says (H .season) m x → T (isHonest H (m .to))
@@ -48,17 +103,27 @@ module _ (H : Houses) (s : State) (z : protocol.State) (M : Means H s z) where
       ≡ outcome (wall H .rules) (wall H .numbers) (x .to) (protocol.opens x) (z .gave .books (x .to)) .answer
   copy-answered m x S t =
       ap (λ (o : Result). o .given .answer) (copy-called H (m .to) (m .from) (s .gave .books (m .to)) (M .gave .books (m .to) t) m x S)
-      ∙ answer-is H (m .to) (s .gave) (z .gave) (M .gave) t (call (m .from))
+      ∙ answer-is H (m .to) s z M t (call (m .from))
       ∙ ap₂ (λ (to from : ℕ). outcome (wall H .rules) (wall H .numbers) to (call from) (z .gave .books to) .answer) (S .to) (S .from)
     where
       call : ℕ → Call
       call from = receiving from (x .kind) (x .sender) (x .number) (x .decl)
 
+  -- what stands in the protocol's book stands at the bytes
+  copy-stands : (m : Copy) (x : protocol.Copy) → Says (H .season) m x → T (isHonest H (m .to))
+      → heard (x .kind) (x .from) (z .gave .books (x .to) (x .sender) (x .number)) ≡ some (x .decl)
+      → Stands (s .gave .books (m .to)) (m .from) (readOf (m .message) .five)
+  copy-stands m x S t e =
+      let book = sym (M .gave .entries (m .to) t) ∙ ap (z .gave .books) (S .to) in
+      rw (S .read)
+      ((λ i. heard (kind-of-number (x .kind) i) (S .from i) (book i (x .sender) (x .number))) ∙ e
+      ∙ ap some (sym (bytes-of-numbers (x .decl) (S .decl .long) (S .decl .bytes))))
+
   module _ (j c : ℕ) where
     counted : (P : Copy → Bool) (Q : protocol.Copy → Bool) → ((m : Copy) (x : protocol.Copy) → Says (H .season) m x → P m ≡ Q x)
         → copiesOf j c P s ≡ protocol.copiesOf j c Q (z .mail)
     counted P Q f =
-        mails-tally (H .season) (λ m. onIt j c m && P m) (λ x. protocol.onIt j c x && Q x)
+        mails-tally (Says (H .season)) (λ m. onIt j c m && P m) (λ x. protocol.onIt j c x && Q x)
         (λ m x S. ap₂ _&&_ (says-on-it (H .season) j c m x S) (f m x S)) (s .mail) (z .mail) (M .mail)
 
     copies-same : copies j c s ≡ protocol.copies j c z
@@ -72,14 +137,23 @@ module _ (H : Houses) (s : State) (z : protocol.State) (M : Means H s z) where
         counted (λ m. isBetween H m && m .consumed) (λ x. protocol.isBetween (wall H) x && x .consumed)
         (λ m x S. ap₂ _&&_ (between-same m x S) (S .consumed))
 
-    left-counted : copiesOf j c (λ m. isBetween H m && not (m .consumed)) s
-        ≡ protocol.copiesOf j c (λ x. protocol.isBetween (wall H) x && not (x .consumed)) (z .mail)
-    left-counted =
-        counted (λ m. isBetween H m && not (m .consumed)) (λ x. protocol.isBetween (wall H) x && not (x .consumed))
-        (λ m x S. ap₂ (λ (a b : Bool). a && not b) (between-same m x S) (S .consumed))
-
     readies-counted : readies j c s ≡ protocol.readies j c z
     readies-counted = counted isReady (λ x. isKind READY (x .kind)) (says-ready (H .season))
+
+    drained-to : Drained H j c s → protocol.Drained (wall H) j c z
+    drained-to D =
+        record {
+          copies =
+              sym (counted (λ m. upBetween H s m && not (m .consumed)) (λ x. protocol.upCopy (wall H) z x && not (x .consumed))
+              (λ m x S. ap₂ (λ (a b : Bool). a && not b) (up-both (m .from) (m .to) (x .from) (x .to) (S .from) (S .to)) (S .consumed)))
+              ∙ D .copies;
+          requests =
+              sym (mails-tally (Asks (H .season)) (λ m. upBetween H s m && not (m .consumed))
+              (λ x. protocol.upRequest (wall H) z x && not (x .consumed))
+              (λ m x S. ap₂ (λ (a b : Bool). a && not b) (up-both (m .from) (m .to) (x .from) (x .to) (S .from) (S .to)) (S .consumed))
+              (s .power .requests) (z .power .requests) (M .requests))
+              ∙ D .requests;
+        }
 
     deliveries-same : (r : ℕ) → z .gave .deliveries r j c ≡ s .gave .deliveries r j c
     deliveries-same r = ap (λ (f : Noted). f r j c) (M .gave .deliveries)
@@ -87,7 +161,7 @@ module _ (H : Houses) (s : State) (z : protocol.State) (M : Means H s z) where
     publications-same : z .gave .publications j j c ≡ s .gave .publications j j c
     publications-same = ap (λ (f : Noted). f j j c) (M .gave .publications)
 
-module _ (H : Houses) (O : Open H) (l : List Step) (j c : ℕ) (hj : j < H .n) where
+module _ (H : Houses) (O : Open H) (l : List Step) (j c : ℕ) (hj : j < H .n) (hc : c < H .numbers) where
   abbrev s : State
   s = run H l (start H)
 
@@ -100,9 +174,38 @@ module _ (H : Houses) (O : Open H) (l : List Step) (j c : ℕ) (hj : j < H .n) w
   M : Means H s z
   M = season-means H O l .1
 
-  -- the protocol's claims of the run that this one means
-  claimed : (j c : ℕ) → protocol-claims.Season (wall H) j c (AtMost (wall H) (tolerated (H .n))) steps
-  claimed = protocol-season.claims .card (H .n) (H .numbers) (okBy (sheetAt (H .sheet) 0)) (H .honest) (omega (arith, hj)) steps
+  -- what opening answered 0 shows
+  fits : (r : ℕ) → T (isHonest H r) → 2 * H .down < H .n
+  fits r t =
+      down-between (H .n) (H .down)
+      (allowed-facts (H .n) (H .numbers) r (H .down) (H .limit)
+      (opened-facts (H .lent r) (H .n) (H .numbers) r (H .down) (H .limit) (H .season) (H .sheet) (O .answer r t) .allowed)
+      .3) .1
+
+  sheet-is : (r : ℕ) → T (isHonest H r) → isSheet (H .sheet) ≡ true
+  sheet-is r t = opened-facts (H .lent r) (H .n) (H .numbers) r (H .down) (H .limit) (H .season) (H .sheet) (O .answer r t) .sheet
+
+  -- where few are wrong, some house is honest
+  someone : Few H → (r : ℕ) × T (isHonest H r)
+  unfolding fitting tolerated
+  someone few =
+      let x = count-find (isHonest H) (λ r. false) (H .n)
+      (omega (arith, few, hj, count-not (isHonest H) (H .n), count-none (λ r. false) (H .n) (λ i l. refl)))
+      in
+      (x .0, x .2)
+
+  -- the protocol's claims of the run that this one means, with any number of wrong houses
+  any : (j c : ℕ) → protocol-claims.Season (wall H) j c (thresholds.Tolerated (wall H) 0)
+      (λ s. thresholds.TakePart (wall H) (protocol.isUp (wall H) s)) steps
+  any j c = protocol-season.claims .thresholds (wall H) 0 steps j c
+
+  -- and with few
+  claimed : Few H → protocol-claims.Season (wall H) j c (AtMost (wall H) (fitting (H .n) (H .down))) (λ s. downs (wall H) s ≤ H .down) steps
+  claimed few =
+      let x = someone few in
+      protocol-season.claims .card (H .n) (fitting (H .n) (H .down)) (H .down) (H .limit) (H .numbers) (okBy (sheetAt (H .sheet) 0))
+      (H .honest)
+      (fitting-fits (H .n) (H .down) (fits (x .0) (x .1))) steps j c
 
   delivered-to : (r : ℕ) (v : List ℕ) → Delivered H j c s r v → protocol-claims.Delivered (wall H) j c z r v
   delivered-to r v e = deliveries-same H s z M j c r ∙ e
@@ -113,56 +216,147 @@ module _ (H : Houses) (O : Open H) (l : List Step) (j c : ℕ) (hj : j < H .n) w
   published-to : (v : List ℕ) → Published H j c s v → protocol-claims.Published (wall H) j c z v
   published-to v e = publications-same H s z M j c ∙ e
 
-  bounded : Bounded H j c s
+  up-to : (r : ℕ) → T (isUp H s r) → T (protocol.isUp (wall H) z r)
+  up-to r t = subst T (sym (up-is H s z M r)) t
+
+  -- ---- an honest house's request is accepted
+
+  held : Inv (wall H) j c (view j c z)
+  held = holds-from-start (wall H) j c (λ E. Unit {0}) (λ s I z r a o mail A. tt) tt steps .0
+
+  -- helped less often than it returned
+  low : Limited H s → (i : ℕ) (x : protocol.Request) → at (z .power .requests) i ≡ some x → T (isHonest H (x .from)) → x .consumed ≡ false
+      → z .power .helped (x .to) (x .from) < H .limit
   unfolding wallOf rulesOf
-  bounded =
-      let P = claimed j c .bounded in
+  low L i x e g u =
+      omega (
+        arith,
+        L (x .from) g,
+        ap (λ (f : ℕ → ℕ). f (x .from)) (M .returned),
+        held .helping .pending (x .to) (x .from) g,
+        tally-at (λ m. (eqb (x .from) (m .from) && eqb (x .to) (m .to)) && not (m .consumed)) (z .power .requests) i x e
+            (and-mk (eqb (x .from) (x .from) && eqb (x .to) (x .to)) (not (x .consumed))
+            (and-mk (eqb (x .from) (x .from)) (eqb (x .to) (x .to)) (eqb-refl (x .from)) (eqb-refl (x .to))) (not-of (x .consumed) u)),
+      )
+
+  accepted-help : (n d p k : ℕ) → p < n → k < d → protocol.helpAnswer n d p k ≡ 0
+  unfolding protocol.helpAnswer
+  accepted-help n d p k a b = rw (lt-ltb p n a, lt-ltb k d b)
+
+  request-helped : Limited H s → (i : ℕ) (m : Copy) → at (s .power .requests) i ≡ some m → T (isHonest H (m .from))
+      → T (isHonest H (m .to)) → m .consumed ≡ false → received (s .gave .books (m .to)) (m .from) (m .message) .given .answer ≡ 0
+  request-helped L i m e g t u =
+      go (at (z .power .requests) i) refl (rw e at (mails-at (Asks (H .season)) (s .power .requests) (z .power .requests) (M .requests) i))
+    where
+      b : List ℕ
+      b = s .gave .books (m .to)
+
+      go : (x : Option protocol.Request) → at (z .power .requests) i ≡ x → Both (Asks (H .season)) (some m) x
+          → received b (m .from) (m .message) .given .answer ≡ 0
+      go none f S = absurd S
+      go (some x) f S =
+          rw (steps-proofs.heard H (m .to) (m .from) b (m .message) (M .gave .books (m .to) t), S .request)
+          (asked-answer H (m .to) s z M t (m .from)
+          ∙ accepted-help (H .n) (H .limit) (m .from) (z .power .helped (m .to) (m .from))
+          (ltb→lt (m .from) (H .n) (and-l (ltb (m .from) (H .n)) (H .honest (m .from)) g))
+          (rw (S .to, S .from) (low L i x f (rw (← S .from) g) (sym (S .consumed) ∙ u))))
+
+  -- ---- an honest sender's first plausible declaration is accepted
+
+  unpublished : s .gave .publications j j c ≡ [] → z .gave .books j j c .published ≡ none
+  unpublished first =
+      none-listed (z .gave .books j j c .published) (sym (held .books .published j) ∙ publications-same H s z M j c ∙ first)
+
+  first-published : T (isHonest H j) → (v : List ℕ) → IsDecl v → judged (H .sheet) v ≡ 0 → s .gave .publications j j c ≡ []
+      → published (s .gave .books j) c v .given .answer ≡ 0
+  unfolding published wallOf rulesOf
+  first-published honest v d e first =
+      rw (M .gave .books j honest .legal)
+      (answer-is H j s z M honest (publishing c v)
+      ∙ first-accepted (wall H .rules) (wall H .numbers) j c v (z .gave .books j) (rw (lt-ltb j (H .n) hj, lt-ltb c (H .numbers) hc))
+      (judged-ok (H .sheet) v (sheet-is j honest) d e) (unpublished first))
+
+  -- ---- the claims
+
+  safe : Safe H j c s
+  unfolding wallOf rulesOf returned
+  safe =
+      let P = any j c .safe in
       record {
-        bound = rw (copies-same H s z M j c) (P .bound);
-        bound-between = rw (between-counted H s z M j c) (P .bound-between);
         once = λ r t. subst (λ (d : List (List ℕ)). length d ≤ 1) (deliveries-same H s z M j c r) (P .once r);
         published-once = subst (λ (d : List (List ℕ)). length d ≤ 1) (publications-same H s z M j c) (P .published-once);
-        plausible = λ r v t e. judged-zero (H .sheet) v
-            (opened-facts (H .lent r) (H .n) (H .numbers) r (H .season) (H .sheet) (O .answer r t) .sheet)
-            (P .plausible r v (delivered-to r v e));
+        plausible = λ r v t e. judged-zero (H .sheet) v (sheet-is r t) (P .plausible r v (delivered-to r v e));
         accepted = accepted′;
+        returns = λ r t. rw (M .gave .books r t .legal);
+        publishable = first-published;
       }
     where
-      Zero : Copy → Type 0
-      Zero m = received (s .gave .books (m .to)) (m .from) (m .message) .given .answer ≡ 0
+      Answer : Copy → ℕ
+      Answer m = received (s .gave .books (m .to)) (m .from) (m .message) .given .answer
 
-      accepted′ : (i : ℕ) (m : Copy) → at (s .mail) i ≡ some m → T (isHonest H (m .to)) → m .consumed ≡ false → Zero m
-      accepted′ i m e t u = go (at (z .mail) i) refl (rw e at (mails-at (H .season) (s .mail) (z .mail) (M .mail) i))
+      Ends : Copy → Type 0
+      Ends m = (Answer m ≡ 0) ⊎ ((Answer m ≡ 7) × Stands (s .gave .books (m .to)) (m .from) (readOf (m .message) .five))
+
+      accepted′ : (i : ℕ) (m : Copy) → at (s .mail) i ≡ some m → T (isHonest H (m .to)) → Ends m
+      accepted′ i m e t = go (at (z .mail) i) refl (rw e at (mails-at (Says (H .season)) (s .mail) (z .mail) (M .mail) i))
         where
-          go : (x : Option protocol.Copy) → at (z .mail) i ≡ x → Both (H .season) (some m) x → Zero m
+          go : (x : Option protocol.Copy) → at (z .mail) i ≡ x → Both (Says (H .season)) (some m) x → Ends m
           go none f S = absurd S
           go (some x) f S =
-              let P = claimed (x .sender) (x .number) .bounded in
-              copy-answered H s z M m x S t
-              ∙ P .accepted i x f (entry-refl (x .sender) (x .number)) (rw (← S .to) t) (sym (S .consumed) ∙ u)
+              let P = any (x .sender) (x .number) .safe in
+              let same = copy-answered H s z M m x S t in
+              ⊎-elim (λ q. inl (same ∙ q)) (λ q. inr (same ∙ q .0, copy-stands H s z M m x S t (q .1)))
+              (P .accepted i x f (entry-refl (x .sender) (x .number)) (rw (← S .to) t))
+
+  bounded : Limited H s → Bounded H j c s
+  unfolding wallOf rulesOf
+  bounded L =
+      let P = any j c .bounded (limited-to H s z M L) in
+      record {
+        bound = rw (copies-same H s z M j c) (P .bound);
+        readies = rw (readies-counted H s z M j c) (P .readies);
+        helped = request-helped L;
+      }
 
   agreed : Few H → Agreed H j c s
   unfolding wallOf rulesOf
   agreed few =
-      let P = claimed j c .agreed few in
+      let P = claimed few .agreed few in
       record {
         agree = λ r q v w t u d e. P .agree r q v w (delivered-to r v d) (delivered-to q w e);
         authentic = λ g r v t e. sym (publications-same H s z M j c) ∙ P .authentic g r v (delivered-to r v e);
-        by-count = λ g v e n r t. delivered-from r v (P .by-count g v (published-to v e) (sym (consumed-counted H s z M j c) ∙ n) r t);
       }
 
-  complete : Few H → Drained H j c s → Complete H j c s
+  complete : Few H → Limited H s → season.downs H s ≤ H .down → Drained H j c s → Complete H j c s
   unfolding wallOf rulesOf
-  complete few drained =
-      let P = claimed j c .complete few (sym (left-counted H s z M j c) ∙ drained) in
+  complete few L low D =
+      let P = claimed few .complete few (limited-to H s z M L) (omega (arith, low, downs-same H s z M)) (drained-to H s z M j c D) in
       record {
-        equal = λ g r t. sym (deliveries-same H s z M j c r) ∙ P .equal g r t ∙ publications-same H s z M j c;
-        cost = λ g v e. copies-same H s z M j c ∙ P .cost g v (published-to v e);
-        cost-between = λ g v e. between-counted H s z M j c ∙ P .cost-between g v (published-to v e);
-        all = λ q v t e r u. delivered-from r v (P .all q v (delivered-to q v e) r u);
-        all-readies = λ q v t e. readies-counted H s z M j c ∙ P .all-readies q v (delivered-to q v e);
+        equal = λ g r t. sym (deliveries-same H s z M j c r) ∙ P .equal (up-to j g) r (up-to r t) ∙ publications-same H s z M j c;
+        all = λ q v t e r u. delivered-from r v (P .all q v (delivered-to q v e) r (up-to r u));
+      }
+
+  exact : Few H → H .limit ≡ 0 → Limited H s → season.downs H s ≡ 0 → Exact H j c s
+  unfolding wallOf rulesOf
+  exact few still L none-down =
+      let high = downs-same H s z M ∙ none-down in
+      let P = claimed few .exact few (omega (arith, high)) still (limited-to H s z M L) high in
+      record {
+        bound = rw (copies-same H s z M j c) (P .bound);
+        bound-between = rw (between-counted H s z M j c) (P .bound-between);
+        by-count = λ g v e n r t.
+            delivered-from r v (P .by-count g v (published-to v e) (sym (consumed-counted H s z M j c) ∙ n) r (up-to r t));
+        cost = λ D g v e. copies-same H s z M j c ∙ P .cost (drained-to H s z M j c D) g v (published-to v e);
+        cost-between = λ D g v e. between-counted H s z M j c ∙ P .cost-between (drained-to H s z M j c D) g v (published-to v e);
+        all-readies = λ D q v t e. readies-counted H s z M j c ∙ P .all-readies (drained-to H s z M j c D) q v (delivered-to q v e);
       }
 
 pub claims : Claims
 claims H O l j c hj hc =
-    record { bounded = bounded H O l j c hj; agreed = agreed H O l j c hj; complete = complete H O l j c hj }
+    record {
+      safe = safe H O l j c hj hc;
+      bounded = bounded H O l j c hj hc;
+      agreed = agreed H O l j c hj hc;
+      complete = complete H O l j c hj hc;
+      exact = exact H O l j c hj hc;
+    }

@@ -2,22 +2,35 @@
 -- Assumes nothing.
 use Prim.Native.Nat.{ℕ, _+_, _*_, _≤_, _<_}
 use mathlib.Core.Path.{_≡_}
+use mathlib.Core.Logic.{_⊎_}
 use mathlib.Core.Bool.{false}
 use mathlib.Core.List.{List, [], _∷_}
-use mathlib.Core.Option.{some}
+use mathlib.Core.Option.{Option, none, some}
 use lib.Dec.{T}
 use lib.ListN.{length}
-use Rattle.card.specs.Card.{tolerated}
+use Rattle.card.specs.Card.{fitting}
 use Rattle.card.specs.Count.{count}
+use Rattle.lot.specs.Declaration.{bytesOf}
 use Rattle.sheet.specs.Kept.{judged}
+use Rattle.message.specs.Message.{Five, readOf}
+use Rattle.protocol.specs.Entry.{heard}
 use Rattle.protocol.specs.Run.{at}
-use Rattle.counter.specs.Call.{received}
-use Rattle.season.specs.Run.{Houses, isHonest, isWrong, h, Open, Copy, State, Step, start, run, copies, readies, between}
-use Rattle.season.specs.Run.{consumedBetween, Drained}
+use Rattle.meaning.specs.Book.{look}
+use Rattle.meaning.specs.Legal.{IsDecl}
+use Rattle.entry.specs.Entered.{kindOf}
+use Rattle.counter.specs.Call.{published, received}
+use Rattle.counter.specs.Again.{returned}
+use Rattle.season.specs.Run.{Houses, isHonest, isWrong, isUp, h, Open, Copy, State, Step, start, run, copies, readies, between}
+use Rattle.season.specs.Run.{consumedBetween, Drained, Limited, downs}
 
--- at most t of them wrong, t the number 01 tolerates
+-- at most t of them wrong, t the largest that fits n and f
 abbrev pub Few : Houses → Type 0
-Few H = count (isWrong H) (H .n) ≤ tolerated (H .n)
+Few H = count (isWrong H) (H .n) ≤ fitting (H .n) (H .down)
+
+-- what the message says stands in the book, from house p, kind and entry
+abbrev pub Stands : List ℕ → (house : ℕ) → Option Five → Type 0
+Stands b p none = ⊥
+Stands b p (some m) = heard (kindOf (m .kind)) p (look b (m .sender) (m .number)) ≡ some (bytesOf (m .declaration))
 
 module _ (H : Houses) (j c : ℕ) where
   -- house r delivered v on this entry, and nothing else
@@ -28,25 +41,38 @@ module _ (H : Houses) (j c : ℕ) where
   abbrev pub Published : State → List ℕ → Type 0
   Published s v = s .gave .publications j j c ≡ v ∷ []
 
-  -- delivered at all h
+  -- delivered at all that are up
   abbrev pub Everywhere : State → List ℕ → Type 0
-  Everywhere s v = (r : ℕ) → T (isHonest H r) → Delivered s r v
+  Everywhere s v = (r : ℕ) → T (isUp H s r) → Delivered s r v
 
-  -- with any number of wrong houses
-  pub record Bounded (s : State) : Type 0 where
-    -- In any order of calls the honest houses send at most n + 2hn messages on one entry,
-    pub bound : copies j c s ≤ H .n + 2 * (h H * H .n)
-    -- and of these at most h + 2h^2 between honest houses.
-    pub bound-between : between H j c s ≤ h H + 2 * (h H * h H)
+  -- with any number of wrong houses, and however often houses crash and return
+  pub record Safe (s : State) : Type 0 where
     -- At most one delivery per entry at each single house.
     pub once : (r : ℕ) → T (isHonest H r) → length (s .gave .deliveries r j c) ≤ 1
     -- At most one publication is accepted at each number.
     pub published-once : length (s .gave .publications j j c) ≤ 1
     -- No honest house ever delivers an implausible declaration.
     pub plausible : (r : ℕ) (v : List ℕ) → T (isHonest H r) → Delivered s r v → judged (H .sheet) v ≡ 0
-    -- A copy that an honest house sent is accepted where it is consumed: answered 0, so never 7.
-    pub accepted : (i : ℕ) (m : Copy) → at (s .mail) i ≡ some m → T (isHonest H (m .to)) → m .consumed ≡ false
-        → received (s .gave .books (m .to)) (m .from) (m .message) .given .answer ≡ 0
+    -- A copy that an honest house sent is accepted where it is consumed, or is a repeat of what was accepted.
+    pub accepted : (i : ℕ) (m : Copy) → at (s .mail) i ≡ some m → T (isHonest H (m .to))
+        → (received (s .gave .books (m .to)) (m .from) (m .message) .given .answer ≡ 0)
+        ⊎ ((received (s .gave .books (m .to)) (m .from) (m .message) .given .answer ≡ 7)
+        × Stands (s .gave .books (m .to)) (m .from) (readOf (m .message) .five))
+    -- A return is answered 0.
+    pub returns : (r : ℕ) → T (isHonest H r) → returned (s .gave .books r) .answer ≡ 0
+    -- An honest sender's first plausible declaration at a number of the book is accepted.
+    pub publishable : T (isHonest H j) → (v : List ℕ) → IsDecl v → judged (H .sheet) v ≡ 0 → s .gave .publications j j c ≡ []
+        → published (s .gave .books j) c v .given .answer ≡ 0
+
+  -- with any number of wrong houses, each honest house returning at most d times
+  pub record Bounded (s : State) : Type 0 where
+    -- demand 3's bound grows by 6hnd copies per entry
+    pub bound : copies j c s ≤ H .n + 2 * (h H * H .n) + 6 * (h H * H .n * H .limit)
+    -- the READY messages
+    pub readies : readies j c s ≤ h H * H .n + 2 * (h H * H .n * H .limit)
+    -- A request that an honest house sent is accepted where it is consumed: answered 0, so never 14.
+    pub helped : (i : ℕ) (m : Copy) → at (s .power .requests) i ≡ some m → T (isHonest H (m .from)) → T (isHonest H (m .to))
+        → m .consumed ≡ false → received (s .gave .books (m .to)) (m .from) (m .message) .given .answer ≡ 0
 
   -- with at most t
   pub record Agreed (s : State) : Type 0 where
@@ -54,28 +80,38 @@ module _ (H : Houses) (j c : ℕ) where
     pub agree : (r q : ℕ) (v w : List ℕ) → T (isHonest H r) → T (isHonest H q) → Delivered s r v → Delivered s q w → v ≡ w
     -- and from an honest sender only what it published.
     pub authentic : T (isHonest H j) → (r : ℕ) (v : List ℕ) → T (isHonest H r) → Delivered s r v → Published s v
+
+  -- and with at most f honest ones down, and no copy of this entry and no request between up houses left
+  pub record Complete (s : State) : Type 0 where
+    -- what a sender that is up published is what each house that is up delivered: none for none;
+    pub equal : T (isUp H s j) → (r : ℕ) → T (isUp H s r) → s .gave .deliveries r j c ≡ s .gave .publications j j c
+    -- an entry that one honest house delivered, up or not, is delivered by all that are up.
+    pub all : (q : ℕ) (v : List ℕ) → T (isHonest H q) → Delivered s q v → Everywhere s v
+
+  -- 01's exact counts, with d = 0 and no house down
+  pub record Exact (s : State) : Type 0 where
+    -- In any order of calls the honest houses send at most n + 2hn messages on one entry,
+    pub bound : copies j c s ≤ H .n + 2 * (h H * H .n)
+    -- and of these at most h + 2h^2 between honest houses.
+    pub bound-between : between H j c s ≤ h H + 2 * (h H * h H)
     -- An accepted publication by an honest sender is delivered at every honest house by the time its h + 2h^2 copies between honest
     -- houses are consumed.
     pub by-count : T (isHonest H j) → (v : List ℕ) → Published s v → consumedBetween H j c s ≡ h H + 2 * (h H * h H) → Everywhere s v
-
-  -- and once every copy of this entry between honest houses is consumed
-  pub record Complete (s : State) : Type 0 where
-    -- what an honest sender published is what each honest house delivered: none for none,
-    pub equal : T (isHonest H j) → (r : ℕ) → T (isHonest H r) → s .gave .deliveries r j c ≡ s .gave .publications j j c
-    -- and an entry an honest sender published cost exactly n + 2hn,
-    pub cost : T (isHonest H j) → (v : List ℕ) → Published s v → copies j c s ≡ H .n + 2 * (h H * H .n)
+    -- Drained, an entry an honest sender published cost exactly n + 2hn,
+    pub cost : Drained H j c s → T (isHonest H j) → (v : List ℕ) → Published s v → copies j c s ≡ H .n + 2 * (h H * H .n)
     -- h + 2h^2 of them between honest houses;
-    pub cost-between : T (isHonest H j) → (v : List ℕ) → Published s v → between H j c s ≡ h H + 2 * (h H * h H)
-    -- an entry that one honest house delivered is delivered by all,
-    pub all : (q : ℕ) (v : List ℕ) → T (isHonest H q) → Delivered s q v → Everywhere s v
-    -- at exactly hn READY messages.
-    pub all-readies : (q : ℕ) (v : List ℕ) → T (isHonest H q) → Delivered s q v → readies j c s ≡ h H * H .n
+    pub cost-between : Drained H j c s → T (isHonest H j) → (v : List ℕ) → Published s v → between H j c s ≡ h H + 2 * (h H * h H)
+    -- an entry that one honest house delivered is delivered at exactly hn READY messages.
+    pub all-readies : Drained H j c s → (q : ℕ) (v : List ℕ) → T (isHonest H q) → Delivered s q v → readies j c s ≡ h H * H .n
 
   -- in any order of calls
   pub record Season (l : List Step) : Type 0 where
-    pub bounded : Bounded (run H l (start H))
+    pub safe : Safe (run H l (start H))
+    pub bounded : Limited H (run H l (start H)) → Bounded (run H l (start H))
     pub agreed : Few H → Agreed (run H l (start H))
-    pub complete : Few H → Drained H j c (run H l (start H)) → Complete (run H l (start H))
+    pub complete : Few H → Limited H (run H l (start H)) → downs H (run H l (start H)) ≤ H .down → Drained H j c (run H l (start H))
+        → Complete (run H l (start H))
+    pub exact : Few H → H .limit ≡ 0 → Limited H (run H l (start H)) → downs H (run H l (start H)) ≡ 0 → Exact (run H l (start H))
 
 -- of every run of houses that opened their books with answer 0, and of every sender and number in the book
 abbrev pub Claims : Type 0

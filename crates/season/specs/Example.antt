@@ -1,64 +1,53 @@
--- One run at the bytes: four houses, one number, house 0 honest and publishing, house 3 a liar that sends two declarations, forges a
--- READY and hands in bytes that are no message. Assumes nothing.
-use Prim.Native.Nat.{ℕ, zero, suc}
+-- One run at the bytes with f = 1 and d = 1: three honest houses, one number, house 0 publishing, house 2 down when the SEND comes and
+-- back later, house 1 down at the end; and bytes under a number not below n, a request among them.
+-- Assumes nothing.
+use Prim.Native.Nat.{ℕ, zero, suc, _≤_}
 use mathlib.Core.Path.{_≡_}
-use mathlib.Core.Bool.{not, _&&_}
-use mathlib.Core.List.{List, [], _∷_, _++_}
-use mathlib.Core.Option.{Option, some}
-use lib.Dec.{ltb}
+use mathlib.Core.Bool.{true, not, cond, _&&_}
+use mathlib.Core.List.{List, [], _∷_}
+use lib.Dec.{eqb}
 use lib.ListN.{replicate}
-use Rattle.lot.specs.Declaration.{declarationAt}
-use Rattle.meaning.specs.Layout.{lengthOf, echoSlot, readySlot}
-use Rattle.meaning.specs.Book.{slotIn}
-use Rattle.entry.specs.Entered.{wired}
-use Rattle.season.specs.Run.{Houses, Open, State, Step, publish, consume, wrong, start, run, copiesOf, copies, between, isBetween}
-use Rattle.season.specs.Run.{Drained}
+use Rattle.message.specs.Message.{requestWire}
+use Rattle.protocol.specs.Run.{tally}
+use Rattle.meaning.specs.Layout.{lengthOf}
+use Rattle.meaning.specs.Book.{helpedOf}
+use Rattle.season.specs.Run.{Houses, Open, State, Step, publish, consume, wrong, crash, comeback, help, start, run, copiesOf, copies}
+use Rattle.season.specs.Run.{upBetween, Drained, Limited, downs}
 use Rattle.season.specs.Claims.{Few, Delivered, Published}
 
--- n = 4, S = 1, season 2026, cap 20 and open gates, houses 0 to 2 honest; each lends zeros
+-- n = 3, S = 1, f = 1, d = 1, season 2026, cap 20 and open gates, all honest; each lends zeros
 unfoldable pub houses : Houses
 unfolding lengthOf
 houses =
     record {
-      n = 4;
+      n = 3;
       numbers = 1;
+      down = 1;
+      limit = 1;
       season = 2026;
       sheet = 0 ∷ 0 ∷ 0 ∷ 20 ∷ replicate 18 0;
-      honest = λ p. ltb p 3;
-      lent = λ r. replicate (lengthOf 4 1) 0;
+      honest = λ p. true;
+      lent = λ r. replicate (lengthOf 3 1) 0;
     }
 
--- lot 77, 40 colonies, so many kilograms, 17.5, 0.5
-abbrev of : ℕ → List ℕ
-of kilograms =
-    0x00 ∷ 0x00 ∷ 0x00 ∷ 0x4D ∷ 0x00 ∷ 0x00 ∷ 0x00 ∷ 0x28 ∷ 0x00 ∷ 0x00 ∷ 0x03 ∷ kilograms
+-- lot 77, 40 colonies, 800 kilograms, 17.5, 0.5
+abbrev pub lot : List ℕ
+lot =
+    0x00 ∷ 0x00 ∷ 0x00 ∷ 0x4D ∷ 0x00 ∷ 0x00 ∷ 0x00 ∷ 0x28 ∷ 0x00 ∷ 0x00 ∷ 0x03 ∷ 0x20
     ∷ 0x41 ∷ 0x8C ∷ 0x00 ∷ 0x00 ∷ 0x3F ∷ 0x00 ∷ 0x00 ∷ 0x00 ∷ []
 
--- 800 kilograms, and 799
-abbrev pub lot : List ℕ
-lot = of 0x20
+-- the copies from the first on, each consumed in its turn
+unfoldable pub consumeFrom : (first count : ℕ) → List Step
+consumeFrom i zero = []
+consumeFrom i (suc k) = consume i ∷ consumeFrom (suc i) k
 
-abbrev pub lie : List ℕ
-lie = of 0x1F
-
--- a message of the kind on house 0's entry
-abbrev says : ℕ → List ℕ → List ℕ
-says kind v = wired kind 2026 0 0 (declarationAt v 0)
-
--- the copies 0 to n - 1, each consumed in its turn
-unfoldable pub consumeAll : ℕ → List Step
-consumeAll zero = []
-consumeAll (suc i) = consumeAll i ++ (consume i ∷ [])
-
--- The liar sends house 1 a SEND on house 0's entry, house 2 an ECHO before the SEND is heard, and two bytes under a number not below n.
--- When house 1 has two ECHOes of the lot, the liar sends it an ECHO of the lie and then of the lot, and house 2 a READY of the lie. A READY
--- under an honest house's number, and a copy consumed again, are no steps of a run.
+-- House 2 is down as the SEND and an ECHO come. It returns with nothing to send again, and asks all: house 0 sends it its SEND and its
+-- ECHO again, house 1 is down when the request comes, and house 2 itself has sent nothing. Then every copy comes.
 unfoldable pub steps : List Step
-unfolding consumeAll
+unfolding consumeFrom requestWire
 steps =
-    wrong 3 1 (says 1 lie) ∷ wrong 3 2 (says 2 lot) ∷ wrong 9 2 (1 ∷ 0 ∷ []) ∷ publish 0 0 lot
-    ∷ consume 0 ∷ consume 1 ∷ consume 2 ∷ consume 5 ∷ consume 9 ∷ wrong 3 1 (says 2 lie) ∷ wrong 3 1 (says 2 lot)
-    ∷ wrong 3 2 (says 3 lie) ∷ wrong 1 2 (says 3 lie) ∷ consumeAll 28
+    crash 2 ∷ publish 0 0 lot ∷ consume 0 ∷ consume 1 ∷ consume 2 ∷ consume 5 ∷ comeback 2 ∷ wrong 9 0 (requestWire 2026)
+    ∷ wrong 9 2 (1 ∷ 0 ∷ []) ∷ help 0 ∷ crash 1 ∷ help 1 ∷ help 2 ∷ consumeFrom 3 17
 
 unfoldable pub end : State
 unfolding houses steps
@@ -67,17 +56,17 @@ end = run houses steps (start houses)
 -- what is read off a state
 pub record Seen : Type 0 where
   pub publications : List (List ℕ)
-  -- at house 2
+  -- at house 2, which was down, and at house 1, which is
   pub deliveries : List (List ℕ)
+  pub nothing : List (List ℕ)
   pub copies : ℕ
-  pub between : ℕ
-  -- of these not consumed
+  -- of these, and of the requests, between up houses and not consumed
   pub left : ℕ
-  -- in house 1's book and in house 2's, the liar's ECHO; in house 2's its READY, and house 1's
-  pub first-echo : Option (List ℕ)
-  pub other-echo : Option (List ℕ)
-  pub forged : Option (List ℕ)
-  pub honest : Option (List ℕ)
+  pub requests : ℕ
+  pub down : ℕ
+  pub returned : ℕ → ℕ
+  -- how often house 0 helped house 2
+  pub helped : ℕ
 
 unfoldable pub seen : State → Seen
 unfolding houses
@@ -85,35 +74,37 @@ seen s =
     record {
       publications = s .gave .publications 0 0 0;
       deliveries = s .gave .deliveries 2 0 0;
+      nothing = s .gave .deliveries 1 0 0;
       copies = copies 0 0 s;
-      between = between houses 0 0 s;
-      left = copiesOf 0 0 (λ m. isBetween houses m && not (m .consumed)) s;
-      first-echo = slotIn (s .gave .books 1) 0 0 (echoSlot 3);
-      other-echo = slotIn (s .gave .books 2) 0 0 (echoSlot 3);
-      forged = slotIn (s .gave .books 2) 0 0 (readySlot 4 3);
-      honest = slotIn (s .gave .books 2) 0 0 (readySlot 4 1);
+      left = copiesOf 0 0 (λ m. upBetween houses s m && not (m .consumed)) s;
+      requests = tally (λ m. upBetween houses s m && not (m .consumed)) (s .power .requests);
+      down = downs houses s;
+      returned = s .power .returned;
+      helped = helpedOf (s .gave .books 0) 2;
     }
 
--- three honest, honest sender, 28 copies; the first ECHO that the liar sent house 1, and not its second
+-- 3 of the SEND, 3 of each of three ECHOes and two READYs, 2 to the house that returned
 abbrev pub met : Seen
 met =
     record {
       publications = lot ∷ [];
       deliveries = lot ∷ [];
-      copies = 28;
-      between = 21;
+      nothing = [];
+      copies = 20;
       left = 0;
-      first-echo = some lie;
-      other-echo = some lot;
-      forged = some lie;
-      honest = some lot;
+      requests = 0;
+      down = 1;
+      returned = λ r. cond (eqb r 2) 1 0;
+      helped = 1;
     }
 
--- the premises of the claims are met, by a run in which the liar is heard
+-- the premises of the claims are met, by a run in which houses crash and one returns
 pub record Met : Type 0 where
   pub computed : seen end ≡ met
   pub opened : Open houses
   pub few : Few houses
+  pub limited : Limited houses end
+  pub low : downs houses end ≤ houses .down
   pub published : Published houses 0 0 end lot
   pub drained : Drained houses 0 0 end
   pub delivered : Delivered houses 0 0 end 2 lot

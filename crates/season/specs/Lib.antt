@@ -1,3 +1,4 @@
 pub mod Run
 pub mod Claims
 pub mod Example
+pub mod Liar
