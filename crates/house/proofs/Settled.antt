@@ -24,6 +24,12 @@ use Rattle.house.proofs.gm_receive.Kinds as receive-kinds
 use Rattle.house.proofs.gm_waiting
 use Rattle.house.proofs.gm_waiting.Reads as waiting-reads
 use Rattle.house.proofs.gm_waiting.Kinds as waiting-kinds
+use Rattle.house.proofs.gm_return
+use Rattle.house.proofs.gm_return.Reads as return-reads
+use Rattle.house.proofs.gm_return.Kinds as return-kinds
+use Rattle.house.proofs.gm_sent
+use Rattle.house.proofs.gm_sent.Reads as sent-reads
+use Rattle.house.proofs.gm_sent.Kinds as sent-kinds
 use Rattle.house.proofs.gm_judge
 use Rattle.house.proofs.gm_judge.Reads as judge-reads
 use Rattle.house.proofs.gm_judge.Kinds as judge-kinds
@@ -64,6 +70,14 @@ receive-settled κs a r r' s s' p q =
 pub waiting-settled : (κs : Lfts 1) (a : ArgsD gm_waiting.signature κs) (r r' : ResD gm_waiting.signature κs)
     (s s' : AtExit (endedOf 1 waiting-kinds.ps waiting-kinds.r) κs) → waiting-reads.Post κs a r s → waiting-reads.Post κs a r' s' → r ≡ r'
 waiting-settled κs a r r' s s' p q = p ∙ sym q
+
+pub return-settled : (κs : Lfts 1) (a : ArgsD gm_return.signature κs) (r r' : ResD gm_return.signature κs)
+    (s s' : AtExit (endedOf 1 return-kinds.ps return-kinds.r) κs) → return-reads.Post κs a r s → return-reads.Post κs a r' s' → r ≡ r'
+return-settled κs a r r' s s' p q = p ∙ sym q
+
+pub sent-settled : (κs : Lfts 1) (a : ArgsD gm_sent.signature κs) (r r' : ResD gm_sent.signature κs)
+    (s s' : AtExit (endedOf 1 sent-kinds.ps sent-kinds.r) κs) → sent-reads.Post κs a r s → sent-reads.Post κs a r' s' → r ≡ r'
+sent-settled κs a r r' s s' p q = p ∙ sym q
 
 pub judge-settled : (κs : Lfts 2) (a : ArgsD gm_judge.signature κs) (r r' : ResD gm_judge.signature κs)
     (s s' : AtExit (endedOf 2 judge-kinds.ps judge-kinds.r) κs) → judge-reads.Post κs a r s → judge-reads.Post κs a r' s' → r ≡ r'

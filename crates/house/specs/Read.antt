@@ -1,4 +1,5 @@
--- What the exported reader hands back: answer 2 and zeros, or answer 0 and the five things, the declaration as its 20 bytes.
+-- What the exported reader hands back: answer 2 and zeros, or answer 0 and the five things, the declaration as its 20 bytes; of a request
+-- kind 9 and the season, and zeros.
 -- Assumes nothing.
 use Prim.Native.Nat.{ℕ}
 use mathlib.Core.Option.{Option, none, some}
@@ -20,5 +21,7 @@ readBack answer (some m) =
       declaration = bytesOf (m .declaration);
     }
 
-abbrev pub readAnswer : Told → ReadAnswer
-readAnswer t = readBack (t .answer) (t .five)
+abbrev pub readAnswer : (request : Option ℕ) → Told → ReadAnswer
+readAnswer none t = readBack (t .answer) (t .five)
+readAnswer (some season) t =
+    record { answer = 0; kind = 9; season = season; sender = 0; number = 0; declaration = replicate 20 0 }

@@ -1,21 +1,24 @@
-// The eight calls that a house links, as they are exported to C and Rust.
+// The ten calls that a house links, as they are exported to C and Rust.
 ghost use mathlib.Core.Path.{_≡_};
 ghost use Rattle.lot.specs.Declaration.{declarationAt};
 ghost use Rattle.sheet.specs.Kept.{judged};
-ghost use Rattle.message.specs.Message.{readOf, writtenOf};
+ghost use Rattle.message.specs.Message.{readOf, requestOf, writtenOf};
 ghost use Rattle.meaning.specs.Opening.{Opened, opened, Length, lengthAnswer};
 ghost use Rattle.entry.specs.Entered.{result};
 ghost use Rattle.counter.specs.Call.{published, received};
 ghost use Rattle.counter.specs.Search.{waiting};
+ghost use Rattle.counter.specs.Again.{returned, sentOf};
 ghost use Rattle.house.specs.Read.{readAnswer};
 use book::LengthAnswer;
+use counter::Returned;
+use counter::Sent;
 use counter::Waiting;
 use entry::Outcome;
 use lot::Declaration;
 use message::Reading;
 use message::Written;
 
-// What reading gives: answer 0 and the five things, or answer 2 and zeros.
+// What reading gives: answer 0 and the five things, of a request kind 9 and the season alone, or answer 2 and zeros.
 #[repr(C)]
 pub struct ReadAnswer {
     pub answer: u8,
@@ -41,13 +44,15 @@ pub extern "C" fn gm_open(
     n: u32,
     s: u32,
     own: u32,
+    f: u32,
+    d: u32,
     season: u32,
     sheet: &[u8],
 ) -> u8
     ensures { λ r. ⌜ _≡_ {A = Opened} (record { answer = r; book = now (book .exit) })
-        (opened (now (book .entry)) n s own season (now (sheet .entry))) ⌝ }
+        (opened (now (book .entry)) n s own f d season (now (sheet .entry))) ⌝ }
 {
-    book::open_book(book, n, s, own, season, sheet)
+    book::open_book(book, n, s, own, f, d, season, sheet)
 }
 
 // Publishing: 1, 4, 5, 8.
@@ -58,7 +63,7 @@ pub extern "C" fn gm_publish(book: &mut [u8], number: u32, declaration: &[u8; 20
     counter::publish(book, number, declaration)
 }
 
-// Receiving: 1 to 7 in order.
+// Receiving: 1 to 7 in order; a request 1 to 4, then 14.
 #[no_mangle]
 pub extern "C" fn gm_receive(book: &mut [u8], house: u32, message: &[u8]) -> Outcome
     ensures { λ r. ⌜ result r (now (book .exit)) ≡ received (now (book .entry)) house (now (message .entry)) ⌝ }
@@ -72,6 +77,22 @@ pub extern "C" fn gm_waiting(book: &[u8]) -> Waiting
     ensures { λ r. ⌜ r ≡ waiting (now (book .entry)) ⌝ }
 {
     counter::earliest_waiting(book)
+}
+
+// A return: 1, else 0 and the request to all.
+#[no_mangle]
+pub extern "C" fn gm_return(book: &[u8]) -> Returned
+    ensures { λ r. ⌜ r ≡ returned (now (book .entry)) ⌝ }
+{
+    counter::come_back(book)
+}
+
+// What was sent: 1, 2 for a kind not 1 to 3, 4; else the message, or a plain none.
+#[no_mangle]
+pub extern "C" fn gm_sent(book: &[u8], kind: u8, sender: u32, number: u32) -> Sent
+    ensures { λ r. ⌜ r ≡ sentOf (now (book .entry)) kind sender number ⌝ }
+{
+    counter::sent_on(book, kind, sender, number)
 }
 
 // Judging: 10, then 5, else 0.
@@ -97,11 +118,21 @@ pub extern "C" fn gm_write(
     message::write_message(kind, season, sender, number, d)
 }
 
-// The five things of a message, or answer 2.
+// The five things of a message, kind 9 and the season of a request, or answer 2.
 #[no_mangle]
 pub extern "C" fn gm_read(message: &[u8]) -> ReadAnswer
-    ensures { λ r. ⌜ r ≡ readAnswer (readOf (now (message .entry))) ⌝ }
+    ensures { λ r. ⌜ r ≡ readAnswer (requestOf (now (message .entry))) (readOf (now (message .entry))) ⌝ }
 {
+    if message::is_request(message) {
+        return ReadAnswer {
+            answer: 0,
+            kind: 9,
+            season: words::word_at(message, 7),
+            sender: 0,
+            number: 0,
+            declaration: [0; 20],
+        };
+    }
     let Reading::Message {
         kind,
         season,

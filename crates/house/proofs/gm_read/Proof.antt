@@ -1,11 +1,34 @@
 -- `house::gm_read` meets its contract.
 -- Assumes nothing.
 use Rattle.house.specs.Read.{readAnswer}
-use Rattle.message.specs.Message.{told}
-use mathlib.Core.Path.{_≡_, sym, ap, _∙_}
+use Rattle.message.specs.Message.{Told, told}
+use Rattle.message.proofs.Request.{request-long, request-names, no-request}
+use mathlib.Core.Option.{none}
+use mathlib.Core.Path.{sym, ap, _∙_}
+use lib.ListN.{replicate}
+use native.Mathlib.Omega.{arith}
 use borrow.Author.Needs.{needs}
 use Rattle.house.proofs.gm_read.Statement.{statement}
 use Rattle.house.proofs.gm_read.Tie as tie
+
+is-request-requires : tie.Need-is-request-requires
+is-request-requires c κs = search needs
+
+word-at-requires : tie.Need-word-at-requires
+word-at-requires c κs = omega (arith, request-long _ (sym (c .before .is-request .ensures) ∙ c .if1 .taken))
+
+returns : tie.Need-returns
+returns c =
+    rw (request-names _ (sym (c .before .before .is-request .ensures) ∙ c .before .if1 .taken))
+    (λ i.
+    record {
+      answer = 0;
+      kind = 9;
+      season = c .word-at .ensures i;
+      sender = 0;
+      number = 0;
+      declaration = replicate 20 0;
+    })
 
 read-message-requires : tie.Need-read-message-requires
 read-message-requires c κs = search needs
@@ -16,17 +39,22 @@ enum-known-kind c = search needs
 enum-told : tie.Need-enum-told
 enum-told c = search needs
 
-returns : tie.Need-returns
-returns c = ap readAnswer (sym (ap told (c .enum-told .given .1)) ∙ c .before .before .read-message .ensures)
+returns-2 : tie.Need-returns-2
+returns-2 c =
+    let read = c .before .before in
+    rw (no-request _ (sym (read .before .before .is-request .ensures) ∙ read .before .if1 .left))
+    (ap (λ (t : Told). readAnswer none t) (sym (ap told (c .enum-told .given .1)) ∙ read .read-message .ensures))
 
 bytes-of-requires : tie.Need-bytes-of-requires
 bytes-of-requires c κs = search needs
 
-returns-2 : tie.Need-returns-2
-returns-2 c =
+returns-3 : tie.Need-returns-3
+returns-3 c =
     let k = c .before .before in
+    let read = k .before .before in
     let r = k .kind .given .0 in
-    (λ i.
+    rw (no-request _ (sym (read .before .before .is-request .ensures) ∙ read .before .if1 .left))
+    ((λ i.
     record {
       answer = 0;
       kind = r .0;
@@ -35,9 +63,18 @@ returns-2 c =
       number = r .1 .1 .1 .0;
       declaration = c .bytes-of .ensures i;
     })
-    ∙ ap readAnswer (sym (ap told (k .kind .given .1)) ∙ k .before .before .read-message .ensures)
+    ∙ ap (λ (t : Told). readAnswer none t) (sym (ap told (k .kind .given .1)) ∙ read .read-message .ensures))
 
 pub gm-read-spec : {M : Type 1} → statement M
 gm-read-spec =
     tie.close
-    (tie.spec read-message-requires enum-known-kind enum-told returns bytes-of-requires returns-2)
+    (tie.spec
+    is-request-requires
+    word-at-requires
+    returns
+    read-message-requires
+    enum-known-kind
+    enum-told
+    returns-2
+    bytes-of-requires
+    returns-3)
