@@ -8,7 +8,7 @@ use mathlib.Core.Option.{Option, none, some}
 use lib.Dec.{ltb}
 use lib.ListN.{replicate}
 use lib.Ieee.{binary32, ofBits, toBits, le}
-use Rattle.card.specs.Card.{houses, tolerated, quorum, amplify, deliver, countsOf}
+use Rattle.card.specs.Card.{houses, mostDown, downOk, tolerated, fitting, quorum, amplify, deliver, countsOf}
 use Rattle.lot.specs.declared.Gate.{Gate}
 use Rattle.lot.specs.declared.Gate.the-variants.{Open, AtMost}
 use Rattle.lot.specs.declared.Sheet.{Sheet}
@@ -16,13 +16,13 @@ use Rattle.lot.specs.declared.Declaration.{Declaration}
 use Rattle.lot.specs.Declaration.{declarationAt, bytesOf}
 use Rattle.lot.specs.Sheet.{plausible}
 use Rattle.sheet.specs.Kept.{sheetBytes, sheetAt, isSheet, judged}
-use Rattle.message.specs.Message.{Five, wire, gives, readOf, writtenOf}
+use Rattle.message.specs.Message.{Five, wire, gives, readOf, requestOf, writtenOf}
 use Rattle.protocol.specs.Entry.{same}
 use Rattle.protocol.specs.Steps.{recording, takesSend, takesEcho, takesReady, receive}
 use Rattle.protocol.specs.Book.{outcome}
 use Rattle.protocol.specs.Thresholds.{rulesOf}
 use Rattle.meaning.specs.Slot.{slotAt}
-use Rattle.meaning.specs.Layout.{numbersOk, lengthOf, entrySlot}
+use Rattle.meaning.specs.Layout.{numbersOk, mostLimit, lengthOf, entrySlot}
 use Rattle.meaning.specs.Book.{meant, write}
 use Rattle.meaning.specs.Legal.{legal}
 use Rattle.meaning.specs.Opening.{opened}
@@ -46,7 +46,7 @@ pub data Row : Type 0 where
   judge : Sheet → Declaration → (answer : ℕ) → Row
   -- these five things, and the bytes: they write so, and these bytes read so
   form : Five → List ℕ → Row
-  -- a freshly opened book of so many houses, own number 0, one number: what each message in turn gives
+  -- a freshly opened book of so many houses, own number 0, one number, f and d at zero: what each message in turn gives
   calls : (n : ℕ) → List Heard → Row
 
 -- a sheet with this cap and moisture gate, conductivity open; a lot with these numbers and moisture, conductivity 0.5
@@ -87,13 +87,13 @@ Calls b (h ∷ hs) =
     × Calls (received b (h .house) (says (h .kind)) .book) hs
 
 abbrev pub Holds : Row → Type 0
-Holds (card n t q) = (countsOf n .t ≡ t) × (countsOf n .quorum ≡ q)
-Holds (short n vouchers) = ltb vouchers (countsOf n .quorum) ≡ true
+Holds (card n t q) = (countsOf n 0 .t ≡ t) × (countsOf n 0 .quorum ≡ q)
+Holds (short n vouchers) = ltb vouchers (countsOf n 0 .quorum) ≡ true
 Holds (judge s d answer) = judged (sheetBytes s) (bytesOf d) ≡ answer
 Holds (form m bytes) =
     (writtenOf (m .kind) (m .season) (m .sender) (m .number) (m .declaration) ≡ record { answer = 0; message = bytes })
     × (readOf bytes ≡ gives m)
-Holds (calls n hs) = Calls (opened (replicate (lengthOf n 1) 0) n 1 0 2026 (sheetBytes (sheet 20 Open)) .book) hs
+Holds (calls n hs) = Calls (opened (replicate (lengthOf n 1) 0) n 1 0 0 0 2026 (sheetBytes (sheet 20 Open)) .book) hs
 
 -- every row of a table holds
 abbrev pub All : List Row → Type 0
@@ -129,9 +129,10 @@ rows =
 
 -- every row holds
 pub all-hold : All rows
-unfolding countsOf judged sheetBytes bytesOf ofBits toBits le writtenOf readOf opened houses numbersOk lengthOf write received legal meant
-    sheetAt isSheet slotAt entrySlot plausible declarationAt wire outcome receive recording takesSend takesEcho takesReady rulesOf tolerated
-    quorum amplify deliver same
+unfolding countsOf judged sheetBytes bytesOf ofBits toBits le writtenOf readOf requestOf opened houses downOk mostDown numbersOk
+    mostLimit lengthOf write received legal meant sheetAt isSheet slotAt entrySlot plausible declarationAt wire outcome
+    receive recording takesSend takesEcho takesReady rulesOf tolerated
+    fitting quorum amplify deliver same
 all-hold = (
   (refl, refl),
   (

@@ -186,11 +186,11 @@ fn crossed_sheet() -> [u8; 22] {
 // One number.
 fn opening(text: &[u8], book: &mut [u8], n: u32, own: u32, sheet: &[u8]) {
     say(text);
-    end_answer(book::open_book(book, n, 1, own, 2026, sheet));
+    end_answer(book::open_book(book, n, 1, own, 0, 0, 2026, sheet));
 }
 
 fn open_badly(book: &mut [u8], sheet: &[u8]) {
-    say(b"\nTwo errors at once, opening on 974 bytes, four houses' length: 9, 10, 11\n");
+    say(b"\nTwo errors at once, opening on 980 bytes, four houses' length: 9, 10, 11\n");
     opening(
         b"  9 and 10: 17 houses, between 21.0 and 14.0",
         book,

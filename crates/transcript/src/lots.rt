@@ -26,7 +26,9 @@ fn say_column(n: u32, counts: Counts) {
 // A column of the wall card.
 fn show_column(n: u32) {
     if card::is_houses(n) {
-        say_column(n, card::counts_of(n as usize));
+        if card::is_down(n, 0) {
+            say_column(n, card::counts_of(n as usize, 0));
+        }
     }
 }
 

@@ -1,6 +1,7 @@
 // Shows the software at work: document 01's cases run, call by call, with each answer, what was given and what was delivered.
 mod errors;
 mod lots;
+mod power;
 mod scenes;
 mod season;
 mod tell;
@@ -8,39 +9,44 @@ mod tell;
 // Each book below is a buffer of its own, lent once.
 
 fn malformed() {
-    let mut book: [u8; 974] = [0; 974];
+    let mut book: [u8; 980] = [0; 980];
     let mut bytes: [u8; 37] = [0; 37];
     lots::show_bytes(&mut bytes, &mut book);
 }
 
 fn complaint() {
-    let mut small: [u8; 974] = [0; 974];
-    let mut other: [u8; 974] = [0; 974];
-    let mut large: [u8; 11810] = [0; 11810];
+    let mut small: [u8; 980] = [0; 980];
+    let mut other: [u8; 980] = [0; 980];
+    let mut large: [u8; 11828] = [0; 11828];
     scenes::show_kilograms(&mut small);
     scenes::show_readings(&mut other);
     scenes::show_vouchers(&mut large);
 }
 
 fn rows() {
-    let mut ten: [u8; 974] = [0; 974];
-    let mut eleven: [u8; 974] = [0; 974];
-    let mut twelve: [u8; 155] = [0; 155];
+    let mut ten: [u8; 980] = [0; 980];
+    let mut eleven: [u8; 980] = [0; 980];
+    let mut twelve: [u8; 158] = [0; 158];
     scenes::show_echoes(&mut ten);
     scenes::show_readys(&mut eleven);
     scenes::show_alone(&mut twelve);
 }
 
 fn more_scenes() {
-    let mut zeros: [u8; 974] = [0; 974];
-    let mut waiting: [u8; 1919] = [0; 1919];
+    let mut zeros: [u8; 980] = [0; 980];
+    let mut waiting: [u8; 1925] = [0; 1925];
     scenes::show_zeros(&mut zeros);
     scenes::show_waiting(&mut waiting);
 }
 
+fn returning() {
+    let mut book: [u8; 622] = [0; 622];
+    power::show_return(&mut book);
+}
+
 fn pairs() {
-    let mut book: [u8; 974] = [0; 974];
-    let mut buffer: [u8; 974] = [0; 974];
+    let mut book: [u8; 980] = [0; 980];
+    let mut buffer: [u8; 980] = [0; 980];
     errors::show_calls(&mut book);
     errors::show_opening(&mut buffer);
     errors::show_judging();
@@ -60,5 +66,6 @@ fn main() {
     more_scenes();
     season::show_honest();
     season::show_lied();
+    returning();
     pairs();
 }

@@ -54,9 +54,10 @@ fn say_reason(answer: u8) {
         6 => say(b", SEND not from the entry's sender"),
         7 => say(b", already accepted from this house"),
         8 => say(b", already published"),
-        9 => say(b", n, S or own number not allowed"),
+        9 => say(b", n, S, own number, f or d not allowed"),
         10 => say(b", sheet not legal"),
         11 => say(b", buffer length is not the book's"),
+        14 => say(b", helped as often as the limit allows"),
         _ => say(b""),
     }
 }
@@ -180,7 +181,7 @@ pub fn open(book: &mut [u8], n: u32, s: u32, own: u32, cap: u32) {
     say_with(b" opens a book of ", book.len() as u64);
     say_with(b" bytes, cap ", cap as u64);
     let sheet = open_sheet(cap);
-    end_answer(book::open_book(book, n, s, own, 2026, &sheet));
+    end_answer(book::open_book(book, n, s, own, 0, 0, 2026, &sheet));
 }
 
 // A message of season 2026, written, handed to a book under a house's number, and what came of it.

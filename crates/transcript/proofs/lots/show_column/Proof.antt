@@ -8,8 +8,13 @@ use Rattle.transcript.proofs.lots.show_column.Tie as tie
 is-houses-requires : tie.Need-is-houses-requires
 is-houses-requires c κs = search needs
 
+is-down-requires : tie.Need-is-down-requires
+is-down-requires c κs = search needs
+
 counts-of-requires : tie.Need-counts-of-requires
-counts-of-requires c κs = sym (c .before .is-houses .ensures) ∙ c .if1 .taken
+counts-of-requires c κs =
+    let d = c .before in
+    (sym (d .before .before .is-houses .ensures) ∙ d .before .if1 .taken, sym (d .is-down .ensures) ∙ c .if2 .taken)
 
 say-column-requires : tie.Need-say-column-requires
 say-column-requires c κs = search needs
@@ -20,12 +25,17 @@ returns c = search needs
 returns-2 : tie.Need-returns-2
 returns-2 c = search needs
 
+returns-3 : tie.Need-returns-3
+returns-3 c = search needs
+
 pub show-column-spec : {M : Type 1} → statement M
 show-column-spec =
     tie.close
     (tie.spec
     is-houses-requires
+    is-down-requires
     counts-of-requires
     say-column-requires
     returns
-    returns-2)
+    returns-2
+    returns-3)
