@@ -25,7 +25,7 @@ use Rattle.meaning.proofs.Opening.{opened-facts, allowed-facts}
 use Rattle.protocol.specs.Entry.{Decl, READY, Rules, heard, isKind}
 use Rattle.protocol.specs.Steps.{publish, publishAnswer, publishes}
 use Rattle.protocol.specs.Book.{Book, inBook, Call, publishing, receiving, outcome}
-use Rattle.protocol.specs.Run.{at}
+use Rattle.protocol.specs.Run.{at, tally}
 use Rattle.protocol.specs.Run as protocol
 use Rattle.protocol.specs.Claims as protocol-claims
 use Rattle.protocol.specs.Thresholds.{rulesOf, wallOf, AtMost, downs}
@@ -45,7 +45,8 @@ use Rattle.counter.proofs.Declarations.{decl-true}
 use Rattle.season.specs.Run.{Houses, isHonest, isUp, Open, Copy, Noted, State, Step, start, run, onIt, isReady, copiesOf}
 use Rattle.season.specs.Run.{copies, readies, isBetween, between, consumedBetween, upBetween, Drained, Limited}
 use Rattle.season.specs.Run as season
-use Rattle.season.specs.Claims.{Stands, Delivered, Published, Safe, Bounded, Agreed, Complete, Exact, Few, Season, Claims}
+use Rattle.season.specs.Claims.{Stands, Delivered, Published, Safe, Bounded, Agreed, Complete, Single, Exact, Few, Season}
+use Rattle.season.specs.Claims.{Claims}
 use Rattle.season.proofs.Mail.{kind-of-number, Says, says-on-it, says-ready, Asks, Both, mails-at, mails-tally}
 use Rattle.season.proofs.Calls.{wall, Means, answer-is, asked-answer}
 use Rattle.season.proofs.Steps as steps-proofs
@@ -140,20 +141,31 @@ module _ (H : Houses) (s : State) (z : protocol.State) (M : Means H s z) where
     readies-counted : readies j c s ≡ protocol.readies j c z
     readies-counted = counted isReady (λ x. isKind READY (x .kind)) (says-ready (H .season))
 
+    copies-left : copiesOf j c (λ m. upBetween H s m && not (m .consumed)) s
+        ≡ protocol.copiesOf j c (λ x. protocol.upCopy (wall H) z x && not (x .consumed)) (z .mail)
+    copies-left =
+        counted (λ m. upBetween H s m && not (m .consumed)) (λ x. protocol.upCopy (wall H) z x && not (x .consumed))
+        (λ m x S. ap₂ (λ (a b : Bool). a && not b) (up-both (m .from) (m .to) (x .from) (x .to) (S .from) (S .to)) (S .consumed))
+
+    requests-left : tally (λ m. upBetween H s m && not (m .consumed)) (s .power .requests)
+        ≡ tally (λ x. protocol.upRequest (wall H) z x && not (x .consumed)) (z .power .requests)
+    requests-left =
+        mails-tally (Asks (H .season)) (λ m. upBetween H s m && not (m .consumed))
+        (λ x. protocol.upRequest (wall H) z x && not (x .consumed))
+        (λ m x S. ap₂ (λ (a b : Bool). a && not b) (up-both (m .from) (m .to) (x .from) (x .to) (S .from) (S .to)) (S .consumed))
+        (s .power .requests) (z .power .requests) (M .requests)
+
     drained-to : Drained H j c s → protocol.Drained (wall H) j c z
-    drained-to D =
-        record {
-          copies =
-              sym (counted (λ m. upBetween H s m && not (m .consumed)) (λ x. protocol.upCopy (wall H) z x && not (x .consumed))
-              (λ m x S. ap₂ (λ (a b : Bool). a && not b) (up-both (m .from) (m .to) (x .from) (x .to) (S .from) (S .to)) (S .consumed)))
-              ∙ D .copies;
-          requests =
-              sym (mails-tally (Asks (H .season)) (λ m. upBetween H s m && not (m .consumed))
-              (λ x. protocol.upRequest (wall H) z x && not (x .consumed))
-              (λ m x S. ap₂ (λ (a b : Bool). a && not b) (up-both (m .from) (m .to) (x .from) (x .to) (S .from) (S .to)) (S .consumed))
-              (s .power .requests) (z .power .requests) (M .requests))
-              ∙ D .requests;
-        }
+    drained-to D = record { copies = sym copies-left ∙ D .copies; requests = sym requests-left ∙ D .requests }
+
+    drained-from : protocol.Drained (wall H) j c z → Drained H j c s
+    drained-from D = record { copies = copies-left ∙ D .copies; requests = requests-left ∙ D .requests }
+
+    unconsumed-counted : copiesOf j c (λ m. isBetween H m && not (m .consumed)) s
+        ≡ protocol.copiesOf j c (λ x. protocol.isBetween (wall H) x && not (x .consumed)) (z .mail)
+    unconsumed-counted =
+        counted (λ m. isBetween H m && not (m .consumed)) (λ x. protocol.isBetween (wall H) x && not (x .consumed))
+        (λ m x S. ap₂ (λ (a b : Bool). a && not b) (between-same m x S) (S .consumed))
 
     deliveries-same : (r : ℕ) → z .gave .deliveries r j c ≡ s .gave .deliveries r j c
     deliveries-same r = ap (λ (f : Noted). f r j c) (M .gave .deliveries)
@@ -318,6 +330,28 @@ module _ (H : Houses) (O : Open H) (l : List Step) (j c : ℕ) (hj : j < H .n) (
         helped = request-helped L;
       }
 
+  single : H .limit ≡ 0 → Limited H s → Single H j c s
+  unfolding wallOf rulesOf
+  single still L =
+      let P = any j c .single still (limited-to H s z M L) in
+      record {
+        bound = rw (copies-same H s z M j c) (P .bound);
+        bound-between = rw (between-counted H s z M j c) (P .bound-between);
+        accepted = accepted′;
+      }
+    where
+      accepted′ : (i : ℕ) (m : Copy) → at (s .mail) i ≡ some m → T (isHonest H (m .to)) → m .consumed ≡ false
+          → received (s .gave .books (m .to)) (m .from) (m .message) .given .answer ≡ 0
+      accepted′ i m e t u = go (at (z .mail) i) refl (rw e at (mails-at (Says (H .season)) (s .mail) (z .mail) (M .mail) i))
+        where
+          go : (x : Option protocol.Copy) → at (z .mail) i ≡ x → Both (Says (H .season)) (some m) x
+              → received (s .gave .books (m .to)) (m .from) (m .message) .given .answer ≡ 0
+          go none f S = absurd S
+          go (some x) f S =
+              copy-answered H s z M m x S t
+              ∙ any (x .sender) (x .number) .single still (limited-to H s z M L) .accepted i x f (entry-refl (x .sender) (x .number))
+              (rw (← S .to) t) (sym (S .consumed) ∙ u)
+
   agreed : Few H → Agreed H j c s
   unfolding wallOf rulesOf
   agreed few =
@@ -342,8 +376,7 @@ module _ (H : Houses) (O : Open H) (l : List Step) (j c : ℕ) (hj : j < H .n) (
       let high = downs-same H s z M ∙ none-down in
       let P = claimed few .exact few (omega (arith, high)) still (limited-to H s z M L) high in
       record {
-        bound = rw (copies-same H s z M j c) (P .bound);
-        bound-between = rw (between-counted H s z M j c) (P .bound-between);
+        drained = λ a. drained-from H s z M j c (P .drained (sym (unconsumed-counted H s z M j c) ∙ a));
         by-count = λ g v e n r t.
             delivered-from r v (P .by-count g v (published-to v e) (sym (consumed-counted H s z M j c) ∙ n) r (up-to r t));
         cost = λ D g v e. copies-same H s z M j c ∙ P .cost (drained-to H s z M j c D) g v (published-to v e);
@@ -358,5 +391,6 @@ claims H O l j c hj hc =
       bounded = bounded H O l j c hj hc;
       agreed = agreed H O l j c hj hc;
       complete = complete H O l j c hj hc;
+      single = single H O l j c hj hc;
       exact = exact H O l j c hj hc;
     }
