@@ -4,3 +4,4 @@ pub mod Steps
 pub mod Season
 pub mod Example
 pub mod Liar
+pub mod Plain
