@@ -12,11 +12,11 @@ use Rattle.lot.specs.Declaration.{declarationAt}
 use Rattle.meaning.specs.Layout.{lengthOf, echoSlot, readySlot}
 use Rattle.meaning.specs.Book.{slotIn}
 use Rattle.entry.specs.Entered.{wired}
 use Rattle.season.specs.Run.{Houses, Open, State, Step, publish, consume, wrong, start, run, copiesOf, copies, between, isBetween}
 use Rattle.season.specs.Run.{Limited, downs}
 use Rattle.season.specs.Claims.{Few, Delivered, Published}
-use Rattle.season.specs.Example.{lot, consumeFrom}
-use Rattle.season.specs.Liar.{lie}
+use Rattle.runs.specs.PowerCut.{lot, consumeFrom}
+use Rattle.runs.specs.Liar.{lie}
 
 -- n = 4, S = 1, f = 0, d = 0, season 2026, cap 20 and open gates, houses 0 to 2 honest; each lends zeros
 unfoldable pub houses : Houses
