@@ -1,20 +1,41 @@
 #!/usr/bin/env bash
-# docs/TRACE.md and docs/SEASON.md name files that are there, and names that those files have.
+# The pages name files that are there, and names that those files have; and each sentence of the documents has its row in docs/TRACE.md.
 #
-# In a line, `a/path` is a file of the repository, and each `name` after it, up to the next path, is found in that file.
-# A sentence of document 01 that has no row is an error too, where that document stands beside the repository.
+# In a row, `a/path` in the last cell is a file of the repository, and each `name` after it, up to the next path, is found in that file.
+# Elsewhere in a page a path is a file, and no more is asked.
+#
+# docs/AMENDMENTS.md is applied first, row by row, to the sentences of document 01 and of the requests that have landed (docs/changes has
+# a page for each). As they then stand, each sentence of document 01 is the first cell of a row, and these rows have nothing else; the
+# first cells of a request's part, read one after the other, have each of its sentences; and what was replaced has no row. The documents
+# are asked for only where they stand beside the repository.
 set -uo pipefail
 cd "$(dirname "${BASH_SOURCE[0]}")/.."
 export LC_ALL=C.UTF-8
+documents=${DOCUMENTS:-../shared/documents}
+room=$(mktemp -d)
+trap 'rm -rf "$room"' EXIT
 bad=0
 checked=0
 
-for page in docs/TRACE.md docs/SEASON.md; do
-    [ -f "$page" ] || continue
+wrong() {
+    echo "trace: $1"
+    bad=1
+}
+
+# ---- files, and names in them
+
+for page in docs/TRACE.md docs/SEASON.md docs/RULES.md docs/AMENDMENTS.md docs/BOOK.md; do
+    if [ ! -f "$page" ]; then
+        wrong "no page $page"
+        continue
+    fi
     number=0
     while IFS= read -r line; do
         number=$((number + 1))
-        case $line in '|'*) ;; *) continue ;; esac
+        case $line in
+        '|'*) row=yes tokens=$(sed 's/.*|\([^|]*\)|[[:space:]]*$/\1/' <<<"$line") ;;
+        *) row=no tokens=$line ;;
+        esac
         file=''
         while IFS= read -r token; do
             case $token in
@@ -22,39 +43,115 @@ for page in docs/TRACE.md docs/SEASON.md; do
                 file=$token
                 checked=$((checked + 1))
                 if [ ! -e "$file" ]; then
-                    echo "trace: $page:$number: no file $file"
-                    bad=1
+                    wrong "$page:$number: no file $file"
                     file=''
                 fi
                 ;;
             *)
-                [ -n "$file" ] || continue
-                [ -f "$file" ] || continue
+                [ "$row" = yes ] && [ -n "$file" ] && [ -f "$file" ] || continue
                 checked=$((checked + 1))
-                if ! grep -qF -- "$token" "$file"; then
-                    echo "trace: $page:$number: $file has no '$token'"
-                    bad=1
-                fi
+                grep -qF -- "$token" "$file" || wrong "$page:$number: $file has no '$token'"
                 ;;
             esac
-        done < <(printf '%s\n' "$line" | sed 's/.*|\([^|]*\)|[[:space:]]*$/\1/' | grep -o '`[^`]*`' | tr -d '`')
+        done < <(grep -o '`[^`]*`' <<<"$tokens" | tr -d '`')
     done <"$page"
 done
+[ "$checked" -ge 50 ] || wrong "only $checked names were checked"
 
-document=../shared/documents/01-scope.md
-if [ -f "$document" ]; then
-    rows=$(sed 's/\*\*//g; s/`//g' docs/TRACE.md)
+# ---- the sentences of the documents, and the rows of docs/TRACE.md
+
+# The first cell of each row on standard input, with marks taken off; a table's head is left out.
+firsts() {
+    grep -E '^\|' | grep -vE '^\|(-| sentence \|| answer \|| clause \|)' | sed 's/`//g; s/\*\*//g' | cut -d'|' -f2 | sed -E 's/^ +//; s/ +$//'
+}
+
+# A request's part of docs/TRACE.md, its first cells read one after the other.
+part() { # REQUEST
+    sed -n "/^### $1 /,/^##/p" docs/TRACE.md | firsts | tr '\n' ' '
+}
+
+has() { # TEXT SENTENCE
+    case " $1 " in *" $2 "*) true ;; *) false ;; esac
+}
+
+landed=$(cd docs/changes 2>/dev/null && ls 2026-*.md 2>/dev/null | sed 's/\.md$//')
+sed '/^## Document 02/,$d' docs/TRACE.md | firsts >"$room/rows"
+for request in $landed; do
+    part "$request" >"$room/rows-$request"
+    [ -s "$room/rows-$request" ] || wrong "docs/TRACE.md has no part $request"
+done
+
+# Document 01's sentences in one file, each landed request's in its own.
+[ -f "$documents/01-scope.md" ] && bash tests/sentences "$documents/01-scope.md" >"$room/01"
+if [ -f "$documents/02-change-requests.md" ]; then
+    for request in $landed; do
+        sed -n "s/^\*\*$request [^*]*\*\* *//p" "$documents/02-change-requests.md" >"$room/text"
+        [ -s "$room/text" ] || wrong "document 02 has no request $request"
+        bash tests/sentences "$room/text" >"$room/02-$request"
+    done
+fi
+
+# ---- the amendments
+
+# Puts a sentence in another's place in the file that has it.
+amend() { # STOOD STANDS
+    local file
+    for file in "$room"/01 "$room"/02-*; do
+        [ -f "$file" ] && grep -qxF -- "$1" "$file" || continue
+        while IFS= read -r sentence; do
+            [ "$sentence" = "$1" ] && sentence=$2
+            printf '%s\n' "$sentence"
+        done <"$file" >"$room/text"
+        mv "$room/text" "$file"
+        return 0
+    done
+    return 1
+}
+
+: >"$room/stood"
+: >"$room/stands"
+: >"$room/requests"
+while IFS='|' read -r _ request stood stands _; do
+    read -r request <<<"$request"
+    read -r stood <<<"$stood"
+    read -r stands <<<"$stands"
+    printf '%s\n' "$request" >>"$room/requests"
+    [ "$stood" != "$stands" ] || wrong "docs/AMENDMENTS.md: nothing is replaced: $stood"
+    printf '%s\n' "$stood" >>"$room/stood"
+    printf '%s\n' "$stands" >>"$room/stands"
+    [ -f "$room/01" ] || continue
+    if [ "$stood" = - ]; then
+        printf '%s\n' "$stands" >>"$room/01"
+    else
+        amend "$stood" "$stands" || wrong "docs/AMENDMENTS.md: no sentence stands so: $stood"
+    fi
+done < <(grep -E '^\| 2026-[0-9]+ \|' docs/AMENDMENTS.md | tr -d '`')
+for request in $(sort -u "$room/requests"); do
+    [ -f "docs/changes/$request.md" ] || wrong "docs/AMENDMENTS.md: $request has no page in docs/changes"
+done
+
+# ---- the rows against the sentences
+
+# What was replaced has no row; what stands in its place has one.
+while IFS= read -r sentence; do
+    grep -qxF -- "$sentence" "$room/rows" && wrong "replaced, and still a row: $sentence"
+done < <(grep -vxFf "$room/stands" "$room/stood")
+while IFS= read -r sentence; do
+    grep -qxF -- "$sentence" "$room/rows" || has "$(cat "$room"/rows-* 2>/dev/null)" "$sentence" || wrong "no row for: $sentence"
+done < <(grep -vxFf "$room/stood" "$room/stands")
+
+if [ -f "$room/01" ]; then
     while IFS= read -r sentence; do
-        [ -n "$sentence" ] || continue
-        if ! grep -qF -- "$sentence" <<<"$rows"; then
-            echo "trace: no row for: $sentence"
-            bad=1
-        fi
-    done < <(bash tests/sentences "$document")
+        grep -qxF -- "$sentence" "$room/rows" || wrong "no row for: $sentence"
+    done < <(grep -vxFf "$room/stands" "$room/01")
+    while IFS= read -r sentence; do
+        wrong "no sentence of document 01 as it stands: $sentence"
+    done < <(grep -vxFf "$room/01" "$room/rows")
 fi
-
-if [ "$checked" -lt 50 ]; then
-    echo "trace: only $checked names were checked"
-    bad=1
-fi
+for request in $landed; do
+    [ -f "$room/02-$request" ] || continue
+    while IFS= read -r sentence; do
+        has "$(cat "$room/rows-$request")" "$sentence" || wrong "$request: no row for: $sentence"
+    done <"$room/02-$request"
+done
 exit "$bad"
