@@ -11,14 +11,14 @@ use Rattle.card.specs.Count.{bit}
 use Rattle.protocol.specs.Entry.{Decl, Kind, Entry, Rules, heard, own, isKind, isSome, upd}
 use Rattle.protocol.specs.Steps.{Out, may}
 use Rattle.protocol.specs.Book.{Call, inBook, outcome}
-use Rattle.protocol.specs.Run.{n, Wall, Copy, State, right, at, consumedCopy, consumeAt, opens, onIt, copiesOf}
-use Rattle.protocol.proofs.Basics.{bcase, T-of, T-not-of, true-of, not-of, and-l, and-r, and-mk, and-false, both, isKind-eq}
-use Rattle.protocol.proofs.Basics.{isKind-refl, some-of, isSome-of, holds-eq, upd-all, upd-same}
+use Rattle.protocol.specs.Run.{n, Wall, Copy, State, right, at, consumedCopy, consumeAt, opens, onIt}
+use Rattle.protocol.proofs.Basics.{bcase, T-of, true-of, and-l, and-r, and-mk, and-false, isKind-eq}
+use Rattle.protocol.proofs.Basics.{isKind-refl, some-of, isSome-of, upd-all, upd-same}
 use Rattle.protocol.proofs.Moves.{filled-heard}
 use Rattle.protocol.proofs.Calls.{Brings, Done, outcome-done, outcome-booked, receive-taken, receive-repeat}
 use Rattle.protocol.proofs.Mail.{tally-at, tally-change}
-use Rattle.protocol.proofs.Invariant.{Inv, Act, unread, came, bit-le}
-use Rattle.protocol.proofs.Again.{way, true-to, entry-refl}
+use Rattle.protocol.proofs.Invariant.{Inv, Act, unread, came, bit-le, true-copy}
+use Rattle.protocol.proofs.Again.{way, entry-refl}
 use Rattle.protocol.proofs.Views.{view, out, Named}
 
 -- what is heard stays heard
@@ -83,13 +83,7 @@ module _ (B : Wall) (s : State) (i : ℕ) (m : Copy)
   module _ (I : Inv B j c (view j c s)) where
     -- its sender gave it
     pub sent-by : own k (H p) ≡ some (m .decl)
-    sent-by =
-        bcase (true-to H m) (λ t. holds-eq _ (m .decl) (T-of t))
-        (λ t. absurd (omega (
-          arith,
-          I .post .truthful,
-          tally-at (λ x. onIt j c x && not (true-to H x)) (s .mail) i m at-i (and-mk (onIt j c m) _ it (not-of (true-to H m) t)),
-        )))
+    sent-by = true-copy B j c (view j c s) I i m at-i it
 
     -- it was not heard, or this very declaration was
     before : (x : Option Decl) → heard k p (H r) ≡ x → (heard k p (H r) ≡ none) ⊎ (heard k p (H r) ≡ some (m .decl))

@@ -13,13 +13,13 @@ use Rattle.card.proofs.Counting.{count-same, count-set, count-none, count-pos}
 use Rattle.protocol.specs.Entry.{Decl, Kind, Entry, heard, own, isKind, isSome, holds, upd}
 use Rattle.protocol.specs.Steps.{Say, say, Out, may}
 use Rattle.protocol.specs.Book.{sameEntry, Call, inBook, publication}
-use Rattle.protocol.specs.Run.{n, Wall, Copy, Request, Power, Limited, right, consumedCopy, copyTo, toAll, posted, push, tally, onIt}
-use Rattle.protocol.specs.Run.{copiesOf}
-use Rattle.protocol.proofs.Basics.{T-of, T-not-of, true-of, and-l, and-r, and-mk, and-false, both, isKind-eq, isKind-refl, some-of}
-use Rattle.protocol.proofs.Basics.{isSome-of, holds-eq, eq-holds, upd-all, upd-same, upd-other}
+use Rattle.protocol.specs.Run.{n, Wall, Copy, Request, Power, Limited, right, at, consumedCopy, copyTo, toAll, posted, push}
+use Rattle.protocol.specs.Run.{tally, onIt, copiesOf}
+use Rattle.protocol.proofs.Basics.{bcase, T-of, T-not-of, true-of, not-of, and-l, and-r, and-mk, and-false, both, isKind-eq}
+use Rattle.protocol.proofs.Basics.{isKind-refl, some-of, isSome-of, holds-eq, eq-holds, upd-all, upd-same, upd-other}
 use Rattle.protocol.proofs.Moves.{Local, filled-own, no-message, listOf}
 use Rattle.protocol.proofs.Calls.{Brings, Done}
-use Rattle.protocol.proofs.Mail.{tally-mono, tally-append, tally-toAll}
+use Rattle.protocol.proofs.Mail.{tally-at, tally-mono, tally-append, tally-toAll}
 use Rattle.protocol.proofs.Sums.{total, total-mono, total-more}
 use Rattle.protocol.proofs.Again.{entry-refl, way, true-to}
 
@@ -405,6 +405,17 @@ module _ (B : Wall) (j c : ℕ) where
           };
           helping = I .helping;
         }
+
+  -- what a copy says, its sender gave
+  pub true-copy : (s : View) → Inv s → (i : ℕ) (m : Copy) → at (s .mail) i ≡ some m → T (onIt j c m)
+      → own (m .kind) (s .house (m .from)) ≡ some (m .decl)
+  true-copy s I i m e t =
+      bcase (true-to (s .house) m) (λ x. holds-eq _ (m .decl) (T-of x))
+      (λ x. absurd (omega (
+        arith,
+        I .post .truthful,
+        tally-at (λ y. onIt j c y && not (true-to (s .house) y)) (s .mail) i m e (and-mk (onIt j c m) _ t (not-of (true-to (s .house) m) x)),
+      )))
 
   -- a call on another entry: it leaves this one, and the count of its copies by any test
   pub else-inv : (s : View) (mail : List Copy) → ((P : Copy → Bool) → copiesOf j c P mail ≡ copiesOf j c P (s .mail)) → Inv s

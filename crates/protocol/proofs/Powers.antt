@@ -2,7 +2,7 @@
 -- Assumes nothing.
 use mathlib.Core.Path.{_≡_, refl, sym, ap, _∙_}
 use mathlib.Core.Bool.{Bool, true, false, not, cond, _&&_, and-true}
-use mathlib.Core.Option.{Option, none, some}
+use mathlib.Core.Option.{some}
 use mathlib.Core.List.{List, [], _∷_, _++_}
 use Prim.Native.Nat.{ℕ, zero, suc, _+_, _*_, _≤_, _<_}
 use native.Mathlib.Omega.{arith}
@@ -10,16 +10,16 @@ use lib.Dec.{T, eqb, ltb, eqb→eq, eqb-refl, ltb→lt, lt→ltb}
 use Rattle.card.specs.Count.{bit, count}
 use Rattle.card.proofs.Counting.{count-none, count-one, count-pos}
 use Rattle.protocol.specs.Entry.{Decl, Kind, Entry, heard, own, isKind, isSome, holds, upd}
-use Rattle.protocol.specs.Steps.{must, may}
-use Rattle.protocol.specs.Book.{sameEntry, Book, inBook}
-use Rattle.protocol.specs.Run.{n, Wall, Copy, Request, Power, State, Limited, right, at, changeAt, consumeAt, consumedCopy, copyTo}
+use Rattle.protocol.specs.Steps.{may}
+use Rattle.protocol.specs.Book.{sameEntry, Book}
+use Rattle.protocol.specs.Run.{n, Wall, Copy, Request, Power, State, Limited, right, at, changeAt, consumeAt, consumedCopy}
 use Rattle.protocol.specs.Run.{each, againOn, again, requestTo, setDown, comes, helpAnswer, oneMore, helps, consumedRequest, taken}
 use Rattle.protocol.specs.Run.{tally, onIt, copiesOf}
-use Rattle.protocol.proofs.Basics.{bcase, T-of, T-not-of, true-of, and-l, and-r, and-mk, and-false, isKind-refl, isSome-of, eq-holds}
-use Rattle.protocol.proofs.Basics.{must-zero, must-pass, upd-all, upd-same, upd-other}
+use Rattle.protocol.proofs.Basics.{bcase, T-of, T-not-of, true-of, and-l, and-r, and-mk, and-false, isSome-of, eq-holds}
+use Rattle.protocol.proofs.Basics.{must-zero, must-pass, upd-all, upd-same}
 use Rattle.protocol.proofs.Mail.{tally-append, tally-change}
-use Rattle.protocol.proofs.Sums.{total, total-mono, total-more}
-use Rattle.protocol.proofs.Again.{entry-refl, way, true-to, again-none, on-way, again-le, again-ge}
+use Rattle.protocol.proofs.Sums.{total-mono, total-more}
+use Rattle.protocol.proofs.Again.{way, true-to, again-none, on-way, again-le, again-ge}
 use Rattle.protocol.proofs.Invariant.{View, Books, Inv, Helping, unread, came, asking, excuse, load, burden, cond-mono, bit-le}
 use Rattle.protocol.proofs.Views.{view}
 

@@ -49,6 +49,7 @@ use Rattle.season.specs.Claims.{Stands, Delivered, Published, Safe, Boun
 use Rattle.season.specs.Claims.{Claims}
 use Rattle.season.proofs.Mail.{kind-of-number, Says, says-on-it, says-ready, Asks, Both, mails-at, mails-tally}
 use Rattle.season.proofs.Calls.{wall, Means, answer-is, asked-answer}
+use Rattle.season.proofs.Outbox.{outbox, sent}
 use Rattle.season.proofs.Steps as steps-proofs
 use Rattle.season.proofs.Steps.{copy-called, up-is, season-means}
 
@@ -233,8 +234,11 @@ module _ (H : Houses) (O : Open H) (l : List Step) (j c : ℕ) (hj : j < H .n) (
 
   -- ---- an honest house's request is accepted
 
-  held : Inv (wall H) j c (view j c z)
-  held = holds-from-start (wall H) j c (λ E. Unit {0}) (λ s I z r a o mail A. tt) tt steps .0
+  all-held : (j c : ℕ) → Inv (wall H) j c (view j c z)
+  all-held j c = holds-from-start (wall H) j c (λ E. Unit {0}) (λ s I z r a o mail A. tt) tt steps .0
+
+  abbrev held : Inv (wall H) j c (view j c z)
+  held = all-held j c
 
   -- helped less often than it returned
   low : Limited H s → (i : ℕ) (x : protocol.Request) → at (z .power .requests) i ≡ some x → T (isHonest H (x .from)) → x .consumed ≡ false
@@ -299,6 +303,8 @@ module _ (H : Houses) (O : Open H) (l : List Step) (j c : ℕ) (hj : j < H .n) (
         published-once = subst (λ (d : List (List ℕ)). length d ≤ 1) (publications-same H s z M j c) (P .published-once);
         plausible = λ r v t e. judged-zero (H .sheet) v (sheet-is r t) (P .plausible r v (delivered-to r v e));
         accepted = accepted′;
+        outbox = outbox H s z M all-held;
+        sent = sent H s z M all-held j c hj hc;
         returns = λ r t. rw (M .gave .books r t .legal);
         publishable = first-published;
       }

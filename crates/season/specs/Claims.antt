@@ -3,7 +3,7 @@
 use Prim.Native.Nat.{ℕ, _+_, _*_, _≤_, _<_}
 use mathlib.Core.Path.{_≡_}
 use mathlib.Core.Logic.{_⊎_}
-use mathlib.Core.Bool.{false, not, _&&_}
+use mathlib.Core.Bool.{true, false, not, _&&_}
 use mathlib.Core.List.{List, [], _∷_}
 use mathlib.Core.Option.{Option, none, some}
 use lib.Dec.{T}
@@ -19,7 +19,7 @@ use Rattle.meaning.specs.Book.{look}
 use Rattle.meaning.specs.Legal.{IsDecl}
 use Rattle.entry.specs.Entered.{kindOf}
 use Rattle.counter.specs.Call.{published, received}
-use Rattle.counter.specs.Again.{returned}
+use Rattle.counter.specs.Again.{returned, sending, sentOf}
 use Rattle.season.specs.Run.{Houses, isHonest, isWrong, isUp, h, Open, Copy, State, Step, start, run, copies, readies, between}
 use Rattle.season.specs.Run.{isBetween, consumedBetween, copiesOf, Drained, Limited, downs}
 
@@ -31,6 +31,20 @@ Few H = count (isWrong H) (H .n) ≤ fitting (H .n) (H .down)
 abbrev pub Stands : List ℕ → (house : ℕ) → Option Five → Type 0
 Stands b p none = ⊥
 Stands b p (some m) = heard (kindOf (m .kind)) p (look b (m .sender) (m .number)) ≡ some (bytesOf (m .declaration))
+
+-- the message is what the book gives of its kind and entry
+abbrev pub Outgoing : List ℕ → Option Five → (message : List ℕ) → Type 0
+Outgoing b none message = ⊥
+Outgoing b (some m) message = sentOf b (m .kind) (m .sender) (m .number) ≡ sending 0 (some message)
+
+-- a copy of the message, from house r to house q
+pub record SentTo (s : State) (r q : ℕ) (message : List ℕ) : Type 0 where
+  pub place : ℕ
+  pub copy : Copy
+  pub posted : at (s .mail) place ≡ some copy
+  pub from : copy .from ≡ r
+  pub to : copy .to ≡ q
+  pub says : copy .message ≡ message
 
 module _ (H : Houses) (j c : ℕ) where
   -- house r delivered v on this entry, and nothing else
@@ -58,6 +72,12 @@ module _ (H : Houses) (j c : ℕ) where
         → (received (s .gave .books (m .to)) (m .from) (m .message) .given .answer ≡ 0)
         ⊎ ((received (s .gave .books (m .to)) (m .from) (m .message) .given .answer ≡ 7)
         × Stands (s .gave .books (m .to)) (m .from) (readOf (m .message) .five))
+    -- The book is its own outbox: it gives every message that its house sent,
+    pub outbox : (i : ℕ) (m : Copy) → at (s .mail) i ≡ some m
+        → T (isHonest H (m .from)) × Outgoing (s .gave .books (m .from)) (readOf (m .message) .five) (m .message)
+    -- and none that its house did not send to all n.
+    pub sent : (r kind : ℕ) → T (isHonest H r) → sentOf (s .gave .books r) kind j c .gives ≡ true
+        → (q : ℕ) → q < H .n → SentTo s r q (sentOf (s .gave .books r) kind j c .message)
     -- A return is answered 0.
     pub returns : (r : ℕ) → T (isHonest H r) → returned (s .gave .books r) .answer ≡ 0
     -- An honest sender's first plausible declaration at a number of the book is accepted.
