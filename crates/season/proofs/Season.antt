@@ -14,7 +14,7 @@ use Rattle.card.specs.Card.{tolerated, fitting}
 use Rattle.card.specs.Count.{count}
 use Rattle.card.proofs.Wall.{down-between}
 use Rattle.card.proofs.Counting.{count-not, count-find, count-none}
-use Rattle.card.proofs.Overlap.{fitting-fits}
+use Rattle.card.proofs.Overlap.{fitting-largest}
 use Rattle.lot.specs.Declaration.{declarationAt}
 use Rattle.lot.specs.Sheet.{plausible}
 use Rattle.lot.proofs.Declared.{bytes-of-numbers}
@@ -218,7 +218,7 @@ module _ (H : Houses) (O : Open H) (l : List Step) (j c : ℕ) (hj : j < H .n) (
       let x = someone few in
       protocol-season.claims .card (H .n) (fitting (H .n) (H .down)) (H .down) (H .limit) (H .numbers) (okBy (sheetAt (H .sheet) 0))
       (H .honest)
-      (fitting-fits (H .n) (H .down) (fits (x .0) (x .1))) steps j c
+      (fitting-largest (H .n) (H .down) (fits (x .0) (x .1)) .fits) steps j c
 
   delivered-to : (r : ℕ) (v : List ℕ) → Delivered H j c s r v → protocol-claims.Delivered (wall H) j c z r v
   delivered-to r v e = deliveries-same H s z M j c r ∙ e
