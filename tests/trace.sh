@@ -58,6 +58,11 @@ for page in docs/TRACE.md docs/SEASON.md docs/RULES.md docs/AMENDMENTS.md docs/B
 done
 [ "$checked" -ge 50 ] || wrong "only $checked names were checked"
 
+# Each edit that the season's claims refuse is told on its page.
+for edit in crates/season/must-fail/*.edit crates/protocol/must-fail/*.edit crates/runs/must-fail/*.edit; do
+    grep -qE "^\|.*\`$(basename "$edit" .edit)\`" docs/SEASON.md || wrong "docs/SEASON.md: no row for $edit"
+done
+
 # ---- the sentences of the documents, and the rows of docs/TRACE.md
 
 # The first cell of each row on standard input, with marks taken off; a table's head is left out.
