@@ -12,7 +12,7 @@ fn the_card_is_its_formulas() {
             amplify: t + 1,
             deliver: 2 * t + 1,
         };
-        assert_eq!(Counts::of(n), counts, "n = {n}");
+        assert_eq!(Counts::of(n, 0), Some(counts), "n = {n}");
     }
 }
 

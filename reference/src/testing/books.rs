@@ -1,7 +1,8 @@
 //! Which bytes are a legal book, and the earliest waiting entry of any legal book.
 
 use super::forms::{
-    fresh_book, honey, message, open_sheet, random_book, random_declaration, random_pool, SEASON,
+    fresh_book, honey, message, open_sheet, random_book, random_declaration, random_pool,
+    slots_from, SEASON,
 };
 use super::random::Random;
 use crate::Library;
@@ -53,13 +54,13 @@ pub fn illegal_books(library: &mut impl Library) {
         book[place] = byte;
         illegal(library, &book, why);
     }
-    for place in 29..fresh.len() {
+    for place in slots_from(4)..fresh.len() {
         let mut book = fresh.clone();
-        let presence = (place - 29) % 21 == 0;
+        let presence = (place - slots_from(4)) % 21 == 0;
         book[place] = if presence { 2 } else { 1 };
         illegal(library, &book, "a slot in another form");
     }
-    for length in [0, 1, 28, 29, fresh.len() - 21, fresh.len() - 1] {
+    for length in [0, 1, 28, 29, 31, 35, fresh.len() - 21, fresh.len() - 1] {
         illegal(library, &fresh[..length], "bytes missing");
     }
     for more in [1, 21, 40_000] {
@@ -82,12 +83,12 @@ pub fn waiting(library: &mut impl Library, seed: u64, books: usize) {
         if random.chance(1, 2) {
             for entry in 0..n * s {
                 if random.chance(7, 8) {
-                    let at = 29 + 21 * (s + entry * size);
+                    let at = slots_from(book[0]) + 21 * (s + entry * size);
                     book[at..at + 21].fill(0);
                 }
             }
         }
-        let full = |slot: usize| book[29 + 21 * slot] == 1;
+        let full = |slot: usize| book[slots_from(book[0]) + 21 * slot] == 1;
         let mut expected = None;
         'search: for number in 0..s {
             for sender in 0..n {
@@ -115,7 +116,7 @@ pub fn waiting(library: &mut impl Library, seed: u64, books: usize) {
 pub fn noise(library: &mut impl Library, seed: u64, calls: usize) {
     let mut random = Random::new(seed);
     for _ in 0..calls {
-        let lengths = [0, 1, 28, 29, 30, 50, 155, 1_000].map(|most| random.below(most + 1));
+        let lengths = [0, 1, 28, 29, 31, 50, 158, 1_000].map(|most| random.below(most + 1));
         let length = random.pick(&lengths);
         let mut book = random.bytes(length);
         let head = [1 + random.below(3) as u8, 1, 0];
@@ -136,7 +137,7 @@ pub fn noise(library: &mut impl Library, seed: u64, calls: usize) {
             library.waiting(&book).answer,
         ];
         assert_eq!(answers, [1; 3], "noise is no legal book");
-        let opened = library.open(&mut book, 4, random.word(), 0, random.word(), &bytes);
+        let opened = library.open(&mut book, 4, random.word(), 0, 0, 0, random.word(), &bytes);
         assert!(opened != 0 && book == before, "noise is no legal sheet");
         assert_eq!(
             library.judge(&bytes, &declaration),

@@ -92,15 +92,27 @@ pub fn message(kind: u8, season: u32, sender: u8, number: u8, v: &Declaration) -
     bytes
 }
 
-/// A freshly opened book, by the layout: the header, and empty slots.
+/// A freshly opened book with f and d at zero.
 pub fn fresh_book(n: u8, s: u8, own: u8, season: u32, sheet: &[u8; SHEET]) -> Vec<u8> {
+    fresh([n, s, own, 0, 0], season, sheet)
+}
+
+/// A freshly opened book with this n, S, own number, f and d, by the layout: the header, nobody helped, and
+/// empty slots.
+pub fn fresh([n, s, own, f, d]: [u8; 5], season: u32, sheet: &[u8; SHEET]) -> Vec<u8> {
     let (houses, numbers) = (usize::from(n), usize::from(s));
     let slots = numbers + numbers * houses * (2 * houses + 3);
     let mut book = vec![n, s, own];
     book.extend(season.to_be_bytes());
     book.extend(sheet);
-    book.resize(29 + 21 * slots, 0);
+    book.extend([f, d]);
+    book.resize(slots_from(n) + 21 * slots, 0);
     book
+}
+
+/// Where the slots begin in a book of so many houses: behind the header and the help counts.
+pub fn slots_from(n: u8) -> usize {
+    31 + usize::from(n)
 }
 
 /// A number below `bound`, or at times one that is not.
@@ -176,7 +188,7 @@ pub fn random_book(random: &mut Random, pool: &[Declaration]) -> Vec<u8> {
     let season = random.pick(&[SEASON, 0, u32::MAX]);
     let mut book = fresh_book(n, s, own, season, &random_sheet(random));
     let full = random.below(9);
-    for slot in book[29..].chunks_exact_mut(21) {
+    for slot in book[slots_from(n)..].chunks_exact_mut(21) {
         if random.chance(full, 8) {
             let declaration = match random.below(8) {
                 0 => random.bytes(20),

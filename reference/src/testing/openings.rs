@@ -11,13 +11,13 @@ pub fn lengths(library: &mut impl Library) {
         for s in (0..=4).chain([5]).chain(beyond) {
             let allowed = (1..=16).contains(&n) && (1..=4).contains(&s);
             let expected = match allowed {
-                true => (0, 29 + 21 * (s + s * n * (2 * n + 3)) as usize),
+                true => (0, (31 + n + 21 * (s + s * n * (2 * n + 3))) as usize),
                 false => (9, 0),
             };
             assert_eq!(library.length(n, s), expected, "length of {n} and {s}");
         }
     }
-    assert_eq!(library.length(16, 4), (0, 47_153));
+    assert_eq!(library.length(16, 4), (0, 47_171));
 }
 
 /// Openings of all kinds: what is refused leaves the buffer, what is accepted writes all of it.
@@ -45,7 +45,7 @@ pub fn openings(library: &mut impl Library, seed: u64, openings: usize) {
         };
         let mut book = random.bytes(buffer);
         let before = book.clone();
-        let answer = library.open(&mut book, n, s, own, season, &sheet);
+        let answer = library.open(&mut book, n, s, own, 0, 0, season, &sheet);
         answers[usize::from(answer)] += 1;
         if answer == 0 {
             let sheet = sheet.try_into().expect("a legal sheet has 22 bytes");

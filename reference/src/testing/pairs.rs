@@ -1,6 +1,6 @@
 //! "Where several apply, the first in the call's order is given": each pair of errors that can occur at once.
 
-use super::forms::{fresh_book, honey, message, open_sheet, SEASON};
+use super::forms::{fresh_book, honey, message, open_sheet, slots_from, SEASON};
 use crate::{Library, Outcome};
 
 /// A receiving with errors to be. As it starts it is accepted.
@@ -62,7 +62,7 @@ fn book() -> Vec<u8> {
     let mut book = fresh_book(4, 2, 1, SEASON, &open_sheet());
     let entry = 2 + 2 * 11;
     for slot in [0, entry, entry + 1, entry + 1 + 4 + 3] {
-        let slot = &mut book[29 + 21 * slot..][..21];
+        let slot = &mut book[slots_from(4) + 21 * slot..][..21];
         slot[0] = 1;
         slot[1..].copy_from_slice(&honey(77, 40, 800));
     }
@@ -86,7 +86,7 @@ fn received(library: &mut impl Library, errors: &[&Error<Receiving>]) -> u8 {
     }
     let mut lent = book();
     if call.damaged {
-        lent[29] = 2;
+        lent[slots_from(4)] = 2;
     }
     let before = lent.clone();
     let declaration = honey(77, 40, call.kilograms);
@@ -208,7 +208,7 @@ pub fn opening(library: &mut impl Library) {
     for (name, [n, s, own], sheet, length, answer) in cases {
         let mut lent = vec![0xEE; length];
         assert_eq!(
-            library.open(&mut lent, n, s, own, SEASON, sheet),
+            library.open(&mut lent, n, s, own, 0, 0, SEASON, sheet),
             answer,
             "opening: {name}"
         );

@@ -179,7 +179,7 @@ fn sheet_is(library: &mut impl Library, bytes: &[u8], legal: bool) {
     let judged = library.judge(bytes, &declaration(0, 0, 0, USUAL));
     assert_eq!(judged != 10, legal, "judging by the sheet {bytes:?}");
     let mut book = fresh_book(1, 1, 0, SEASON, &open_sheet());
-    let opened = library.open(&mut book, 1, 1, 0, SEASON, bytes);
+    let opened = library.open(&mut book, 1, 1, 0, 0, 0, SEASON, bytes);
     assert_eq!(
         opened,
         if legal { 0 } else { 10 },

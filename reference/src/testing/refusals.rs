@@ -1,7 +1,9 @@
 //! Calls of all kinds on any legal book: a refusal changes and carries nothing, an accepted call changes
 //! the named entry alone, and what other entries hold makes no difference.
 
-use super::forms::{message, random_book, random_declaration, random_number, random_pool};
+use super::forms::{
+    message, random_book, random_declaration, random_number, random_pool, slots_from,
+};
 use super::random::Random;
 use crate::{Declaration, Library, Outcome};
 use std::ops::Range;
@@ -27,7 +29,7 @@ impl Call {
         let (number, sender, declaration) = match self {
             Call::Publish(number, declaration) => (*number as usize, own, *declaration),
             Call::Receive(_, bytes) => {
-                let message = crate::read(bytes).message?;
+                let message = crate::read(bytes).message()?;
                 let (number, sender) = (message.number, message.sender);
                 (
                     usize::from(number),
@@ -97,11 +99,12 @@ fn damage(random: &mut Random, book: &mut Vec<u8>) {
         }
         1 => book.push(0),
         2 => {
-            let place = random.below(29);
+            let place = random.below(31);
             book[place] ^= 1 << random.below(8);
         }
         _ => {
-            let slot = 29 + 21 * random.below((book.len() - 29) / 21);
+            let from = slots_from(book[0]);
+            let slot = from + 21 * random.below((book.len() - from) / 21);
             book[slot + random.below(21)] ^= 1 << random.below(8);
         }
     }
@@ -125,10 +128,14 @@ fn check(call: &Call, before: &[u8], outcome: &Outcome, after: &[u8]) {
         return;
     }
     let (named, declaration) = call.names(before).expect("an accepted call names an entry");
-    assert!(before[..29] == after[..29], "{call:?} changes the header");
-    let slots = before[29..]
+    let from = slots_from(before[0]);
+    assert!(
+        before[..from] == after[..from],
+        "{call:?} changes the header"
+    );
+    let slots = before[from..]
         .chunks_exact(21)
-        .zip(after[29..].chunks_exact(21));
+        .zip(after[from..].chunks_exact(21));
     for (place, (before, after)) in slots.enumerate() {
         if before != after {
             assert!(named.has(place), "{call:?} changes another entry");
@@ -141,7 +148,7 @@ fn check(call: &Call, before: &[u8], outcome: &Outcome, after: &[u8]) {
     }
     if let Some(given) = outcome.message {
         let given = crate::read(&given)
-            .message
+            .message()
             .expect("a message given is well formed");
         let entry = Call::Receive(0, given.to_bytes().to_vec()).names(before);
         let (entry, given) = entry.expect("a message given names an entry in the book");
@@ -172,7 +179,8 @@ fn check_neighbour(
         return;
     };
     let mut other = before.to_vec();
-    for (place, slot) in other[29..].chunks_exact_mut(21).enumerate() {
+    let from = slots_from(before[0]);
+    for (place, slot) in other[from..].chunks_exact_mut(21).enumerate() {
         if !named.has(place) && random.chance(1, 2) {
             slot.fill(0);
             if random.chance(1, 2) {
@@ -186,9 +194,9 @@ fn check_neighbour(
         *outcome,
         "{call:?} beside other entries"
     );
-    let slots = after[29..]
+    let slots = after[from..]
         .chunks_exact(21)
-        .zip(other[29..].chunks_exact(21));
+        .zip(other[from..].chunks_exact(21));
     for (place, (after, other)) in slots.enumerate() {
         assert!(
             !named.has(place) || after == other,

@@ -36,7 +36,7 @@ fn opened(library: &mut impl Library, n: u8) -> Vec<u8> {
     let (answer, length) = library.length(u32::from(n), 1);
     assert_eq!(answer, 0, "length at n = {n}");
     let mut book = vec![0xEE; length];
-    let answer = library.open(&mut book, u32::from(n), 1, 0, SEASON, &open_sheet());
+    let answer = library.open(&mut book, u32::from(n), 1, 0, 0, 0, SEASON, &open_sheet());
     assert_eq!(answer, 0, "opening at n = {n}");
     assert!(
         book == fresh_book(n, 1, 0, SEASON, &open_sheet()),
@@ -124,7 +124,7 @@ pub fn messages(library: &mut impl Library) {
     let declaration = honey(77, 40, 800);
     let read = library
         .read(&WHOLE)
-        .message
+        .message()
         .expect("the whole message reads");
     assert_eq!(
         (read.kind, read.season, read.sender, read.number),
@@ -146,7 +146,7 @@ pub fn messages(library: &mut impl Library) {
     let kind = |kind| message(kind, SEASON, 2, 1, &declaration).to_vec();
     for bytes in [WHOLE[..35].to_vec(), longer, kind(0), kind(4)] {
         let read = library.read(&bytes);
-        assert_eq!((read.answer, read.message), (2, None), "reading {bytes:?}");
+        assert_eq!((read.answer, read.form), (2, None), "reading {bytes:?}");
         let mut book = fresh_book(4, 2, 0, SEASON, &open_sheet());
         let received = library.receive(&mut book, 2, &bytes);
         assert_eq!(received.answer, 2, "receiving {bytes:?}");

@@ -76,7 +76,16 @@ impl<'l, L: Library> Season<'l, L> {
             let (answer, length) = library.length(n, s);
             assert_eq!(answer, 0, "the length of a book of {n} and {s}");
             books[house] = vec![0xEE; length];
-            let answer = library.open(&mut books[house], n, s, house as u32, SEASON, &rules.sheet);
+            let answer = library.open(
+                &mut books[house],
+                n,
+                s,
+                house as u32,
+                0,
+                0,
+                SEASON,
+                &rules.sheet,
+            );
             assert_eq!(answer, 0, "opening the book of house {house}");
         }
         let seen = Seen {
