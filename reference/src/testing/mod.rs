@@ -10,6 +10,8 @@ pub mod pairs;
 pub mod random;
 pub mod readings;
 pub mod refusals;
+pub mod requests;
+pub mod returns;
 pub mod rows;
 pub mod scheduler;
 pub mod season;
