@@ -3,7 +3,9 @@
 use crate::linked::Linked;
 use crate::{drawn, edges, entries};
 use reference::testing::both::Both;
-use reference::testing::{books, openings, pairs, readings, refusals, rows, scheduler, trips};
+use reference::testing::{
+    books, openings, pairs, readings, refusals, requests, returns, rows, scheduler, trips,
+};
 use reference::Reference;
 
 /// The proved library and the ordinary one.
@@ -13,7 +15,7 @@ pub type Pair = Both<Linked, Reference>;
 pub type Check = (&'static str, fn(&mut Pair, u64, usize));
 
 /// Checks that are the same at any size; the seed is for noise.
-pub const COUNTED: [Check; 15] = [
+pub const COUNTED: [Check; 17] = [
     ("the rows and run cases of document 01", |pair, _, _| {
         rows::card(pair);
         rows::judged(pair);
@@ -48,6 +50,20 @@ pub const COUNTED: [Check; 15] = [
     ("every state of one entry", |pair, seed, _| {
         entries::states(pair, seed, 5);
     }),
+    ("requests of every form and count", |pair, seed, _| {
+        requests::one_form(pair, seed);
+        requests::every_count(pair, seed);
+        requests::heard_all_the_same(pair);
+    }),
+    (
+        "what was sent, of every kind and number",
+        |pair, seed, _| {
+            returns::every_kind_and_number(pair);
+            returns::all_sent(pair, seed);
+            returns::order(pair);
+            returns::given_and_sent(pair);
+        },
+    ),
     ("products", |pair, _, _| readings::products(pair)),
     ("NaN of every kind", |pair, seed, _| edges::nans(pair, seed)),
     ("edge readings and limits", |pair, _, _| {
@@ -61,9 +77,18 @@ pub const COUNTED: [Check; 15] = [
 ];
 
 /// Checks that draw their cases: more with a larger size.
-pub const DRAWN: [Check; 10] = [
+pub const DRAWN: [Check; 12] = [
     ("calls on any legal book", |pair, seed, scale| {
         refusals::calls(pair, seed, 200 * scale);
+    }),
+    ("requests until helped enough", |pair, seed, scale| {
+        for round in 0..scale.div_ceil(4) as u64 {
+            requests::until_enough(pair, seed + round);
+        }
+        requests::round(pair, seed, 100 * scale);
+    }),
+    ("returns and what was sent", |pair, seed, scale| {
+        returns::any_book(pair, seed, 100 * scale);
     }),
     ("damaged books", |pair, seed, scale| {
         drawn::damaged_books(pair, seed, 200 * scale);

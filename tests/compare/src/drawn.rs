@@ -2,7 +2,7 @@
 //! them has to be the same, whatever it is.
 
 use reference::testing::forms::{
-    declaration, fresh_book, message, random_book, random_pool, random_reading, SEASON,
+    declaration, fresh_book, message, random_book, random_pool, random_reading, slots_from, SEASON,
 };
 use reference::testing::random::Random;
 use reference::Library;
@@ -107,9 +107,10 @@ fn damaged(random: &mut Random, book: &[u8]) -> Vec<u8> {
             book.extend(random.bytes(more));
         }
         3 => book.rotate_left(1 + place % 21),
-        4 => book[place % 29] ^= 1 << random.below(8),
+        4 => book[place % 31] ^= 1 << random.below(8),
         5 => {
-            let slot = 29 + (place - place % 21) % (book.len() - 29);
+            let from = slots_from(book[0]);
+            let slot = from + (place - place % 21) % (book.len() - from);
             let presence = random.pick(&[0, 1, 2, 255]);
             book[slot] = presence;
         }

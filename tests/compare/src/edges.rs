@@ -1,7 +1,7 @@
 //! Every size, every length, every bit and every foreign number, where they can be counted out.
 
 use reference::testing::forms::{
-    declaration, fresh_book, honey, message, open_sheet, sheet, OPEN, SEASON,
+    declaration, fresh_book, honey, message, open_sheet, sheet, slots_from, OPEN, SEASON,
 };
 use reference::testing::random::Random;
 use reference::{Gate, Library};
@@ -19,7 +19,7 @@ pub fn sizes(library: &mut impl Library) {
             .chain([(0, 49_152, 11), (n - 1, length, 0)])
         {
             book = vec![0xEE; buffer];
-            let answer = library.open(&mut book, n, s, own, SEASON, &open_sheet());
+            let answer = library.open(&mut book, n, s, own, 0, 0, SEASON, &open_sheet());
             assert_eq!(answer, expected, "opening {n} and {s} as {own}");
         }
         last_entry(library, &mut book, n, s);
@@ -73,7 +73,7 @@ pub fn strangers(library: &mut impl Library) {
         assert_eq!(answer, if number < 2 { 0 } else { 4 }, "number {number}");
         for [n, s, own] in [[number, 2, 0], [4, number, 0], [4, 2, number]] {
             library.length(n, s);
-            library.open(&mut book.clone(), n, s, own, number, &open_sheet());
+            library.open(&mut book.clone(), n, s, own, 0, 0, number, &open_sheet());
         }
     }
     for byte in 0..=255 {
@@ -132,7 +132,7 @@ pub fn damaged_books(library: &mut impl Library, seed: u64) {
     let mut random = Random::new(seed);
     let gates = [Gate::AtMost(20.0), Gate::Between(-0.0, 2.0)];
     let mut book = fresh_book(1, 1, 0, SEASON, &sheet(20, gates[0], gates[1]));
-    for slot in book[29..].chunks_exact_mut(21).step_by(2) {
+    for slot in book[slots_from(1)..].chunks_exact_mut(21).step_by(2) {
         slot[0] = 1;
         slot[1..].copy_from_slice(&honey(77, 40, 799));
     }
@@ -185,7 +185,7 @@ fn as_readings(library: &mut impl Library, v: &[u8; 20]) {
         for kind in 1..=3 {
             let bytes = message(kind, SEASON, 2, 0, v);
             assert_eq!(library.receive(&mut book, 2, &bytes).answer, 5, "{v:02X?}");
-            let read = library.read(&bytes).message.expect("a message");
+            let read = library.read(&bytes).message().expect("a message");
             assert_eq!(read.declaration, *v, "read unchanged");
             let written = library.write(kind, SEASON, 2, 0, v);
             assert_eq!(written.message, Some(bytes), "written unchanged");
@@ -201,7 +201,7 @@ fn as_limit(library: &mut impl Library, gate: Gate) {
         let mut book = fresh_book(1, 1, 0, SEASON, &sheet);
         assert_eq!(library.publish(&mut book, 0, &v).answer, 1, "{gate:?}");
         assert_eq!(library.waiting(&book).answer, 1, "{gate:?}");
-        let answer = library.open(&mut book, 1, 1, 0, SEASON, &sheet);
+        let answer = library.open(&mut book, 1, 1, 0, 0, 0, SEASON, &sheet);
         assert_eq!(answer, 10, "{gate:?}");
     }
 }

@@ -1,6 +1,6 @@
 //! Every state of one entry that counts for a message: reachable or not, with all that may come of it.
 
-use reference::testing::forms::{declaration, fresh_book, message, open_sheet, SEASON};
+use reference::testing::forms::{declaration, fresh_book, message, open_sheet, slots_from, SEASON};
 use reference::testing::random::Random;
 use reference::{Declaration, Library};
 
@@ -52,7 +52,7 @@ fn book(random: &mut Random, n: u8, first: usize, counted: &[usize], state: usiz
     let of = three();
     let other = 1 + random.below(2);
     let mut put = |slot: usize, v: Option<&Declaration>| {
-        let slot = &mut book[29 + 21 * slot..][..21];
+        let slot = &mut book[slots_from(n) + 21 * slot..][..21];
         slot.fill(0);
         if let Some(v) = v {
             slot[0] = 1;

@@ -1,5 +1,5 @@
 //! The proved library, over pipes, against document 01 in ordinary Rust: every call is made on both, and
-//! every answer, message, delivery and byte of the book is compared.
+//! every answer, all that it carries and every byte of the book is compared.
 //!
 //! `compare gate WORDS..` runs all checks once with a fixed seed, and `compare long SECONDS SEED WORDS..`
 //! goes on for as long as one likes. The words run the driver.
@@ -131,6 +131,8 @@ fn summary(linked: &Linked) {
             .map(|&answer| format!("{answer}: {}", counts[usize::from(answer)]));
         println!("  {call:?}: {}", row.collect::<Vec<_>>().join(", "));
     }
-    let [given, delivered] = linked.carried;
-    println!("  messages given: {given}, declarations delivered: {delivered}");
+    let [given, delivered, helped] = linked.carried;
+    println!(
+        "  messages given: {given}, declarations delivered: {delivered}, requests helped: {helped}"
+    );
 }
