@@ -24,8 +24,18 @@ fn openings_write_all_or_nothing() {
 }
 
 #[test]
+fn openings_with_every_f_and_d() {
+    openings::every_f_and_d(&mut Reference);
+}
+
+#[test]
 fn books_that_are_not_legal() {
     books::illegal_books(&mut Reference);
+}
+
+#[test]
+fn books_with_every_f_d_and_help_count() {
+    books::helped_and_down(&mut Reference, 2038);
 }
 
 #[test]
