@@ -15,7 +15,7 @@ pub type Pair = Both<Linked, Reference>;
 pub type Check = (&'static str, fn(&mut Pair, u64, usize));
 
 /// Checks that are the same at any size; the seed is for noise.
-pub const COUNTED: [Check; 17] = [
+pub const COUNTED: [Check; 20] = [
     ("the rows and run cases of document 01", |pair, _, _| {
         rows::card(pair);
         rows::judged(pair);
@@ -25,6 +25,8 @@ pub const COUNTED: [Check; 17] = [
     }),
     ("each pair of errors", |pair, _, _| {
         pairs::receiving(pair);
+        pairs::asking(pair);
+        pairs::nobody_to_help(pair);
         pairs::publishing(pair);
         pairs::opening(pair);
         pairs::judging(pair);
@@ -33,6 +35,14 @@ pub const COUNTED: [Check; 17] = [
         assert_eq!(scheduler::directed_disagreement(pair), [2]);
     }),
     ("lengths of books", |pair, _, _| openings::lengths(pair)),
+    ("openings with every f and d", |pair, _, _| {
+        openings::every_f_and_d(pair);
+    }),
+    ("the counts for every n and f", |pair, seed, _| {
+        for round in 0..4 {
+            rows::thresholds(pair, seed + round);
+        }
+    }),
     ("all sizes", |pair, _, _| edges::sizes(pair)),
     ("foreign numbers", |pair, _, _| edges::strangers(pair)),
     ("messages of every length", |pair, seed, _| {
@@ -43,6 +53,9 @@ pub const COUNTED: [Check; 17] = [
     }),
     ("books that are not legal", |pair, _, _| {
         books::illegal_books(pair);
+    }),
+    ("every f, d and help count of a book", |pair, seed, _| {
+        books::helped_and_down(pair, seed);
     }),
     ("every bit of a book", |pair, seed, _| {
         edges::damaged_books(pair, seed);
