@@ -1,25 +1,26 @@
-//! Whole seasons with wrong houses.
+//! Whole seasons with wrong houses, and with houses that crash and return.
 
 use reference::testing::both::Both;
 use reference::testing::scheduler;
+use reference::testing::season::moments::{Moment, Tally};
 use reference::Reference;
 
 #[test]
 fn up_to_seven_houses() {
+    let mut tally = Tally::default();
     for n in 1..=7 {
-        for s in [1, 2, 4] {
-            let of_wrong = scheduler::seasons(&mut Reference, 2026, n, s, 60);
-            assert!(
-                n < 4 || of_wrong > 0,
-                "no wrong sender was ever delivered at n = {n}"
-            );
+        for (s, seasons) in [(1, 100), (2, 30), (4, 10)] {
+            tally.add_all(&scheduler::seasons(&mut Reference, 2026, n, s, seasons));
         }
     }
+    let missing = tally.missing();
+    assert!(missing.is_empty(), "it never came about: {missing:?}");
 }
 
 #[test]
 fn sixteen_houses() {
-    assert!(scheduler::seasons(&mut Reference, 2026, 16, 1, 6) > 0);
+    let tally = scheduler::seasons(&mut Reference, 2026, 16, 1, 6);
+    assert!(tally.of(Moment::WrongDelivered) > 0);
     scheduler::seasons(&mut Reference, 2026, 16, 4, 1);
 }
 

@@ -1,10 +1,11 @@
 //! Wrong houses that work together: they see every copy, plan what each honest house is to believe,
-//! equivocate, vouch for it, replay, lie about the kind, stay silent towards some, and send noise.
+//! equivocate, vouch for it, replay, lie about the kind, stay silent towards some, ask for help again and
+//! again, and send noise.
 
 use super::forms::{declaration, honey, message, random_declaration, SEASON};
 use super::random::Random;
 use super::season::{Rules, Sent};
-use crate::Declaration;
+use crate::{request, Declaration};
 
 /// Plausible declarations of a season, near to each other: one bit apart, the sign of a zero apart.
 pub fn plausible(random: &mut Random) -> [Declaration; 4] {
@@ -39,6 +40,8 @@ pub struct Wrong {
     silent: Vec<Vec<bool>>,
     /// How many lies in sixteen follow the plan.
     resolve: usize,
+    /// How many lies in sixteen are requests.
+    asks: usize,
 }
 
 impl Wrong {
@@ -66,6 +69,7 @@ impl Wrong {
             plan,
             silent,
             resolve: random.pick(&[4, 12, 15]),
+            asks: random.pick(&[0, 1, 1, 4]),
         }
     }
 
@@ -78,6 +82,9 @@ impl Wrong {
         let from = random.pick(&self.wrong);
         if self.silent[from][to] {
             return None;
+        }
+        if random.chance(self.asks, 16) {
+            return Some(self.request(random, from, to));
         }
         if random.chance(self.resolve, 16) {
             return Some(self.planned(random, from, to));
@@ -122,6 +129,22 @@ impl Wrong {
         }
     }
 
+    /// A request, as often as not well-formed and of this season; at times under a number that no house has.
+    fn request(&self, random: &mut Random, from: usize, to: usize) -> Lie {
+        let mut bytes = request(SEASON).to_vec();
+        let mut under = from as u32;
+        match random.below(16) {
+            0 => bytes = request(SEASON ^ 1 << random.below(32)).to_vec(),
+            1 => bytes[random.below(11)] ^= 1 << random.below(8),
+            2 => bytes.truncate(random.below(11)),
+            3 => bytes.push(0),
+            4 => bytes = message(9, SEASON, 0, 0, &random_declaration(random)).to_vec(),
+            5 => under = self.strange_number(random, to),
+            _ => (),
+        }
+        Lie { to, under, bytes }
+    }
+
     /// A message that was sent, by anybody to anybody; or one out of the air.
     fn overheard(&self, random: &mut Random, copies: &[Sent]) -> Vec<u8> {
         match copies {
@@ -130,14 +153,19 @@ impl Wrong {
         }
     }
 
-    /// A true message under a number that no house has.
+    /// A true message or a request under a number that no house has.
     fn stranger(&self, random: &mut Random, to: usize, copies: &[Sent]) -> Lie {
+        let under = self.strange_number(random, to);
+        let bytes = match random.below(8) {
+            0 => request(SEASON).to_vec(),
+            _ => self.overheard(random, copies),
+        };
+        Lie { to, under, bytes }
+    }
+
+    /// A number that no house has.
+    fn strange_number(&self, random: &mut Random, to: usize) -> u32 {
         let n = u32::from(self.rules.n);
-        let under = random.pick(&[n, n + 1, 255, 256, 256 + to as u32, u32::MAX, 1 << 31]);
-        Lie {
-            to,
-            under,
-            bytes: self.overheard(random, copies),
-        }
+        random.pick(&[n, n + 1, 255, 256, 256 + to as u32, u32::MAX, 1 << 31])
     }
 }

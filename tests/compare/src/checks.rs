@@ -3,6 +3,7 @@
 use crate::linked::Linked;
 use crate::{drawn, edges, entries};
 use reference::testing::both::Both;
+use reference::testing::season::moments::Tally;
 use reference::testing::{
     books, openings, pairs, readings, refusals, requests, returns, rows, scheduler, trips,
 };
@@ -122,11 +123,16 @@ pub const DRAWN: [Check; 12] = [
         trips::round(pair, seed, 500 * scale);
     }),
     ("seasons of up to seven houses", |pair, seed, scale| {
-        let mut of_wrong = 0;
-        for (n, s) in (1..=7).flat_map(|n| (1..=4).map(move |s| (n, s))) {
-            of_wrong += scheduler::seasons(pair, seed, n, s, 2 * scale as u64);
+        let mut tally = Tally::default();
+        for n in 1..=7 {
+            let sizes = [2 * scale, scale.div_ceil(2), scale.div_ceil(4)];
+            for (s, seasons) in [1, 2, 3 + n % 2].into_iter().zip(sizes) {
+                tally.add_all(&scheduler::seasons(pair, seed, n, s, seasons as u64));
+            }
         }
-        assert!(of_wrong > 0, "no wrong sender was ever delivered");
+        let missing = tally.missing();
+        let enough = scale < ENOUGH_FOR_ALL || missing.is_empty();
+        assert!(enough, "it never came about: {missing:?}");
     }),
     ("seasons of up to sixteen houses", |pair, seed, scale| {
         // The gate's seed has the largest book among them.
@@ -141,6 +147,9 @@ pub const DRAWN: [Check; 12] = [
         assert!(found > 0, "no disagreement was found");
     }),
 ];
+
+/// At this size each moment of a season that is counted comes about.
+const ENOUGH_FOR_ALL: usize = 8;
 
 /// Of so many seasons about 25 show a disagreement, whatever the seed; of fifty at times none does.
 const ENOUGH_TO_DISAGREE: usize = 400;
