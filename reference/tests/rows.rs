@@ -55,6 +55,11 @@ fn rows_1_to_3_and_10_to_12() {
 }
 
 #[test]
+fn ready_with_another_f() {
+    rows::another_f(&mut Reference);
+}
+
+#[test]
 fn rows_4_to_8() {
     rows::judged(&mut Reference);
 }

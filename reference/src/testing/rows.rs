@@ -105,6 +105,21 @@ pub fn card(library: &mut impl Library) {
     }
 }
 
+/// The rule between entries "asks that its two books agree on f as well": with another f a READY gives and
+/// delivers something else.
+pub fn another_f(library: &mut impl Library) {
+    let outcomes = [0, 1].map(|f| {
+        let mut book = fresh([4, 1, 0, f, 2], SEASON, &open_sheet());
+        [0, 1, 2].map(|house| {
+            let outcome = vouch(library, &mut book, house, Kind::Ready);
+            (outcome.message.is_some(), outcome.delivery.is_some())
+        })
+    });
+    let t_is_1 = [(false, false), (true, false), (false, true)];
+    let t_is_0 = [(true, false), (false, true), (false, false)];
+    assert_eq!(outcomes, [t_is_1, t_is_0], "READYs at n = 4, f = 0 and 1");
+}
+
 /// The counts on any legal book, for every n and f and for every number of vouchers that one more makes:
 /// "the mark decides", so a count long passed gives a READY or a delivery where the mark is empty.
 pub fn thresholds(library: &mut impl Library, seed: u64) {
@@ -236,7 +251,8 @@ pub fn judged(library: &mut impl Library) {
     }
 }
 
-/// Row 9, and the run cases of 35 and 37 bytes and of kinds 0 and 4, by reader, receiver and writer.
+/// Row 9, and the run cases of 35 and 37 bytes and of kinds 0 and 4, by reader, receiver and writer; and kind 9,
+/// which no 36 bytes have.
 pub fn messages(library: &mut impl Library) {
     let declaration = honey(77, 40, 800);
     let read = library
@@ -261,7 +277,7 @@ pub fn messages(library: &mut impl Library) {
     let mut longer = WHOLE.to_vec();
     longer.push(0);
     let kind = |kind| message(kind, SEASON, 2, 1, &declaration).to_vec();
-    for bytes in [WHOLE[..35].to_vec(), longer, kind(0), kind(4)] {
+    for bytes in [WHOLE[..35].to_vec(), longer, kind(0), kind(4), kind(9)] {
         let read = library.read(&bytes);
         assert_eq!((read.answer, read.form), (2, None), "reading {bytes:?}");
         let mut book = fresh_book(4, 2, 0, SEASON, &open_sheet());
@@ -272,7 +288,7 @@ pub fn messages(library: &mut impl Library) {
             "the book at answer 2"
         );
     }
-    for kind in [0, 4] {
+    for kind in [0, 4, 9] {
         let written = library.write(kind, SEASON, 2, 1, &declaration);
         assert_eq!(
             (written.answer, written.message),
