@@ -40,6 +40,7 @@ pub const COUNTED: [Check; 20] = [
         openings::every_f_and_d(pair);
     }),
     ("the counts for every n and f", |pair, seed, _| {
+        rows::another_f(pair);
         for round in 0..4 {
             rows::thresholds(pair, seed + round);
         }

@@ -21,6 +21,14 @@ pub const ANSWERS: [(Call, &[u8]); 10] = [
     (Call::Read, &[0, 2]),
 ];
 
+/// What answers carry.
+pub const CARRIED: [&str; 4] = [
+    "messages given",
+    "declarations delivered",
+    "requests helped",
+    "messages to send again",
+];
+
 const NO_DECLARATION: Declaration = [0; 20];
 const NO_NUMBERS: [u32; NUMBERS] = [0; NUMBERS];
 
@@ -32,8 +40,8 @@ pub struct Linked {
     pipe: Pipe,
     /// By call and answer.
     pub counts: [Given; ANSWERS.len()],
-    /// Messages given, declarations delivered, and requests helped.
-    pub carried: [u64; 3],
+    /// How often an answer carried each of them.
+    pub carried: [u64; CARRIED.len()],
 }
 
 impl Linked {
@@ -42,7 +50,7 @@ impl Linked {
         Linked {
             pipe: Pipe::start(words),
             counts: [[0; 15]; ANSWERS.len()],
-            carried: [0; 3],
+            carried: [0; CARRIED.len()],
         }
     }
 
@@ -243,6 +251,7 @@ impl Library for Linked {
             answer == 0 || message.is_none(),
             "a refusal by {answer} carries a message"
         );
+        self.carried[3] += u64::from(message.is_some());
         SentAnswer { answer, message }
     }
 

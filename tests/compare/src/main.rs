@@ -13,7 +13,7 @@ mod linked;
 mod pipe;
 
 use checks::{Check, Pair, COUNTED, DRAWN};
-use linked::{Linked, ANSWERS};
+use linked::{Linked, ANSWERS, CARRIED};
 use reference::testing::both::Both;
 use reference::testing::random::Random;
 use reference::Reference;
@@ -88,6 +88,9 @@ fn gate(words: &[String]) {
             .all(|answer| counts[usize::from(*answer)] > 0);
         assert!(seen, "{call:?}: not every answer was seen: {counts:?}");
     }
+    let carried = pair.first.carried;
+    let seen = carried.iter().all(|count| *count > 0);
+    assert!(seen, "not all was carried: {carried:?}");
     let seconds = began.elapsed().as_secs();
     println!(
         "compare: {} calls, no difference ({seconds} s)",
@@ -131,8 +134,7 @@ fn summary(linked: &Linked) {
             .map(|&answer| format!("{answer}: {}", counts[usize::from(answer)]));
         println!("  {call:?}: {}", row.collect::<Vec<_>>().join(", "));
     }
-    let [given, delivered, helped] = linked.carried;
-    println!(
-        "  messages given: {given}, declarations delivered: {delivered}, requests helped: {helped}"
-    );
+    let carried = CARRIED.iter().zip(linked.carried);
+    let carried = carried.map(|(what, count)| format!("{what}: {count}"));
+    println!("  {}", carried.collect::<Vec<_>>().join(", "));
 }
