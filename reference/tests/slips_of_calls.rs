@@ -214,9 +214,9 @@ impl Slipping {
         let mark = |place| slot_at(&before, message.number, message.sender, place);
         match self.slip {
             Slip::DeliversWithoutF if vouchers > 2 * t => {
-                if fill(book, mark(2 * n + 2), &message.declaration) {
-                    outcome.delivery = Some(message.declaration);
-                }
+                let first = fill(book, mark(2 * n + 2), &message.declaration);
+                let delivery = first.then_some(message.declaration);
+                outcome.delivery = outcome.delivery.or(delivery);
             }
             Slip::AmplifiesWithF if vouchers <= t + f && outcome.message.is_some() => {
                 let at = mark(2 * n + 1);

@@ -91,7 +91,7 @@ pub fn illegal_books(library: &mut impl Library) {
     }
     for place in slots_from(4)..fresh.len() {
         let mut book = fresh.clone();
-        let presence = (place - slots_from(4)) % 21 == 0;
+        let presence = (place - slots_from(4)).is_multiple_of(21);
         book[place] = if presence { 2 } else { 1 };
         illegal(library, &book, "a slot in another form");
     }
