@@ -118,11 +118,11 @@ pub fn strangers(library: &mut impl Library) {
     }
 }
 
-/// Messages of every length 0 to 64 and some longer, cut or lengthened with zeros, noise and a second
-/// message, by reader and receiver; and every other byte in every place, of every kind.
+/// Messages and requests of every length 0 to 64 and some longer, cut or lengthened with zeros, noise and a
+/// second one, by reader and receiver; and every other byte in every place of a message, of every kind.
 pub fn messages(library: &mut impl Library, seed: u64) {
     let mut random = Random::new(seed);
-    let book = fresh_book(4, 2, 1, SEASON, &open_sheet());
+    let book = fresh([4, 2, 1, 1, 3], SEASON, &open_sheet());
     let lengths = (0..=64).chain([72, 100, 255, 256, 292, 1_000, 65_000]);
     for (kind, length) in (1..=3).flat_map(|kind| lengths.clone().map(move |l| (kind, l))) {
         let whole = message(kind, SEASON, 2, 1, &honey(77, 40, 800));
@@ -138,6 +138,17 @@ pub fn messages(library: &mut impl Library, seed: u64) {
         }
         library.read(&noise);
         library.receive(&mut book.clone(), 2, &noise);
+    }
+    for length in lengths {
+        let whole = request_of(SEASON);
+        let noise = random.bytes(length);
+        for more in [&vec![0; length], &noise, &whole.repeat(length / 11 + 1)] {
+            let bytes = &[&whole[..], more].concat()[..length];
+            let expected = if length == 11 { 0 } else { 2 };
+            assert_eq!(library.read(bytes).answer, expected, "{length} bytes");
+            let received = library.receive(&mut book.clone(), 2, bytes);
+            assert_eq!(received.answer, expected, "{length} bytes");
+        }
     }
     for (place, change) in (0..36).flat_map(|place| (1..=255).map(move |change| (place, change))) {
         let mut bytes = message(random.pick(&[1, 2, 3]), SEASON, 2, 1, &honey(77, 40, 800));
