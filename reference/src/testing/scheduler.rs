@@ -154,11 +154,9 @@ impl<L: Library> Run<'_, '_, L> {
             return;
         }
         let place = self.order.next(self.random, &self.season);
-        let (from, to) = {
-            let copy = self.season.pending_copy(place);
-            (copy.from, copy.to)
-        };
-        if self.weather.keeps_back(self.random, from) {
+        let copy = self.season.pending_copy(place);
+        let to = copy.to;
+        if self.weather.keeps_back(self.random, copy) {
             self.season.keep_back(place);
             return;
         }
@@ -176,7 +174,7 @@ impl<L: Library> Run<'_, '_, L> {
         }
         let place = self.random.below(self.season.requests().len());
         let asked = self.season.requests()[place];
-        if self.weather.keeps_back(self.random, asked.from) {
+        if self.weather.keeps_request_back(self.random, asked) {
             self.season.keep_back_request(place);
             return;
         }
@@ -204,15 +202,16 @@ impl<L: Library> Run<'_, '_, L> {
 pub fn run<'l, L: Library>(library: &'l mut L, random: &mut Random, rules: Rules) -> Season<'l, L> {
     let pool = plausible(random);
     let to_publish = publications(random, &rules, &pool);
-    let wrong = Wrong::new(random, &rules, &pool);
+    let weather = Weather::random(random, &rules);
+    let favoured = weather.favoured(random);
+    let wrong = Wrong::new(random, &rules, &pool, &favoured);
     let haste = random.pick(&[1, 4, 16]);
-    let lies = rules.entries() * (1 + random.below(6 * usize::from(rules.n)));
     let mut run = Run {
         to_publish,
+        lies: wrong.lies(random),
         wrong,
-        lies,
         order: Order::random(random, rules.n),
-        weather: Weather::random(random, &rules),
+        weather,
         season: Season::open(library, rules),
         random,
     };

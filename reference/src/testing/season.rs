@@ -450,6 +450,25 @@ impl<'l, L: Library> Season<'l, L> {
         }
     }
 
+    /// Consumes the copies for which this holds, and those of them that come of it, oldest first.
+    pub fn consume_where(&mut self, takes: impl Fn(&Sent) -> bool) {
+        while let Some(place) = self.find_pending(&takes) {
+            self.consume(place);
+        }
+    }
+
+    /// The copies for which this holds are never brought.
+    pub fn keep_back_where(&mut self, keeps: impl Fn(&Sent) -> bool) {
+        while let Some(place) = self.find_pending(&keeps) {
+            self.keep_back(place);
+        }
+    }
+
+    fn find_pending(&self, holds: &impl Fn(&Sent) -> bool) -> Option<usize> {
+        let mut copies = self.pending.iter().map(|&copy| &self.copies[copy]);
+        copies.position(holds)
+    }
+
     /// Something is done at this house, which is up.
     fn steps_at(&mut self, house: usize) {
         assert!(!self.is_down(house), "a house that is down does nothing");

@@ -2,7 +2,7 @@
 //! moments that hurt most.
 
 use crate::testing::random::Random;
-use crate::testing::season::{Rules, Season};
+use crate::testing::season::{Asked, Rules, Season, Sent};
 use crate::Library;
 
 /// The moment at which the next crash is to come.
@@ -46,8 +46,12 @@ pub(super) struct Weather {
     repair: usize,
     /// This house is down from the start until nothing else is left to do.
     sleeper: Option<usize>,
-    /// So many in eight copies of the houses that are down at the end never arrive.
-    keeps: usize,
+    /// Of the houses that are down at the end, so many in eight copies of each kind never arrive at others,
+    /// and so many requests.
+    keeps: [usize; 4],
+    /// The houses that are down at the end crash when all else is done. No READY of theirs arrives at others,
+    /// so that what they deliver rests on what the others have without them.
+    parting: bool,
     aim: Option<Aim>,
 }
 
@@ -62,7 +66,8 @@ impl Weather {
             storms: None,
             repair: 1,
             sleeper: None,
-            keeps: 0,
+            keeps: [0; 4],
+            parting: false,
             aim: None,
         }
     }
@@ -73,11 +78,12 @@ impl Weather {
         let calm = Weather::calm(rules);
         let (n, h) = (usize::from(rules.n), calm.honest.len());
         let (f, d) = (usize::from(rules.f), usize::from(rules.d));
-        let (last, most) = match random.below(10) {
+        let (last, most, parting) = match random.below(12) {
             0..=1 => return calm,
-            2..=3 => (random.below(h + 1), d + random.below(4)),
-            4 => (random.below(f + 1), d),
-            _ => (f, d),
+            2..=3 => (random.below(h + 1), d + random.below(4), false),
+            4 => (random.below(f + 1), d, false),
+            5..=6 if f > 0 => (f, d, true),
+            _ => (f, d, false),
         };
         let last = pick_some(random, &calm.honest, last);
         let telling = 3 * rules.entries() * (n + 1);
@@ -94,7 +100,11 @@ impl Weather {
             storms: Some(steps / events + 1),
             repair: random.pick(&[4, 64, steps / 8 + 1]),
             sleeper: sleeps.then(|| random.pick(&sleeper)),
-            keeps: random.pick(&[0, 2, 4, 7]),
+            keeps: match parting {
+                true => [4, random.pick(&[4, 7, 8]), 8, 8],
+                false => [(); 4].map(|()| random.pick(&[0, 2, 4, 7, 8])),
+            },
+            parting,
             ..calm
         }
     }
@@ -102,7 +112,7 @@ impl Weather {
     /// Before the first step: some houses are down from the start.
     pub fn begin<L: Library>(&mut self, random: &mut Random, season: &mut Season<L>) {
         for house in self.honest.clone() {
-            let early = self.last[house] && random.chance(1, 4);
+            let early = self.last[house] && !self.parting && random.chance(1, 4);
             if early || self.sleeper == Some(house) {
                 self.crash(season, house);
             }
@@ -118,9 +128,8 @@ impl Weather {
         let idle = season.pending() == 0 && season.requests().is_empty();
         let house = random.pick(&self.honest);
         if !season.is_down(house) {
-            let ends = late && self.last[house] && (idle || random.chance(1, 64));
-            if ends {
-                self.crash(season, house);
+            if late && self.last[house] && (idle || random.chance(1, 64)) {
+                season.crash(house);
             }
             return;
         }
@@ -159,7 +168,11 @@ impl Weather {
     /// A house that crashes returns later, but for those that are down at the end.
     fn may_crash<L: Library>(&self, season: &Season<L>, house: usize) -> bool {
         let returns = self.left > 0 && season.returns(house) < self.most;
-        !season.is_down(house) && (returns || self.last[house])
+        let may = match self.last[house] {
+            true => !self.parting,
+            false => returns,
+        };
+        may && !season.is_down(house)
     }
 
     /// The house crashes, where it may.
@@ -229,9 +242,23 @@ impl Weather {
         }
     }
 
-    /// Whether what this house sent never arrives.
-    pub fn keeps_back(&self, random: &mut Random, from: usize) -> bool {
-        self.last[from] && random.chance(self.keeps, 8)
+    /// Whether this copy never arrives.
+    pub fn keeps_back(&self, random: &mut Random, copy: &Sent) -> bool {
+        let keeps = self.keeps[usize::from(copy.bytes[3]) - 1];
+        self.last[copy.from] && copy.from != copy.to && random.chance(keeps, 8)
+    }
+
+    /// Whether this request never arrives.
+    pub fn keeps_request_back(&self, random: &mut Random, asked: Asked) -> bool {
+        self.last[asked.from] && asked.from != asked.to && random.chance(self.keeps[3], 8)
+    }
+
+    /// For each house, whether wrong houses are to speak to it alone. At times they speak to all.
+    pub fn favoured(&self, random: &mut Random) -> Vec<bool> {
+        match self.parting || random.chance(1, 4) {
+            true => self.last.clone(),
+            false => vec![false; self.last.len()],
+        }
     }
 
     /// Whether a publication waits for this house, which is down, to return. One that is down at the end
