@@ -127,8 +127,8 @@ impl Header {
         slots.get_mut(usize::from(number))
     }
 
-    /// The place of the entry of this number and sender, "number first and then sender", if both are in
-    /// the book.
+    /// The place of the entry of this number and sender, number first and then sender, if both are in the
+    /// book.
     fn place(&self, number: u8, sender: u8) -> Option<usize> {
         let (number, sender) = (usize::from(number), usize::from(sender));
         (number < self.s && sender < self.n).then_some(number * self.n + sender)

@@ -1,5 +1,6 @@
-//! Libraries with a slip each in a single call, to see that the checks of single calls see it: each is caught by
-//! a check that knows the answer, and again by drawn calls beside a library that does not slip.
+//! Libraries with a slip each in a single call, to see that the checks of single calls see it: each is
+//! caught by a check that knows the answer, and again by drawn calls beside a library that does not
+//! slip.
 
 use reference::testing::both::Both;
 use reference::testing::forms::slots_from;
@@ -514,8 +515,8 @@ fn slips() -> Vec<Slip> {
     slips
 }
 
-/// Side by side with a library that does not slip, drawn calls show every slip: what the answer has to be need
-/// not be known.
+/// Side by side with a library that does not slip, drawn calls show every slip: what the answer has to
+/// be need not be known.
 #[test]
 fn every_slip_differs_from_no_slip() {
     for slip in slips() {

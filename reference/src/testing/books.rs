@@ -105,15 +105,16 @@ pub fn illegal_books(library: &mut impl Library) {
     }
 }
 
-/// What a legal book asks of f, d and the help counts: f is 0 to 4 with 2f below n, d is 0 to 8, and no asker
-/// was helped more than d times.
+/// What a legal book asks of f, d and the help counts: f is 0 to 4 with 2f below n, d is 0 to 8, and no
+/// asker was helped more than d times.
 fn asks_of_help(book: &[u8]) -> bool {
     let [n, f, d] = [book[0], book[29], book[30]].map(u32::from);
     let counts = &book[31..slots_from(book[0])];
     f <= 4 && 2 * f < n && d <= 8 && counts.iter().all(|helped| u32::from(*helped) <= d)
 }
 
-/// Both sides of it: every f and d that a byte holds, counts at d and one above, and every bit of these bytes.
+/// Both sides of it: every f and d that a byte holds, counts at d and one above, and every bit of these
+/// bytes.
 pub fn helped_and_down(library: &mut impl Library, seed: u64) {
     let mut random = Random::new(seed);
     let mut found = [0usize; 2];

@@ -213,8 +213,8 @@ pub fn redraw_helped(random: &mut Random, book: &mut [u8]) {
     }
 }
 
-/// A legal book that no run need ever reach: f is any that fits, d and the help counts are any, and any slot
-/// is full with any 20 bytes, often a few of a pool.
+/// A legal book that no run need ever reach: f is any that fits, d and the help counts are any, and any
+/// slot is full with any 20 bytes, often a few of a pool.
 pub fn random_book(random: &mut Random, pool: &[Declaration]) -> Vec<u8> {
     let n = match random.below(4) {
         0 => 1 + random.below(16),

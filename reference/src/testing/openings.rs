@@ -38,9 +38,9 @@ const FAR: [u32; 14] = [
     u32::MAX,
 ];
 
-/// "Opening takes f (0 to 4) and a recovery limit d (0 to 8); t is the largest that fits; else answer 9": all n
-/// from 0 to 17 with f from 0 to 5 and d from 0 to 9, so with 2f below, at and above n; and numbers far too
-/// large. 9 comes before 10 and 11, whatever it comes of.
+/// "Opening takes f (0 to 4) and a recovery limit d (0 to 8); t is the largest that fits; else answer 9":
+/// all n from 0 to 17 with f and d up to beyond theirs, so with 2f below, at and above n; and numbers far
+/// too large. 9 comes before 10 and 11, whatever it comes of.
 pub fn every_f_and_d(library: &mut impl Library) {
     for n in 0..=17 {
         for (f, d) in (0..=5)

@@ -1,4 +1,5 @@
-//! "Where several apply, the first in the call's order is given": each pair of errors that can occur at once.
+//! "Where several apply, the first in the call's order is given": each pair of errors that can occur at
+//! once.
 
 use super::forms::{fresh, honey, message, open_sheet, request_of, slots_from, SEASON};
 use crate::{Library, Outcome};
@@ -163,7 +164,8 @@ const ASKING: [Error<Asking>; 12] = [
     (1, "book", |a| a.damaged = true),
 ];
 
-/// The pairs of a request that can occur: 4 and 14 cannot, for there is no count of a house that is not there.
+/// The pairs of a request that can occur: 4 and 14 cannot, for there is no count of a house that is not
+/// there.
 const ASKING_PAIRS: [(u8, u8); 9] = [
     (1, 2),
     (1, 3),

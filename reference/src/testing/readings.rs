@@ -208,9 +208,9 @@ pub fn counted_apart(library: &mut impl Library) {
     }
 }
 
-/// Vouchers for one declaration and one for the other between them: only another voucher for the first makes
-/// enough. At n = 4 with f at 0, where 3 make a READY of ECHOes and a delivery; and at n = 6 with f at 1, where 4
-/// do. 2 READYs make a READY at both.
+/// Vouchers for one declaration and one for the other between them: only another voucher for the first
+/// makes enough. At n = 4 with f at 0, where 3 make a READY of ECHOes and a delivery; and at n = 6 with
+/// f at 1, where 4 do. 2 READYs make a READY at both.
 fn apart(library: &mut impl Library, v: &[u8; 20], other: &[u8; 20]) {
     for (n, f, enough) in [(4, 0, 3), (6, 1, 4)] {
         for kind in [Kind::Echo, Kind::Ready] {

@@ -1,4 +1,5 @@
-//! Requests for help: their one form, their answers in order, and the one byte that an accepted one changes.
+//! Requests for help: their one form, their answers in order, and the one byte that an accepted one
+//! changes.
 
 use super::forms::{
     fresh, honey, message, open_sheet, random_book, random_pool, request_of, slots_from, SEASON,
@@ -50,20 +51,17 @@ pub fn one_form(library: &mut impl Library, seed: u64) {
     let message_of_kind_9 = message(9, SEASON, 2, 1, &honey(77, 40, 800));
     is_request(library, &message_of_kind_9, None);
     for length in (0..=40).filter(|&length| length != 11) {
-        let tails = [vec![0; 40], random.bytes(40), WHOLE.repeat(4)];
-        for tail in tails
-            .iter()
-            .map(Vec::as_slice)
-            .chain([&message_of_kind_9[11..]])
-        {
-            let mut bytes = [&WHOLE[..], tail].concat();
+        let of_message = message_of_kind_9[11..].to_vec();
+        let tails = [vec![0; 40], random.bytes(40), WHOLE.repeat(4), of_message];
+        for tail in tails {
+            let mut bytes = [&WHOLE[..], &tail].concat();
             bytes.truncate(length);
             is_request(library, &bytes, None);
         }
         is_request(library, &message_of_kind_9[..length.min(36)], None);
-        let mut twice = message_of_kind_9.to_vec();
-        twice.resize(length, 0);
-        is_request(library, &twice, None);
+        let mut padded = message_of_kind_9.to_vec();
+        padded.resize(length, 0);
+        is_request(library, &padded, None);
     }
     for (place, byte) in (0..11).flat_map(|place| (0..=255).map(move |byte| (place, byte))) {
         let mut bytes = WHOLE;
@@ -111,7 +109,7 @@ pub fn every_count(library: &mut impl Library, seed: u64) {
 }
 
 /// "At most d times for each asker": each is helped d times and not once more, whoever asks between; and
-/// who is in no book is answered 4 all the while.
+/// who is not in the book is answered 4.
 pub fn until_enough(library: &mut impl Library, seed: u64) {
     let mut random = Random::new(seed);
     for _ in 0..24 {

@@ -1,4 +1,5 @@
-//! A return, and what a house sent: on any legal book, for every kind, and for numbers in and out of the book.
+//! A return, and what a house sent: on any legal book, for every kind, and for numbers in and out of the
+//! book.
 
 use super::forms::{
     fresh, honey, message, open_sheet, random_book, random_number, random_pool, request_of,
@@ -117,7 +118,7 @@ fn full_book() -> Vec<u8> {
     book
 }
 
-/// Every kind, every sender and number byte and far beyond; and SEND "on its own entries only": none on
+/// Every kind, every sender and number byte and far beyond; and SEND on its own entries only: none on
 /// another sender's entry, though something is published at that number.
 pub fn every_kind_and_number(library: &mut impl Library) {
     let empty = fresh([4, 2, 1, 1, 3], SEASON, &open_sheet());

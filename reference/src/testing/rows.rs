@@ -79,8 +79,8 @@ fn vouch(library: &mut impl Library, book: &mut [u8], house: usize, kind: Kind) 
     outcome
 }
 
-/// Rows 1 to 3 and 10 to 12, and the same for every n and f: ECHOes below the quorum give nothing and at it a
-/// READY; READYs give a READY at t+1 and a delivery at 2t+f+1.
+/// Rows 1 to 3 and 10 to 12, and the same for every n and f: ECHOes below the quorum give nothing and at
+/// it a READY; READYs give a READY at t+1 and a delivery at 2t+f+1.
 pub fn card(library: &mut impl Library) {
     let declaration = honey(77, 40, 800);
     let ready = Some(message(3, SEASON, 0, 0, &declaration));
@@ -251,8 +251,8 @@ pub fn judged(library: &mut impl Library) {
     }
 }
 
-/// Row 9, and the run cases of 35 and 37 bytes and of kinds 0 and 4, by reader, receiver and writer; and kind 9,
-/// which no 36 bytes have.
+/// Row 9, and the run cases of 35 and 37 bytes and of kinds 0 and 4, by reader, receiver and writer; and
+/// kind 9, which no 36 bytes have.
 pub fn messages(library: &mut impl Library) {
     let declaration = honey(77, 40, 800);
     let read = library
