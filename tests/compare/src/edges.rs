@@ -186,8 +186,9 @@ fn half_full([n, f, d]: [u8; 3]) -> Vec<u8> {
     book
 }
 
-/// Small books with every bit flipped and with every byte at 0, 2 and 255: one house's whole book, and five
-/// houses' up to the first slots. One house's book cut to every length; and lengthened, with zeros and noise.
+/// Small books with every bit flipped and with every byte at 0, 2 and 255: one house's whole book, and
+/// five houses' up to the first slots. One house's book cut to every length; and lengthened, with zeros
+/// and noise.
 pub fn damaged_books(library: &mut impl Library, seed: u64) {
     let mut random = Random::new(seed);
     for (numbers, most) in [([1, 0, 3], 200), ([5, 2, 4], 80)] {

@@ -15,9 +15,9 @@ fn three() -> [Declaration; 3] {
     [with(0x0000_0000), with(0x8000_0000), with(0x7FA0_0001)]
 }
 
-/// Up to so many houses with each f that fits: SENDs, ECHOes and READYs from each house on every state of the
-/// slots that they are counted by, each slot empty or with one of two declarations. The other slots, d and the
-/// help counts are drawn.
+/// Up to so many houses with each f that fits: SENDs, ECHOes and READYs from each house on every state
+/// of the slots that they are counted by, each slot empty or with one of two declarations. The other
+/// slots, d and the help counts are drawn.
 pub fn states(library: &mut impl Library, seed: u64, most: u8) {
     let mut random = Random::new(seed);
     let (mut given, mut delivered) = (0, 0);

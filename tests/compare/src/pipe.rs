@@ -35,7 +35,8 @@ pub struct Question<'a> {
 /// How many numbers a question has.
 pub const NUMBERS: usize = 6;
 
-/// What comes before the lengths of the book and of the bytes in a question, and before the answer in a reply.
+/// What comes before the lengths of the book and of the bytes in a question, and before the answer in a
+/// reply.
 const LENGTHS: usize = 1 + 4 * NUMBERS + DECLARATION;
 const HEAD: usize = 6;
 
