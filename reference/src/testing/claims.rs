@@ -263,6 +263,7 @@ impl<L: Library> Season<'_, L> {
         };
         add_if(true, Moment::Season);
         add_if(!crashed, Moment::Calm);
+        add_if(self.is_plain() && wrong <= t, Moment::Plain);
         add_if(wrong > t, Moment::TooManyWrong);
         add_if(wrong == t && t > 0 && crashed, Moment::WrongAndCrash);
         add_if(self.down() > f, Moment::TooManyDown);

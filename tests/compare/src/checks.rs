@@ -3,7 +3,7 @@
 use crate::linked::Linked;
 use crate::{drawn, edges, entries};
 use reference::testing::both::Both;
-use reference::testing::season::moments::Tally;
+use reference::testing::season::moments::{Moment, Tally};
 use reference::testing::{
     books, openings, pairs, readings, refusals, requests, returns, rows, scheduler, trips,
 };
@@ -16,7 +16,7 @@ pub type Pair = Both<Linked, Reference>;
 pub type Check = (&'static str, fn(&mut Pair, u64, usize));
 
 /// Checks that are the same at any size; the seed is for noise.
-pub const COUNTED: [Check; 20] = [
+pub const COUNTED: [Check; 21] = [
     ("the rows and run cases of document 01", |pair, _, _| {
         rows::card(pair);
         rows::judged(pair);
@@ -34,6 +34,9 @@ pub const COUNTED: [Check; 20] = [
     }),
     ("the attack of two wrong houses of four", |pair, _, _| {
         assert_eq!(scheduler::directed_disagreement(pair), [2]);
+    }),
+    ("directed seasons with crashes", |pair, _, _| {
+        scheduler::directed::crashes(pair);
     }),
     ("lengths of books", |pair, _, _| openings::lengths(pair)),
     ("openings with every f and d", |pair, _, _| {
@@ -126,7 +129,7 @@ pub const DRAWN: [Check; 12] = [
     ("seasons of up to seven houses", |pair, seed, scale| {
         let mut tally = Tally::default();
         for n in 1..=7 {
-            let sizes = [2 * scale, scale.div_ceil(2), scale.div_ceil(4)];
+            let sizes = [4 * scale, scale, scale.div_ceil(4)];
             for (s, seasons) in [1, 2, 3 + n % 2].into_iter().zip(sizes) {
                 tally.add_all(&scheduler::seasons(pair, seed, n, s, seasons as u64));
             }
@@ -136,11 +139,16 @@ pub const DRAWN: [Check; 12] = [
         assert!(enough, "it never came about: {missing:?}");
     }),
     ("seasons of up to sixteen houses", |pair, seed, scale| {
-        // The gate's seed has the largest book among them.
-        for n in 8..=16 {
-            let s = 1 + (seed.wrapping_add(u64::from(n) + 1) % 4) as u8;
-            scheduler::seasons(pair, seed, n, s, scale.div_ceil(8) as u64);
+        let seasons = scale.div_ceil(8) as u64;
+        for n in 8..=15 {
+            let s = 1 + (seed.wrapping_add(u64::from(n)) % 2) as u8;
+            scheduler::seasons(pair, seed, n, s, seasons);
         }
+        // The gate's seed has the largest book here, and all that is claimed of it.
+        let s = 1 + (seed.wrapping_add(1) % 4) as u8;
+        let tally = scheduler::seasons(pair, seed, 16, s, seasons);
+        let told = tally.of(Moment::Return) > 0 && tally.of(Moment::Premised) > 0;
+        assert!(scale < ENOUGH_FOR_ALL || (told && s == 4), "{tally}");
     }),
     ("two wrong houses of four disagree", |pair, seed, scale| {
         let seasons = (50 * scale).max(ENOUGH_TO_DISAGREE);

@@ -29,7 +29,7 @@ const AIMS: [Aim; 5] = [
 ];
 
 /// About so many calls may go into telling what was sent, in one season.
-const TELLING: usize = 12_000;
+const TELLING: usize = 6_000;
 
 /// When houses crash and return.
 pub(super) struct Weather {

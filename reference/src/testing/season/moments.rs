@@ -10,6 +10,8 @@ pub enum Moment {
     Season,
     /// No house was ever down in it.
     Calm,
+    /// No house was ever down, at most t were wrong, and d was zero: the counts of document 01 are exact.
+    Plain,
     /// A house crashed.
     Crash,
     /// A house returned.
@@ -75,6 +77,7 @@ const MOMENTS: usize = Moment::WrongDelivered as usize + 1;
 pub const ALL: [Moment; MOMENTS] = [
     Moment::Season,
     Moment::Calm,
+    Moment::Plain,
     Moment::Crash,
     Moment::Return,
     Moment::ReturnPastD,
