@@ -5,7 +5,7 @@ use reference::testing::both::Both;
 use reference::testing::claims::Fault;
 use reference::testing::random::Random;
 use reference::testing::scheduler::{self, directed};
-use reference::testing::season::moments::{Moment, Tally};
+use reference::testing::season::moments::Tally;
 use reference::testing::season::Rules;
 use reference::{
     Counts, Declaration, Library, Message, Outcome, ReadAnswer, Reference, Returned, SentAnswer,
@@ -26,10 +26,13 @@ fn up_to_seven_houses() {
 }
 
 #[test]
-fn sixteen_houses() {
-    let tally = scheduler::seasons(&mut Reference, 2026, 16, 1, 6);
-    assert!(tally.of(Moment::WrongDelivered) > 0);
-    scheduler::seasons(&mut Reference, 2026, 16, 4, 1);
+fn eight_to_sixteen_houses() {
+    let mut tally = scheduler::seasons(&mut Reference, 2026, 16, 4, 1);
+    for n in 8..=16 {
+        tally.add_all(&scheduler::seasons(&mut Reference, 2026, n, 1, 8));
+    }
+    let missing = tally.missing();
+    assert!(missing.is_empty(), "it never came about: {missing:?}");
 }
 
 #[test]

@@ -200,9 +200,18 @@ impl<L: Library> Run<'_, '_, L> {
 /// Runs one season to its end: every copy and request is consumed, but for some of houses that are then
 /// down.
 pub fn run<'l, L: Library>(library: &'l mut L, random: &mut Random, rules: Rules) -> Season<'l, L> {
+    let weather = Weather::random(random, &rules);
+    run_in(library, random, rules, weather)
+}
+
+fn run_in<'l, L: Library>(
+    library: &'l mut L,
+    random: &mut Random,
+    rules: Rules,
+    weather: Weather,
+) -> Season<'l, L> {
     let pool = plausible(random);
     let to_publish = publications(random, &rules, &pool);
-    let weather = Weather::random(random, &rules);
     let favoured = weather.favoured(random);
     let wrong = Wrong::new(random, &rules, &pool, &favoured);
     let haste = random.pick(&[1, 4, 16]);
@@ -231,7 +240,7 @@ pub fn run<'l, L: Library>(library: &'l mut L, random: &mut Random, rules: Rules
 }
 
 /// How often a house may return and be helped, mostly seldom.
-const LIMITS: [u8; 14] = [0, 0, 0, 1, 1, 1, 2, 2, 3, 4, 5, 6, 7, 8];
+const LIMITS: [u8; 16] = [0, 0, 0, 0, 0, 1, 1, 1, 2, 2, 3, 4, 5, 6, 7, 8];
 
 /// A season of n houses, with any f that fits n and any d, often t wrong houses, and at times more.
 fn random_rules(random: &mut Random, n: u8, s: u8) -> Rules {
@@ -268,6 +277,16 @@ pub fn seasons(library: &mut impl Library, seed: u64, n: u8, s: u8, count: u64) 
         tally.add_all(&season.tally());
     }
     tally
+}
+
+/// One season with these rules in which f honest houses are down at the end, and the others return d times at
+/// most. Gives what came about in it.
+pub fn season_within(library: &mut impl Library, seed: u64, rules: Rules) -> Tally {
+    let mut random = Random::new(seed);
+    let weather = Weather::within(&mut random, &rules);
+    let mut season = run_in(library, &mut random, rules, weather);
+    season.check();
+    season.tally()
 }
 
 /// Of so many seasons with two wrong houses of four, on how many entries two honest houses disagree. What

@@ -4,6 +4,7 @@ use crate::linked::Linked;
 use crate::{drawn, edges, entries};
 use reference::testing::both::Both;
 use reference::testing::season::moments::{Moment, Tally};
+use reference::testing::season::Rules;
 use reference::testing::{
     books, openings, pairs, readings, refusals, requests, returns, rows, scheduler, trips,
 };
@@ -95,7 +96,7 @@ pub const COUNTED: [Check; 21] = [
 ];
 
 /// Checks that draw their cases: more with a larger size.
-pub const DRAWN: [Check; 12] = [
+pub const DRAWN: [Check; 13] = [
     ("calls on any legal book", |pair, seed, scale| {
         refusals::calls(pair, seed, 200 * scale);
     }),
@@ -139,16 +140,15 @@ pub const DRAWN: [Check; 12] = [
         assert!(enough, "it never came about: {missing:?}");
     }),
     ("seasons of up to sixteen houses", |pair, seed, scale| {
-        let seasons = scale.div_ceil(8) as u64;
-        for n in 8..=15 {
+        for n in 8..=16 {
             let s = 1 + (seed.wrapping_add(u64::from(n)) % 2) as u8;
-            scheduler::seasons(pair, seed, n, s, seasons);
+            scheduler::seasons(pair, seed, n, s, scale.div_ceil(8) as u64);
         }
-        // The gate's seed has the largest book here, and all that is claimed of it.
-        let s = 1 + (seed.wrapping_add(1) % 4) as u8;
-        let tally = scheduler::seasons(pair, seed, 16, s, seasons);
-        let told = tally.of(Moment::Return) > 0 && tally.of(Moment::Premised) > 0;
-        assert!(scale < ENOUGH_FOR_ALL || (told && s == 4), "{tally}");
+    }),
+    ("a season of the largest book", |pair, seed, _| {
+        let rules = Rules::new(16, 4, &[3, 7, 11]).with(3, 2);
+        let tally = scheduler::season_within(pair, seed, rules);
+        assert_eq!(tally.of(Moment::Premised), 1, "{tally}");
     }),
     ("two wrong houses of four disagree", |pair, seed, scale| {
         let seasons = (50 * scale).max(ENOUGH_TO_DISAGREE);

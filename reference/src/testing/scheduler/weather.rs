@@ -75,36 +75,53 @@ impl Weather {
     /// Calm; or within the premises of the drained claims, with f houses down at the end more often than
     /// not; or beyond them, with more returns than d and any houses down at the end.
     pub fn random(random: &mut Random, rules: &Rules) -> Self {
+        let h = rules.honest().len();
+        let (f, d) = (usize::from(rules.f), usize::from(rules.d));
+        match random.below(12) {
+            0..=1 => Weather::calm(rules),
+            2..=3 => {
+                let (last, most) = (random.below(h + 1), d + random.below(4));
+                Weather::rough(random, rules, last, most)
+            }
+            4 => {
+                let last = random.below(f + 1);
+                Weather::rough(random, rules, last, d)
+            }
+            5..=6 if f > 0 => Weather {
+                keeps: [4, random.pick(&[4, 7, 8]), 8, 8],
+                parting: true,
+                ..Weather::within(random, rules)
+            },
+            _ => Weather::within(random, rules),
+        }
+    }
+
+    /// Within the premises of the drained claims: f houses are down at the end, and none returns more than d
+    /// times.
+    pub fn within(random: &mut Random, rules: &Rules) -> Self {
+        Weather::rough(random, rules, usize::from(rules.f), usize::from(rules.d))
+    }
+
+    /// So many houses are down at the end, and none returns more than so often.
+    fn rough(random: &mut Random, rules: &Rules, last: usize, most: usize) -> Self {
         let calm = Weather::calm(rules);
         let (n, h) = (usize::from(rules.n), calm.honest.len());
-        let (f, d) = (usize::from(rules.f), usize::from(rules.d));
-        let (last, most, parting) = match random.below(12) {
-            0..=1 => return calm,
-            2..=3 => (random.below(h + 1), d + random.below(4), false),
-            4 => (random.below(f + 1), d, false),
-            5..=6 if f > 0 => (f, d, true),
-            _ => (f, d, false),
-        };
         let last = pick_some(random, &calm.honest, last);
         let telling = 3 * rules.entries() * (n + 1);
         let left = (h * most).min(TELLING / telling + 2);
         let events = (left + last.len()).max(1) * random.pick(&[1, 4, 16]);
         let steps = rules.entries() * (h + 2 * h * h);
-        let mut sleeper = calm.honest.clone();
-        sleeper.retain(|house| !last.contains(house));
-        let sleeps = most > 0 && !sleeper.is_empty() && random.chance(1, 4);
+        let mut others = calm.honest.clone();
+        others.retain(|house| !last.contains(house));
+        let sleeps = most > 0 && !others.is_empty() && random.chance(1, 4);
         Weather {
             last: (0..n).map(|house| last.contains(&house)).collect(),
             most,
             left,
             storms: Some(steps / events + 1),
             repair: random.pick(&[4, 64, steps / 8 + 1]),
-            sleeper: sleeps.then(|| random.pick(&sleeper)),
-            keeps: match parting {
-                true => [4, random.pick(&[4, 7, 8]), 8, 8],
-                false => [(); 4].map(|()| random.pick(&[0, 2, 4, 7, 8])),
-            },
-            parting,
+            sleeper: sleeps.then(|| random.pick(&others)),
+            keeps: [(); 4].map(|()| random.pick(&[0, 2, 4, 7, 8])),
             ..calm
         }
     }
