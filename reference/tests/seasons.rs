@@ -68,18 +68,24 @@ enum Slip {
     TellsNoReady,
     /// The book tells of a SEND where another sender's was heard.
     TellsForeignSend,
+    /// The book tells of what came back of it: the own SEND, ECHO and READY that the house heard.
+    TellsWhatItHeard,
     /// Help is not counted.
     HelpsForever,
     /// Help is counted one too late: the figure of source document 003 has "at most d" before the count.
     HelpsOnceMore,
     /// Help is refused one too early.
     HelpsOnceLess,
+    /// Help is counted for all askers together.
+    CountsAllAskers,
     /// Help is counted, and not said.
     SaysNoHelp,
     /// Help forgets the READY that was sent on the first entry.
     HelpForgets,
     /// Delivery at 2t+1 READYs, whatever f is.
     DeliversEarly,
+    /// A READY of READYs at t+f+1 of them.
+    AmplifiesLate,
     /// A delivery comes again where a READY comes again.
     DeliversAgain,
     /// Opening takes f for zero.
@@ -119,19 +125,54 @@ fn entry_slots<'a>(book: &'a mut [u8], message: &Message) -> Vec<&'a mut [u8]> {
     slots(book).skip(s + entry * size).take(size).collect()
 }
 
+/// How many of these slots hold the message's declaration.
+fn vouchers(slots: &[&mut [u8]], message: &Message) -> usize {
+    let same = |slot: &&&mut [u8]| slot[0] == 1 && slot[1..] == message.declaration;
+    slots.iter().filter(same).count()
+}
+
 /// Delivers where 2t+1 READYs are there and the library did not.
 fn deliver_early(book: &mut [u8], message: &Message, outcome: &mut Outcome) {
     let [n, f] = [book[0], book[29]].map(usize::from);
-    let t = Counts::of(n, f).map_or(0, |counts| counts.tolerated);
+    let counts = Counts::of(n, f).expect("a legal book");
     let mut entry = entry_slots(book, message);
-    let same = |slot: &&&mut [u8]| slot[0] == 1 && slot[1..] == message.declaration;
-    let readies = entry[1 + n..1 + 2 * n].iter().filter(same).count();
-    let delivered = entry.last_mut().expect("an entry has slots");
-    if readies > 2 * t && delivered[0] == 0 {
+    let readies = vouchers(&entry[1 + n..1 + 2 * n], message);
+    let delivered = &mut entry[2 * n + 2];
+    if readies > 2 * counts.tolerated && delivered[0] == 0 {
         delivered[0] = 1;
         delivered[1..].copy_from_slice(&message.declaration);
         outcome.delivery = Some(message.declaration);
     }
+}
+
+/// Takes a READY back that rests on fewer than t+f+1 READYs.
+fn amplify_late(book: &mut [u8], message: &Message, outcome: &mut Outcome) {
+    let [n, f] = [book[0], book[29]].map(usize::from);
+    let counts = Counts::of(n, f).expect("a legal book");
+    let entry = &mut entry_slots(book, message);
+    let readies = vouchers(&entry[1 + n..1 + 2 * n], message);
+    if outcome.message.is_some() && readies < counts.amplify + f {
+        entry[2 * n + 1].fill(0);
+        outcome.message = None;
+    }
+}
+
+/// What the house heard of its own message of this kind, if it did.
+fn heard_of_own(book: &[u8], kind: u8, sender: u32, number: u32) -> Option<[u8; 36]> {
+    let [n, s, own] = [book[0], book[1], book[2]].map(usize::from);
+    let slot = match kind {
+        1 if sender as usize == own => 0,
+        1 => return None,
+        2 => 1 + own,
+        _ => 1 + n + own,
+    };
+    let entry = number as usize * n + sender as usize;
+    let slot = s + entry * (2 * n + 3) + slot;
+    let slot = &book[31 + n + 21 * slot..][..21];
+    let declaration = slot[1..].try_into().expect("20 bytes");
+    let season = u32::from_be_bytes([book[3], book[4], book[5], book[6]]);
+    let written = reference::write(kind, season, sender as u8, number as u8, declaration);
+    written.message.filter(|_| slot[0] == 1)
 }
 
 impl Slipping {
@@ -153,6 +194,14 @@ impl Slipping {
                 book.copy_from_slice(before);
                 (outcome.answer, outcome.helps) = (14, false);
             }
+            (Slip::CountsAllAskers, 0) => {
+                let [n, d] = [before[0], before[30]].map(usize::from);
+                let helped = before[31..31 + n].iter().copied().map(usize::from);
+                if helped.sum::<usize>() >= d {
+                    book.copy_from_slice(before);
+                    (outcome.answer, outcome.helps) = (14, false);
+                }
+            }
             (Slip::SaysNoHelp, 0) => outcome.helps = false,
             (Slip::HelpForgets, 0) => {
                 let [n, s] = [book[0], book[1]].map(usize::from);
@@ -168,6 +217,7 @@ impl Slipping {
         let ready = message.kind as u8 == 3;
         match (self.slip, outcome.answer) {
             (Slip::DeliversEarly, 0) if ready => deliver_early(book, message, outcome),
+            (Slip::AmplifiesLate, 0) if ready => amplify_late(book, message, outcome),
             (Slip::DeliversAgain, 7) if ready => {
                 let entry = entry_slots(book, message);
                 if entry.last().is_some_and(|delivered| delivered[0] == 1) {
@@ -247,6 +297,10 @@ impl Library for Slipping {
         match self.slip {
             Slip::TellsNothing => nothing,
             Slip::TellsNoReady if kind == 3 => nothing,
+            Slip::TellsWhatItHeard => SentAnswer {
+                message: heard_of_own(book, kind, sender, number),
+                ..sent
+            },
             Slip::TellsForeignSend if kind == 1 && sender != u32::from(book[2]) => {
                 let mut heard = reference::sent(book, 2, sender, number);
                 if let Some(message) = &mut heard.message {
@@ -298,7 +352,7 @@ fn shows(slip: Slip, fault: Fault) -> bool {
 
 #[test]
 fn every_fault_of_a_crash_can_be_seen() {
-    let slips: [(Slip, &[Fault]); 17] = [
+    let slips: [(Slip, &[Fault]); 20] = [
         (
             Slip::TellsNothing,
             &[Fault::OtherThanGiven, Fault::NotDelivered],
@@ -310,6 +364,10 @@ fn every_fault_of_a_crash_can_be_seen() {
         (
             Slip::TellsForeignSend,
             &[Fault::OtherThanGiven, Fault::HonestCopyRefused],
+        ),
+        (
+            Slip::TellsWhatItHeard,
+            &[Fault::OtherThanGiven, Fault::NotDelivered],
         ),
         (
             Slip::HelpsForever,
@@ -324,12 +382,17 @@ fn every_fault_of_a_crash_can_be_seen() {
                 Fault::NotDelivered,
             ],
         ),
+        (
+            Slip::CountsAllAskers,
+            &[Fault::HonestRequestRefused, Fault::NotDelivered],
+        ),
         (Slip::SaysNoHelp, &[Fault::NoSuchStep, Fault::NotDelivered]),
         (
             Slip::HelpForgets,
             &[Fault::OtherThanGiven, Fault::GivenTwice],
         ),
         (Slip::DeliversEarly, &[Fault::NotDelivered]),
+        (Slip::AmplifiesLate, &[Fault::NotDelivered]),
         (Slip::DeliversAgain, &[Fault::DeliveredTwice]),
         (Slip::OpensWithoutF, &[Fault::NotDelivered]),
         (Slip::RefusesPublications, &[Fault::PublicationRefused]),

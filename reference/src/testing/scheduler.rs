@@ -80,7 +80,8 @@ fn publications(
             }
             if random.chance(1, 8) {
                 let number = random.pick(&[number, number, u32::from(rules.s), 256]);
-                all.push((house, number, random_declaration(random)));
+                let any = random_declaration(random);
+                all.push((house, number, random.pick(&[any, pool[0], pool[1]])));
             }
         }
     }

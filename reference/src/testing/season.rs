@@ -203,11 +203,8 @@ impl<'l, L: Library> Season<'l, L> {
         if self.is_down(copy.to) {
             return;
         }
-        let answer = self.honest_copy(&copy);
+        self.honest_copy(&copy);
         self.tally.add(Moment::BroughtAgain);
-        self.hold(answer == 7, Fault::RepeatAccepted, || {
-            format!("answer {answer} at house {}", copy.to)
-        });
     }
 
     /// A copy that an honest house sent comes to a house that is up. It is answered 0; or 7, and then it is
@@ -308,9 +305,10 @@ impl<'l, L: Library> Season<'l, L> {
         }
         let returned = self.library.come_back(&self.houses[house].book);
         let place = || format!("the return of house {house}");
-        self.hold(returned.answer == 0, Fault::ReturnRefused, place);
-        let as_said = returned.request == Some(request(SEASON));
-        self.hold(as_said, Fault::NoSuchStep, place);
+        let accepted = returned.answer == 0;
+        self.hold(accepted, Fault::ReturnRefused, place);
+        let as_said = accepted.then(|| request(SEASON));
+        self.hold(returned.request == as_said, Fault::NoSuchStep, place);
         let all: Vec<usize> = (0..usize::from(self.rules.n)).collect();
         let mut parcel = self.again(house, Why::Again, &all);
         if returned.request.is_some() {

@@ -160,5 +160,5 @@ pub const DRAWN: [Check; 13] = [
 /// At this size each moment of a season that is counted comes about.
 const ENOUGH_FOR_ALL: usize = 8;
 
-/// Of so many seasons about 25 show a disagreement, whatever the seed; of fifty at times none does.
+/// Of so many seasons about 14 show a disagreement, whatever the seed; of fifty at times none does.
 const ENOUGH_TO_DISAGREE: usize = 400;
