@@ -18,9 +18,11 @@ pub const NOT_THE_SENDER: u8 = 6;
 pub const ALREADY_ACCEPTED: u8 = 7;
 /// Already published at this number.
 pub const ALREADY_PUBLISHED: u8 = 8;
-/// n, S or own number not allowed.
+/// n, S, own number, f or d not allowed.
 pub const NOT_ALLOWED: u8 = 9;
 /// Sheet not legal.
 pub const SHEET_NOT_LEGAL: u8 = 10;
 /// Buffer length is not the book's length.
 pub const OTHER_LENGTH: u8 = 11;
+/// A request past d: this asker was helped d times.
+pub const HELPED_ENOUGH: u8 = 14;

@@ -4,6 +4,8 @@
 //! |-|-|
 //! | 1, 1, 1, 4 | n, S, own number, season |
 //! | 22 | the sheet: cap (4), and for moisture and conductivity a gate: kind (1), low (4), high (4) |
+//! | 1, 1 | f, d |
+//! | n | how often each asker was helped, by house |
 //! | 21 S | a slot for what this house published, by number |
 //! | 21 (2n+3) Sn | the entries, number first and then sender |
 //!
@@ -11,11 +13,11 @@
 //! Numbers are big-endian.
 
 use crate::answer::{ACCEPTED, NOT_ALLOWED, OTHER_LENGTH, SHEET_NOT_LEGAL};
-use crate::card::{MOST_HOUSES, MOST_NUMBERS};
+use crate::card::{Counts, MOST_DOWN, MOST_HELPED, MOST_HOUSES, MOST_NUMBERS};
 use crate::sheet::{Declaration, Sheet, DECLARATION, SHEET};
 
-/// n, S, own number, season and the sheet.
-const HEADER: usize = 3 + 4 + SHEET;
+/// n, S, own number, season, the sheet, f and d.
+const HEADER: usize = 3 + 4 + SHEET + 2;
 
 /// A presence byte, 0 or 1, and a declaration, which is zeros where the slot is empty.
 pub(crate) type Slot = [u8; 1 + DECLARATION];
@@ -28,6 +30,12 @@ pub(crate) fn holding(declaration: &Declaration) -> Slot {
     slot[0] = 1;
     slot[1..].copy_from_slice(declaration);
     slot
+}
+
+/// The declaration that the slot holds.
+pub(crate) fn held(slot: &Slot) -> Option<Declaration> {
+    let [presence, declaration @ ..] = slot;
+    (*presence != 0).then_some(*declaration)
 }
 
 /// Whether the slot holds a declaration.
@@ -56,46 +64,87 @@ pub(crate) struct Header {
     pub season: u32,
     /// The season's sheet.
     pub sheet: Sheet,
+    /// How often each asker is helped at most.
+    pub limit: u8,
+    /// The counts for n and f.
+    pub counts: Counts,
 }
 
 impl Header {
     /// The head of the book, where the bytes are a legal book. "A legal book has n, S and sheet as above,
-    /// own number below n; nothing more is asked of its entries."
+    /// own number below n; nothing more is asked of its entries." And f and d are allowed, and no asker was
+    /// helped more than d times.
     pub fn of_legal(book: &[u8]) -> Option<Self> {
-        let (header, slots) = book.split_first_chunk::<HEADER>()?;
-        let [n, s, own, y0, y1, y2, y3, sheet @ ..] = header;
-        let legal_length = length(u32::from(*n), u32::from(*s)) == (ACCEPTED, book.len());
-        if !legal_length || own >= n {
+        let (header, rest) = book.split_first_chunk::<HEADER>()?;
+        let [n, s, own, y0, y1, y2, y3, sheet @ .., f, d] = header;
+        let numbers = [n, s, own, f, d].map(|byte| u32::from(*byte));
+        if allowed(numbers)? != book.len() {
             return None;
         }
+        let (helped, slots) = rest.split_at_checked(usize::from(*n))?;
         let sheet = Sheet::read(sheet)?;
         let (slots, _) = slots.as_chunks();
         let one_form = slots.iter().all(|slot| slot[0] == 1 || *slot == EMPTY);
-        one_form.then_some(Header {
+        if !one_form || helped.iter().any(|times| times > d) {
+            return None;
+        }
+        Some(Header {
             n: usize::from(*n),
             s: usize::from(*s),
             own: *own,
             season: u32::from_be_bytes([*y0, *y1, *y2, *y3]),
             sheet,
+            limit: *d,
+            counts: Counts::of(usize::from(*n), usize::from(*f))?,
         })
     }
 
-    /// The slot for what this house published at this number, if the number is in the book.
-    pub fn published<'a>(&self, book: &'a mut [u8], number: usize) -> Option<&'a mut Slot> {
-        let (slots, _) = book.get_mut(HEADER..)?.as_chunks_mut();
-        slots.get_mut(..self.s)?.get_mut(number)
+    /// How often this asker was helped, if it is in the book.
+    pub fn helped<'a>(&self, book: &'a mut [u8], asker: usize) -> Option<&'a mut u8> {
+        book.get_mut(HEADER..HEADER + self.n)?.get_mut(asker)
     }
 
-    /// The entry of this number and sender, if both are in the book.
-    pub fn entry<'a>(&self, book: &'a mut [u8], number: u8, sender: u8) -> Option<Entry<'a>> {
+    /// All slots of the book.
+    fn slots<'a>(&self, book: &'a [u8]) -> &'a [Slot] {
+        let slots = book.get(HEADER + self.n..).unwrap_or_default();
+        slots.as_chunks().0
+    }
+
+    /// All slots of the book, to be filled.
+    fn slots_mut<'a>(&self, book: &'a mut [u8]) -> &'a mut [Slot] {
+        let slots = book.get_mut(HEADER + self.n..).unwrap_or_default();
+        slots.as_chunks_mut().0
+    }
+
+    /// The slot for what this house published at this number, if the number is in the book.
+    pub fn published<'a>(&self, book: &'a [u8], number: u8) -> Option<&'a Slot> {
+        self.slots(book).get(..self.s)?.get(usize::from(number))
+    }
+
+    /// The same slot, to be filled.
+    pub fn published_mut<'a>(&self, book: &'a mut [u8], number: u8) -> Option<&'a mut Slot> {
+        let slots = self.slots_mut(book).get_mut(..self.s)?;
+        slots.get_mut(usize::from(number))
+    }
+
+    /// The place of the entry of this number and sender, number first and then sender, if both are in the
+    /// book.
+    fn place(&self, number: u8, sender: u8) -> Option<usize> {
         let (number, sender) = (usize::from(number), usize::from(sender));
-        if number >= self.s || sender >= self.n {
-            return None;
-        }
-        let (slots, _) = book.get_mut(HEADER..)?.as_chunks_mut();
+        (number < self.s && sender < self.n).then_some(number * self.n + sender)
+    }
+
+    /// The slots of the entry of this number and sender, if both are in the book.
+    pub fn row<'a>(&self, book: &'a [u8], number: u8, sender: u8) -> Option<&'a [Slot]> {
+        self.entries(book).nth(self.place(number, sender)?)
+    }
+
+    /// The same entry, to be filled.
+    pub fn entry<'a>(&self, book: &'a mut [u8], number: u8, sender: u8) -> Option<Entry<'a>> {
         let size = entry_slots(self.n);
-        let first = self.s + (number * self.n + sender) * size;
-        let (send, row) = slots.get_mut(first..first + size)?.split_first_mut()?;
+        let first = self.s + self.place(number, sender)? * size;
+        let slots = self.slots_mut(book).get_mut(first..first + size)?;
+        let (send, row) = slots.split_first_mut()?;
         let (echoes, row) = row.split_at_mut_checked(self.n)?;
         let (readies, row) = row.split_at_mut_checked(self.n)?;
         let [ready_sent, delivered] = row else {
@@ -112,9 +161,7 @@ impl Header {
 
     /// The slots of each entry, number first and then sender.
     pub fn entries<'a>(&self, book: &'a [u8]) -> impl Iterator<Item = &'a [Slot]> {
-        let slots = book.get(HEADER..).unwrap_or_default();
-        let (slots, _) = slots.as_chunks();
-        let entries = slots.get(self.s..).unwrap_or_default();
+        let entries = self.slots(book).get(self.s..).unwrap_or_default();
         entries.chunks_exact(entry_slots(self.n))
     }
 }
@@ -145,25 +192,42 @@ pub fn length(n: u32, s: u32) -> (u8, usize) {
     }
     let (n, s) = (n as usize, s as usize);
     let slots = s + s * n * entry_slots(n);
-    (ACCEPTED, HEADER + slots * EMPTY.len())
+    (ACCEPTED, HEADER + n + slots * EMPTY.len())
 }
 
-/// "Opening writes the whole buffer: nothing heard, sent, delivered or published."
-pub fn open(book: &mut [u8], n: u32, s: u32, own: u32, season: u32, sheet: &[u8]) -> u8 {
+/// The length of a book with this n, S, own number, f and d, where they are allowed.
+fn allowed([n, s, own, f, d]: [u32; 5]) -> Option<usize> {
     let (answer, length) = length(n, s);
-    if answer != ACCEPTED || own >= n {
+    let fits = f <= u32::from(MOST_DOWN) && 2 * f < n && d <= u32::from(MOST_HELPED);
+    (answer == ACCEPTED && own < n && fits).then_some(length)
+}
+
+/// "Opening writes the whole buffer: nothing heard, sent, delivered or published." And nobody was helped.
+#[allow(clippy::too_many_arguments)]
+pub fn open(
+    book: &mut [u8],
+    n: u32,
+    s: u32,
+    own: u32,
+    f: u32,
+    d: u32,
+    season: u32,
+    sheet: &[u8],
+) -> u8 {
+    let Some(length) = allowed([n, s, own, f, d]) else {
         return NOT_ALLOWED;
-    }
+    };
     if Sheet::read(sheet).is_none() {
         return SHEET_NOT_LEGAL;
     }
     if book.len() != length {
         return OTHER_LENGTH;
     }
-    let (header, slots) = book.split_at_mut(HEADER);
+    let (header, rest) = book.split_at_mut(HEADER);
     header[..3].copy_from_slice(&[n as u8, s as u8, own as u8]);
     header[3..7].copy_from_slice(&season.to_be_bytes());
-    header[7..].copy_from_slice(sheet);
-    slots.fill(0);
+    header[7..29].copy_from_slice(sheet);
+    header[29..].copy_from_slice(&[f as u8, d as u8]);
+    rest.fill(0);
     ACCEPTED
 }

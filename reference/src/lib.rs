@@ -1,4 +1,4 @@
-//! The house book of document 01 in ordinary Rust: eight calls over plain bytes.
+//! The house book of document 01 in ordinary Rust: ten calls over plain bytes.
 //!
 //! It is written from the document and from the book's layout alone, so that the proved library and this
 //! one can be run against each other. A call takes the book as bytes, tests that they are a legal book,
@@ -16,8 +16,13 @@ mod steps;
 pub mod testing;
 
 pub use book::{length, open};
-pub use card::{Counts, MOST_HOUSES, MOST_NUMBERS};
+pub use card::{Counts, MOST_DOWN, MOST_HELPED, MOST_HOUSES, MOST_NUMBERS};
 pub use library::{Library, Reference};
-pub use message::{read, write, Kind, Message, ReadAnswer, Written, MESSAGE};
+pub use message::{
+    read, read_request, request, write, Form, Kind, Message, ReadAnswer, Written, MESSAGE, REQUEST,
+};
 pub use sheet::{judge, Declaration, Gate, Readings, Sheet, DECLARATION, SHEET};
-pub use steps::{publish, receive, waiting, Outcome, Waiting, WaitingEntry};
+pub use steps::{
+    come_back, publish, receive, sent, waiting, Outcome, Returned, SentAnswer, Waiting,
+    WaitingEntry,
+};

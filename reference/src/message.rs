@@ -1,11 +1,15 @@
 //! One message, 36 bytes: "tagged fields: one-byte tag, two-byte big-endian length, content; exactly
-//! these, in this order."
+//! these, in this order." And a request for help, 11 bytes: "kind 9, tag 1 and then tag 2 with the season
+//! alone".
 
 use crate::answer::{ACCEPTED, MALFORMED};
 use crate::sheet::Declaration;
 
 /// Bytes of a message.
 pub const MESSAGE: usize = 36;
+
+/// Bytes of a request.
+pub const REQUEST: usize = 11;
 
 /// What a message says of its declaration.
 #[derive(Clone, Copy, Debug, PartialEq, Eq)]
@@ -30,7 +34,7 @@ impl Kind {
     }
 }
 
-/// The five things that a well-formed message carries.
+/// The five things that a message of kind 1 to 3 carries.
 #[derive(Clone, Copy, Debug, PartialEq, Eq)]
 pub struct Message {
     /// SEND, ECHO or READY.
@@ -46,7 +50,7 @@ pub struct Message {
 }
 
 impl Message {
-    /// The message that these bytes are. "Anything else is malformed."
+    /// The message of kind 1 to 3 that these bytes are.
     pub fn from_bytes(bytes: &[u8]) -> Option<Self> {
         let bytes: [u8; MESSAGE] = bytes.try_into().ok()?;
         let [1, 0, 1, kind, 2, 0, 6, y0, y1, y2, y3, sender, number, 3, 0, 20, declaration @ ..] =
@@ -80,6 +84,55 @@ impl Message {
         bytes[..head.len()].copy_from_slice(&head);
         bytes[head.len()..].copy_from_slice(&self.declaration);
         bytes
+    }
+}
+
+/// The bytes of a request in this season.
+pub fn request(season: u32) -> [u8; REQUEST] {
+    let [y0, y1, y2, y3] = season.to_be_bytes();
+    [1, 0, 1, 9, 2, 0, 4, y0, y1, y2, y3]
+}
+
+/// The season of the request that these bytes are.
+pub fn read_request(bytes: &[u8]) -> Option<u32> {
+    let [1, 0, 1, 9, 2, 0, 4, y0, y1, y2, y3] = *bytes else {
+        return None;
+    };
+    Some(u32::from_be_bytes([y0, y1, y2, y3]))
+}
+
+/// What well-formed bytes are.
+#[derive(Clone, Copy, Debug, PartialEq, Eq)]
+pub enum Form {
+    /// A message of kind 1 to 3, with its five things.
+    Message(Message),
+    /// A request, with its season.
+    Request(u32),
+}
+
+impl Form {
+    /// What these bytes are. "Anything else is malformed."
+    pub fn from_bytes(bytes: &[u8]) -> Option<Self> {
+        let request = || read_request(bytes).map(Form::Request);
+        Message::from_bytes(bytes)
+            .map(Form::Message)
+            .or_else(request)
+    }
+
+    /// The season that they name.
+    pub fn season(&self) -> u32 {
+        match self {
+            Form::Message(message) => message.season,
+            Form::Request(season) => *season,
+        }
+    }
+
+    /// The message of kind 1 to 3 that they are.
+    pub fn message(self) -> Option<Message> {
+        match self {
+            Form::Message(message) => Some(message),
+            Form::Request(_) => None,
+        }
     }
 }
 
@@ -118,19 +171,22 @@ pub fn write(kind: u8, season: u32, sender: u8, number: u8, declaration: &Declar
 pub struct ReadAnswer {
     /// 0 or 2.
     pub answer: u8,
-    /// The five things, at answer 0.
-    pub message: Option<Message>,
+    /// The message with its five things or the request with its season, at answer 0.
+    pub form: Option<Form>,
 }
 
-/// "Reading alone answers 2 or gives the same five things."
+impl ReadAnswer {
+    /// The message of kind 1 to 3 that was read.
+    pub fn message(&self) -> Option<Message> {
+        self.form?.message()
+    }
+}
+
+/// "Reading alone answers 2 or gives the same five things"; of a request the season.
 pub fn read(message: &[u8]) -> ReadAnswer {
-    let message = Message::from_bytes(message);
+    let form = Form::from_bytes(message);
     ReadAnswer {
-        answer: if message.is_some() {
-            ACCEPTED
-        } else {
-            MALFORMED
-        },
-        message,
+        answer: if form.is_some() { ACCEPTED } else { MALFORMED },
+        form,
     }
 }

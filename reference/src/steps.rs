@@ -1,12 +1,12 @@
-//! The steps: publishing, receiving, and the earliest waiting entry.
+//! The steps: publishing, receiving, a return, what was sent, and the earliest waiting entry.
 
 use crate::answer::{
-    ACCEPTED, ALREADY_ACCEPTED, ALREADY_PUBLISHED, MALFORMED, NOT_IN_BOOK, NOT_PLAUSIBLE,
-    NOT_THE_SENDER, NO_LEGAL_BOOK, OTHER_SEASON,
+    ACCEPTED, ALREADY_ACCEPTED, ALREADY_PUBLISHED, HELPED_ENOUGH, MALFORMED, NOT_IN_BOOK,
+    NOT_PLAUSIBLE, NOT_THE_SENDER, NO_LEGAL_BOOK, OTHER_SEASON,
 };
-use crate::book::{fill, holding, is_full, Entry, Header, Slot};
+use crate::book::{fill, held, holding, is_full, Entry, Header, Slot};
 use crate::card::Counts;
-use crate::message::{Kind, Message, MESSAGE};
+use crate::message::{request, Form, Kind, Message, MESSAGE, REQUEST};
 use crate::sheet::Declaration;
 
 /// What publishing and receiving give.
@@ -18,6 +18,8 @@ pub struct Outcome {
     pub message: Option<[u8; MESSAGE]>,
     /// The declaration delivered.
     pub delivery: Option<Declaration>,
+    /// A request was accepted: "a helper sends again its own messages, to the asker alone".
+    pub helps: bool,
 }
 
 impl Outcome {
@@ -27,6 +29,7 @@ impl Outcome {
             answer,
             message: None,
             delivery: None,
+            helps: false,
         }
     }
 }
@@ -39,9 +42,7 @@ pub fn publish(book: &mut [u8], number: u32, declaration: &Declaration) -> Outco
 fn try_publish(book: &mut [u8], number: u32, declaration: &Declaration) -> Result<Outcome, u8> {
     let header = Header::of_legal(book).ok_or(NO_LEGAL_BOOK)?;
     let number = u8::try_from(number).map_err(|_| NOT_IN_BOOK)?;
-    let published = header
-        .published(book, usize::from(number))
-        .ok_or(NOT_IN_BOOK)?;
+    let published = header.published_mut(book, number).ok_or(NOT_IN_BOOK)?;
     if !header.sheet.is_plausible(declaration) {
         return Err(NOT_PLAUSIBLE);
     }
@@ -59,24 +60,49 @@ fn try_publish(book: &mut [u8], number: u32, declaration: &Declaration) -> Resul
         answer: ACCEPTED,
         message: Some(send.to_bytes()),
         delivery: None,
+        helps: false,
     })
 }
 
-/// Receives one message that came from `house`. Answers 1 to 7 in order, or 0.
+/// Receives one message that came from `house`. Answers 1 to 7 in order, or 0; a request 1 to 4 and then
+/// 14, or 0.
 pub fn receive(book: &mut [u8], house: u32, message: &[u8]) -> Outcome {
     try_receive(book, house, message).unwrap_or_else(Outcome::refused)
 }
 
 fn try_receive(book: &mut [u8], house: u32, message: &[u8]) -> Result<Outcome, u8> {
     let header = Header::of_legal(book).ok_or(NO_LEGAL_BOOK)?;
-    let message = Message::from_bytes(message).ok_or(MALFORMED)?;
-    if message.season != header.season {
+    let form = Form::from_bytes(message).ok_or(MALFORMED)?;
+    if form.season() != header.season {
         return Err(OTHER_SEASON);
     }
     let house = usize::try_from(house).map_err(|_| NOT_IN_BOOK)?;
     if house >= header.n {
         return Err(NOT_IN_BOOK);
     }
+    match form {
+        Form::Message(message) => hear(&header, book, house, &message),
+        Form::Request(_) => help(&header, book, house),
+    }
+}
+
+/// "At most d times for each asker": counts the help, or answer 14.
+fn help(header: &Header, book: &mut [u8], asker: usize) -> Result<Outcome, u8> {
+    let helped = header.helped(book, asker).ok_or(NOT_IN_BOOK)?;
+    if *helped >= header.limit {
+        return Err(HELPED_ENOUGH);
+    }
+    *helped += 1;
+    Ok(Outcome {
+        answer: ACCEPTED,
+        message: None,
+        delivery: None,
+        helps: true,
+    })
+}
+
+/// A message of kind 1 to 3 of the book's season, from a house in the book: answers 4 to 7, or 0.
+fn hear(header: &Header, book: &mut [u8], house: usize, message: &Message) -> Result<Outcome, u8> {
     let entry = header
         .entry(book, message.number, message.sender)
         .ok_or(NOT_IN_BOOK)?;
@@ -86,11 +112,12 @@ fn try_receive(book: &mut [u8], house: u32, message: &[u8]) -> Result<Outcome, u
     if message.kind == Kind::Send && house != usize::from(message.sender) {
         return Err(NOT_THE_SENDER);
     }
-    let step = accept(entry, house, &message, Counts::of(header.n))?;
+    let step = accept(entry, house, message, header.counts)?;
     Ok(Outcome {
         answer: ACCEPTED,
         message: step.gives.map(|kind| message.as_kind(kind).to_bytes()),
         delivery: step.delivers.then_some(message.declaration),
+        helps: false,
     })
 }
 
@@ -143,6 +170,74 @@ fn ready(enough: bool, mark: &mut Slot, v: &Slot) -> Option<Kind> {
 /// How many houses vouch for this declaration and no other.
 fn vouchers(slots: &[Slot], v: &Slot) -> usize {
     slots.iter().filter(|slot| *slot == v).count()
+}
+
+/// What a return gives.
+#[derive(Clone, Copy, Debug, PartialEq, Eq)]
+pub struct Returned {
+    /// 0 or 1.
+    pub answer: u8,
+    /// The request, which goes to all n houses, its own included.
+    pub request: Option<[u8; REQUEST]>,
+}
+
+/// "On return a house sends again to all what it has sent and asks all for help": the request to ask by.
+pub fn come_back(book: &[u8]) -> Returned {
+    match Header::of_legal(book) {
+        Some(header) => Returned {
+            answer: ACCEPTED,
+            request: Some(request(header.season)),
+        },
+        None => Returned {
+            answer: NO_LEGAL_BOOK,
+            request: None,
+        },
+    }
+}
+
+/// What a house sent of one kind on one entry.
+#[derive(Clone, Copy, Debug, PartialEq, Eq)]
+pub struct SentAnswer {
+    /// The number of the answer.
+    pub answer: u8,
+    /// The message that it sent, or a plain none.
+    pub message: Option<[u8; MESSAGE]>,
+}
+
+/// What this house sent of this kind on the entry of this sender and number. Answers 1, 2, 4 in this order,
+/// or 0.
+pub fn sent(book: &[u8], kind: u8, sender: u32, number: u32) -> SentAnswer {
+    match try_sent(book, kind, sender, number) {
+        Ok(message) => SentAnswer {
+            answer: ACCEPTED,
+            message: message.map(|message| message.to_bytes()),
+        },
+        Err(answer) => SentAnswer {
+            answer,
+            message: None,
+        },
+    }
+}
+
+fn try_sent(book: &[u8], kind: u8, sender: u32, number: u32) -> Result<Option<Message>, u8> {
+    let header = Header::of_legal(book).ok_or(NO_LEGAL_BOOK)?;
+    let kind = Kind::of(kind).ok_or(MALFORMED)?;
+    let sender = u8::try_from(sender).map_err(|_| NOT_IN_BOOK)?;
+    let number = u8::try_from(number).map_err(|_| NOT_IN_BOOK)?;
+    let row = header.row(book, number, sender).ok_or(NOT_IN_BOOK)?;
+    let slot = match (kind, row) {
+        (Kind::Send, _) if sender == header.own => header.published(book, number),
+        (Kind::Echo, [send, ..]) => Some(send),
+        (Kind::Ready, [.., ready_sent, _]) => Some(ready_sent),
+        _ => None,
+    };
+    Ok(slot.and_then(held).map(|declaration| Message {
+        kind,
+        season: header.season,
+        sender,
+        number,
+        declaration,
+    }))
 }
 
 /// An entry with a SEND heard and nothing delivered.

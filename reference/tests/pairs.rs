@@ -9,6 +9,12 @@ fn receiving() {
 }
 
 #[test]
+fn asking() {
+    pairs::asking(&mut Reference);
+    pairs::nobody_to_help(&mut Reference);
+}
+
+#[test]
 fn publishing() {
     pairs::publishing(&mut Reference);
 }

@@ -12,13 +12,51 @@ fn the_card_is_its_formulas() {
             amplify: t + 1,
             deliver: 2 * t + 1,
         };
-        assert_eq!(Counts::of(n), counts, "n = {n}");
+        assert_eq!(Counts::of(n, 0), Some(counts), "n = {n}");
+    }
+}
+
+#[test]
+fn the_counts_for_n_and_f() {
+    for (n, f) in (0..=40).flat_map(|n| (0..=40).map(move |f| (n, f))) {
+        assert_eq!(Counts::of(n, f), rows::searched(n, f), "n = {n}, f = {f}");
+    }
+    assert_eq!(Counts::of(16, usize::MAX), None);
+    let last = Counts {
+        tolerated: 2,
+        quorum: 10,
+        amplify: 3,
+        deliver: 9,
+    };
+    assert_eq!(Counts::of(16, 4), Some(last));
+}
+
+#[test]
+fn the_honest_houses_that_are_up_are_enough() {
+    for (n, f, counts) in rows::all_counts() {
+        let up = usize::from(n) - counts.tolerated - usize::from(f);
+        assert!(
+            counts.quorum <= up && counts.deliver <= up,
+            "n = {n}, f = {f}"
+        );
+    }
+}
+
+#[test]
+fn the_counts_on_any_legal_book() {
+    for seed in 2026..2030 {
+        rows::thresholds(&mut Reference, seed);
     }
 }
 
 #[test]
 fn rows_1_to_3_and_10_to_12() {
     rows::card(&mut Reference);
+}
+
+#[test]
+fn ready_with_another_f() {
+    rows::another_f(&mut Reference);
 }
 
 #[test]

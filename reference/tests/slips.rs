@@ -5,7 +5,10 @@ use reference::testing::claims::Fault;
 use reference::testing::random::Random;
 use reference::testing::scheduler;
 use reference::testing::season::Rules;
-use reference::{Declaration, Library, Message, Outcome, ReadAnswer, Reference, Waiting, Written};
+use reference::{
+    Declaration, Library, Message, Outcome, ReadAnswer, Reference, Returned, SentAnswer, Waiting,
+    Written,
+};
 
 #[derive(Clone, Copy, Debug, PartialEq)]
 enum Slip {
@@ -57,7 +60,7 @@ impl Slipping {
                 outcome.message = outcome.message.filter(|_| self.silent);
                 self.silent = !self.silent;
             }
-            Slip::Scribbles if !accepted => book[29 + 20] ^= 1,
+            Slip::Scribbles if !accepted => book[31 + usize::from(book[0]) + 20] ^= 1,
             Slip::LosesReadyMark if accepted => clear(book, &message, 2),
             Slip::LosesDelivery if accepted => clear(book, &message, 1),
             Slip::ReadyOnSend => {
@@ -82,7 +85,7 @@ fn clear(book: &mut [u8], message: &Message, from_end: usize) {
     let [n, s] = [book[0], book[1]].map(usize::from);
     let entry = usize::from(message.number) * n + usize::from(message.sender);
     let slot = s + (entry + 1) * (2 * n + 3) - from_end;
-    book[29 + 21 * slot..][..21].fill(0);
+    book[31 + n + 21 * slot..][..21].fill(0);
 }
 
 impl Library for Slipping {
@@ -90,8 +93,18 @@ impl Library for Slipping {
         reference::length(n, s)
     }
 
-    fn open(&mut self, book: &mut [u8], n: u32, s: u32, own: u32, season: u32, sheet: &[u8]) -> u8 {
-        reference::open(book, n, s, own, season, sheet)
+    fn open(
+        &mut self,
+        book: &mut [u8],
+        n: u32,
+        s: u32,
+        own: u32,
+        f: u32,
+        d: u32,
+        season: u32,
+        sheet: &[u8],
+    ) -> u8 {
+        reference::open(book, n, s, own, f, d, season, sheet)
     }
 
     fn publish(&mut self, book: &mut [u8], number: u32, v: &Declaration) -> Outcome {
@@ -104,6 +117,14 @@ impl Library for Slipping {
         }
         let outcome = reference::receive(book, house, message);
         self.slips(book, message, outcome)
+    }
+
+    fn come_back(&mut self, book: &[u8]) -> Returned {
+        reference::come_back(book)
+    }
+
+    fn sent(&mut self, book: &[u8], kind: u8, sender: u32, number: u32) -> SentAnswer {
+        reference::sent(book, kind, sender, number)
     }
 
     fn waiting(&mut self, book: &[u8]) -> Waiting {

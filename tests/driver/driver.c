@@ -1,6 +1,6 @@
-// Makes the library's eight calls for a program at the other end of two pipes, until its input ends.
+// Makes the library's ten calls for a program at the other end of two pipes, until its input ends.
 //
-// A request is 45 bytes: the call (1), four numbers (4 each), a declaration (20), the lengths of the book and of
+// A question is 53 bytes: the call (1), six numbers (4 each), a declaration (20), the lengths of the book and of
 // the bytes (4 each); then the book, then the bytes, which are a sheet or a message. A reply is the call (1), how
 // many calls came before it (4), the length of the answer (1), the answer field by field, and then the book, the
 // bytes and the declaration as they are afterwards. Numbers are big-endian. What a call does not take is not used.
@@ -20,23 +20,27 @@ void _exit(int status);
 
 // The structs of the library. A bool stands as a byte here, so that the other end sees any byte that is left in it.
 typedef struct { u8 answer; u64 length; } gm_length_answer;
-typedef struct { u8 answer, gives, message[36], delivers, declaration[20]; } gm_outcome;
+typedef struct { u8 answer, gives, message[36], delivers, declaration[20], helps; } gm_outcome;
+typedef struct { u8 answer, request[11]; } gm_return_answer;
+typedef struct { u8 answer, gives, message[36]; } gm_sent_answer;
 typedef struct { u8 answer, message[36]; } gm_written;
 typedef struct { u8 answer, kind; u32 season; u8 sender, number, declaration[20]; } gm_read_answer;
 typedef struct { u8 answer, waits, number, sender; } gm_waiting_answer;
 
 gm_length_answer gm_length(u32 n, u32 s);
-u8 gm_open(u8 *book, u64 length, u32 n, u32 s, u32 own, u32 season, const u8 *sheet, u64 sheet_length);
+u8 gm_open(u8 *book, u64 length, u32 n, u32 s, u32 own, u32 f, u32 d, u32 season, const u8 *sheet, u64 sheet_length);
 gm_outcome gm_publish(u8 *book, u64 length, u32 number, const u8 *declaration);
 gm_outcome gm_receive(u8 *book, u64 length, u32 house, const u8 *message, u64 message_length);
+gm_return_answer gm_return(const u8 *book, u64 length);
+gm_sent_answer gm_sent(const u8 *book, u64 length, u8 kind, u32 sender, u32 number);
 gm_waiting_answer gm_waiting(const u8 *book, u64 length);
 u8 gm_judge(const u8 *sheet, u64 sheet_length, const u8 *declaration);
 gm_written gm_write(u8 kind, u32 season, u8 sender, u8 number, const u8 *declaration);
 gm_read_answer gm_read(const u8 *message, u64 message_length);
 
-enum { LENGTH, OPEN, PUBLISH, RECEIVE, WAITING, JUDGE, WRITE, READ, CALLS };
-enum { BAD_REQUEST = 2, BAD_PIPE = 3, NO_WALL = 4, WROTE_BEFORE = 5 };
-enum { HEAD = 45, DECLARATION = 20, PAINT = 0xA5 };
+enum { LENGTH, OPEN, PUBLISH, RECEIVE, RETURN, SENT, WAITING, JUDGE, WRITE, READ };
+enum { BAD_QUESTION = 2, BAD_PIPE = 3, NO_WALL = 4, WROTE_BEFORE = 5 };
+enum { NUMBERS = 6, DECLARATION = 20, LENGTHS = 1 + 4 * NUMBERS + DECLARATION, HEAD = LENGTHS + 8, PAINT = 0xA5 };
 
 // A room is as long as the largest page of any machine, so that its wall is one page or several.
 enum { ROOM = 65536, MARGIN = 64, ROOMS = 3 };
@@ -47,7 +51,7 @@ typedef struct { u8 *at; u64 length; } lent;
 
 static lent lend(int room, u64 length)
 {
-    if (length > ROOM - MARGIN) _exit(BAD_REQUEST);
+    if (length > ROOM - MARGIN) _exit(BAD_QUESTION);
     u8 *first = (u8 *)(((u64)ground + ROOM - 1) / ROOM * ROOM);
     lent l = { first + (2 * room + 1) * ROOM - length, length };
     memset(l.at - MARGIN, PAINT, MARGIN);
@@ -66,7 +70,7 @@ static void check_margin(lent l)
         if (l.at[-i] != PAINT) _exit(WROTE_BEFORE);
 }
 
-// Takes so many bytes. Only before a request may the input end, and then 0 is given.
+// Takes so many bytes. Only before a question may the input end, and then 0 is given.
 static int take(u8 *to, u64 length, int may_end)
 {
     for (u64 had = 0; had < length;) {
@@ -120,6 +124,20 @@ static void put_outcome(gm_outcome o)
     put(o.message, sizeof o.message);
     put_number(o.delivers, 1);
     put(o.declaration, sizeof o.declaration);
+    put_number(o.helps, 1);
+}
+
+static void put_return(gm_return_answer a)
+{
+    put_number(a.answer, 1);
+    put(a.request, sizeof a.request);
+}
+
+static void put_sent(gm_sent_answer a)
+{
+    put_number(a.answer, 1);
+    put_number(a.gives, 1);
+    put(a.message, sizeof a.message);
 }
 
 static void put_length(gm_length_answer a)
@@ -153,18 +171,20 @@ static void put_read(gm_read_answer a)
 }
 
 // Makes one call and puts its answer.
-static void make(u8 call, const u32 x[4], u8 *book, u64 book_length, const u8 *bytes, u64 length, const u8 *declaration)
+static void make(u8 call, const u32 x[NUMBERS], u8 *book, u64 book_length, const u8 *bytes, u64 length, const u8 *declaration)
 {
     switch (call) {
     case LENGTH: put_length(gm_length(x[0], x[1])); return;
-    case OPEN: put_number(gm_open(book, book_length, x[0], x[1], x[2], x[3], bytes, length), 1); return;
+    case OPEN: put_number(gm_open(book, book_length, x[0], x[1], x[2], x[3], x[4], x[5], bytes, length), 1); return;
     case PUBLISH: put_outcome(gm_publish(book, book_length, x[0], declaration)); return;
     case RECEIVE: put_outcome(gm_receive(book, book_length, x[0], bytes, length)); return;
+    case RETURN: put_return(gm_return(book, book_length)); return;
+    case SENT: put_sent(gm_sent(book, book_length, x[0], x[1], x[2])); return;
     case WAITING: put_waiting(gm_waiting(book, book_length)); return;
     case JUDGE: put_number(gm_judge(bytes, length, declaration), 1); return;
     case WRITE: put_written(gm_write(x[0], x[1], x[2], x[3], declaration)); return;
     case READ: put_read(gm_read(bytes, length)); return;
-    default: _exit(BAD_REQUEST);
+    default: _exit(BAD_QUESTION);
     }
 }
 
@@ -173,12 +193,12 @@ int main(void)
     build_walls();
     u8 head[HEAD];
     for (u32 calls = 0; take(head, HEAD, 1); calls++) {
-        u32 x[4];
-        for (int i = 0; i < 4; i++) x[i] = number_at(head + 1 + 4 * i);
+        u32 x[NUMBERS];
+        for (int i = 0; i < NUMBERS; i++) x[i] = number_at(head + 1 + 4 * i);
         lent declaration = lend(0, DECLARATION);
-        lent book = lend(1, number_at(head + 37));
-        lent bytes = lend(2, number_at(head + 41));
-        memcpy(declaration.at, head + 17, DECLARATION);
+        lent book = lend(1, number_at(head + LENGTHS));
+        lent bytes = lend(2, number_at(head + LENGTHS + 4));
+        memcpy(declaration.at, head + LENGTHS - DECLARATION, DECLARATION);
         take(book.at, book.length, 0);
         take(bytes.at, bytes.length, 0);
 

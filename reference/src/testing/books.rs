@@ -1,38 +1,65 @@
 //! Which bytes are a legal book, and the earliest waiting entry of any legal book.
 
 use super::forms::{
-    fresh_book, honey, message, open_sheet, random_book, random_declaration, random_pool, SEASON,
+    fresh, honey, message, open_sheet, random_book, random_declaration, random_pool, request_of,
+    slots_from, SEASON,
 };
 use super::random::Random;
 use crate::Library;
 
-/// All three calls that take a book say that this is none, and leave it.
+/// All calls that take a book say that this is none, and leave it.
 fn illegal(library: &mut impl Library, book: &[u8], why: &str) {
     let declaration = honey(77, 40, 800);
     let mut lent = book.to_vec();
     let publish = library.publish(&mut lent, 0, &declaration);
     let send = message(1, SEASON, 0, 0, &declaration);
     let receive = library.receive(&mut lent, 0, &send);
-    for outcome in [publish, receive] {
+    let request = library.receive(&mut lent, 0, &request_of(SEASON));
+    for outcome in [publish, receive, request] {
         assert_eq!(outcome.answer, 1, "a book with {why}");
         assert_eq!(
-            (outcome.message, outcome.delivery),
-            (None, None),
+            (outcome.message, outcome.delivery, outcome.helps),
+            (None, None, false),
             "a book with {why}"
         );
     }
+    let returned = library.come_back(&lent);
+    let sent = library.sent(&lent, 2, 0, 0);
     let waiting = library.waiting(&lent);
     assert_eq!(
-        (waiting.answer, waiting.entry),
-        (1, None),
+        [returned.answer, sent.answer, waiting.answer],
+        [1; 3],
+        "a book with {why}"
+    );
+    assert_eq!(
+        (returned.request, sent.message, waiting.entry),
+        (None, None, None),
         "a book with {why}"
     );
     assert!(lent == book, "a book with {why} is written to");
 }
 
+/// All calls that take a book take this one, whatever they answer.
+fn legal(library: &mut impl Library, book: &[u8], why: &str) {
+    let declaration = honey(77, 40, 800);
+    let send = message(1, SEASON, 0, 0, &declaration);
+    let answers = [
+        library.publish(&mut book.to_vec(), 0, &declaration).answer,
+        library.receive(&mut book.to_vec(), 0, &send).answer,
+        library
+            .receive(&mut book.to_vec(), 0, &request_of(SEASON))
+            .answer,
+        library.come_back(book).answer,
+        library.sent(book, 2, 0, 0).answer,
+        library.waiting(book).answer,
+    ];
+    assert!(!answers.contains(&1), "a book with {why}: {answers:?}");
+    assert_eq!(answers[3..], [0; 3], "a book with {why}");
+}
+
 /// One byte that makes a legal book none.
 pub fn illegal_books(library: &mut impl Library) {
-    let fresh = fresh_book(4, 2, 1, SEASON, &open_sheet());
+    let fresh = fresh([4, 2, 1, 1, 3], SEASON, &open_sheet());
     let changes = [
         (0, 0, "no houses"),
         (0, 17, "17 houses"),
@@ -47,19 +74,28 @@ pub fn illegal_books(library: &mut impl Library) {
         (19, 1, "a high limit at an open gate"),
         (20, 3, "an unknown gate"),
         (28, 1, "a high limit at an open gate"),
+        (29, 2, "2f = n"),
+        (29, 5, "f = 5"),
+        (29, 255, "f = 255"),
+        (30, 9, "d = 9"),
+        (30, 255, "d = 255"),
+        (31, 4, "the first asker helped past d"),
+        (32, 4, "the own house helped past d"),
+        (34, 4, "the last asker helped past d"),
+        (34, 255, "the last asker helped past d"),
     ];
     for (place, byte, why) in changes {
         let mut book = fresh.clone();
         book[place] = byte;
         illegal(library, &book, why);
     }
-    for place in 29..fresh.len() {
+    for place in slots_from(4)..fresh.len() {
         let mut book = fresh.clone();
-        let presence = (place - 29) % 21 == 0;
+        let presence = (place - slots_from(4)).is_multiple_of(21);
         book[place] = if presence { 2 } else { 1 };
         illegal(library, &book, "a slot in another form");
     }
-    for length in [0, 1, 28, 29, fresh.len() - 21, fresh.len() - 1] {
+    for length in [0, 1, 28, 29, 31, 35, fresh.len() - 21, fresh.len() - 1] {
         illegal(library, &fresh[..length], "bytes missing");
     }
     for more in [1, 21, 40_000] {
@@ -67,6 +103,68 @@ pub fn illegal_books(library: &mut impl Library) {
         book.resize(fresh.len() + more, 0);
         illegal(library, &book, "bytes too many");
     }
+}
+
+/// What a legal book asks of f, d and the help counts: f is 0 to 4 with 2f below n, d is 0 to 8, and no
+/// asker was helped more than d times.
+fn asks_of_help(book: &[u8]) -> bool {
+    let [n, f, d] = [book[0], book[29], book[30]].map(u32::from);
+    let counts = &book[31..slots_from(book[0])];
+    f <= 4 && 2 * f < n && d <= 8 && counts.iter().all(|helped| u32::from(*helped) <= d)
+}
+
+/// Both sides of it: every f and d that a byte holds, counts at d and one above, and every bit of these
+/// bytes.
+pub fn helped_and_down(library: &mut impl Library, seed: u64) {
+    let mut random = Random::new(seed);
+    let mut found = [0usize; 2];
+    let mut check = |book: &[u8], why: &str| {
+        let is_legal = asks_of_help(book);
+        found[usize::from(is_legal)] += 1;
+        match is_legal {
+            true => legal(library, book, why),
+            false => illegal(library, book, why),
+        }
+    };
+    for n in 1..=16 {
+        let fresh = fresh([n, 1, n - 1, 0, 8], SEASON, &open_sheet());
+        let near = [n / 2, n.div_ceil(2), n - 1, n, n + 1, 16, 32, 64, 128, 255];
+        for f in (0..=9).chain(near) {
+            let mut book = fresh.clone();
+            book[29] = f;
+            check(&book, &format!("f = {f} of n = {n}"));
+        }
+        for (asker, d) in (0..n).flat_map(|asker| (0..=8).map(move |d| (asker, d))) {
+            if ![0, n / 2, n - 1].contains(&asker) {
+                continue;
+            }
+            let mut book = fresh.clone();
+            book[30] = d;
+            for helped in [d, d + 1] {
+                book[31 + usize::from(asker)] = helped;
+                check(&book, &format!("{asker} helped {helped} times, d = {d}"));
+            }
+        }
+    }
+    let mut book = fresh([5, 1, 3, 2, 5], SEASON, &open_sheet());
+    for byte in 0..=255 {
+        for place in [29, 30] {
+            let mut book = book.clone();
+            book[place] = byte;
+            check(&book, &format!("byte {place} at {byte}"));
+        }
+    }
+    for _ in 0..4 {
+        for helped in &mut book[31..36] {
+            *helped = random.below(6) as u8;
+        }
+        for (place, bit) in (29..36).flat_map(|place| (0..8).map(move |bit| (place, bit))) {
+            let mut book = book.clone();
+            book[place] ^= 1 << bit;
+            check(&book, &format!("bit {bit} of byte {place} changed"));
+        }
+    }
+    assert!(found.iter().all(|&count| count > 100), "both: {found:?}");
 }
 
 /// "Lowest number first and then lowest sender, with a SEND heard and nothing delivered; or a plain none."
@@ -82,12 +180,12 @@ pub fn waiting(library: &mut impl Library, seed: u64, books: usize) {
         if random.chance(1, 2) {
             for entry in 0..n * s {
                 if random.chance(7, 8) {
-                    let at = 29 + 21 * (s + entry * size);
+                    let at = slots_from(book[0]) + 21 * (s + entry * size);
                     book[at..at + 21].fill(0);
                 }
             }
         }
-        let full = |slot: usize| book[29 + 21 * slot] == 1;
+        let full = |slot: usize| book[slots_from(book[0]) + 21 * slot] == 1;
         let mut expected = None;
         'search: for number in 0..s {
             for sender in 0..n {
@@ -115,7 +213,7 @@ pub fn waiting(library: &mut impl Library, seed: u64, books: usize) {
 pub fn noise(library: &mut impl Library, seed: u64, calls: usize) {
     let mut random = Random::new(seed);
     for _ in 0..calls {
-        let lengths = [0, 1, 28, 29, 30, 50, 155, 1_000].map(|most| random.below(most + 1));
+        let lengths = [0, 1, 28, 29, 31, 50, 158, 1_000].map(|most| random.below(most + 1));
         let length = random.pick(&lengths);
         let mut book = random.bytes(length);
         let head = [1 + random.below(3) as u8, 1, 0];
@@ -133,10 +231,15 @@ pub fn noise(library: &mut impl Library, seed: u64, calls: usize) {
                 .publish(&mut book, random.word(), &declaration)
                 .answer,
             library.receive(&mut book, random.word(), &bytes).answer,
+            library.come_back(&book).answer,
+            library
+                .sent(&book, random.byte(), random.word(), random.word())
+                .answer,
             library.waiting(&book).answer,
         ];
-        assert_eq!(answers, [1; 3], "noise is no legal book");
-        let opened = library.open(&mut book, 4, random.word(), 0, random.word(), &bytes);
+        assert_eq!(answers, [1; 5], "noise is no legal book");
+        let [s, f, d, season] = [0; 4].map(|_| random.word());
+        let opened = library.open(&mut book, 4, s, 0, f, d, season, &bytes);
         assert!(opened != 0 && book == before, "noise is no legal sheet");
         assert_eq!(
             library.judge(&bytes, &declaration),

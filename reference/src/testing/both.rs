@@ -1,6 +1,6 @@
-//! Two libraries side by side: every answer, message, delivery and byte of the book is compared.
+//! Two libraries side by side: every answer, all that it carries and every byte of the book is compared.
 
-use crate::{Declaration, Library, Outcome, ReadAnswer, Waiting, Written};
+use crate::{Declaration, Library, Outcome, ReadAnswer, Returned, SentAnswer, Waiting, Written};
 use std::fmt::Debug;
 
 /// Makes each call on both libraries, and panics where they differ. Any check that drives one library
@@ -29,10 +29,20 @@ impl<A: Library, B: Library> Library for Both<A, B> {
         same("length", self.first.length(n, s), self.second.length(n, s))
     }
 
-    fn open(&mut self, book: &mut [u8], n: u32, s: u32, own: u32, season: u32, sheet: &[u8]) -> u8 {
+    fn open(
+        &mut self,
+        book: &mut [u8],
+        n: u32,
+        s: u32,
+        own: u32,
+        f: u32,
+        d: u32,
+        season: u32,
+        sheet: &[u8],
+    ) -> u8 {
         let mut other = book.to_vec();
-        let first = self.first.open(book, n, s, own, season, sheet);
-        let second = self.second.open(&mut other, n, s, own, season, sheet);
+        let first = self.first.open(book, n, s, own, f, d, season, sheet);
+        let second = self.second.open(&mut other, n, s, own, f, d, season, sheet);
         same_book("open", book, &other);
         same("open", first, second)
     }
@@ -51,6 +61,17 @@ impl<A: Library, B: Library> Library for Both<A, B> {
         let second = self.second.receive(&mut other, house, message);
         same_book("receive", book, &other);
         same("receive", first, second)
+    }
+
+    fn come_back(&mut self, book: &[u8]) -> Returned {
+        let first = self.first.come_back(book);
+        same("come_back", first, self.second.come_back(book))
+    }
+
+    fn sent(&mut self, book: &[u8], kind: u8, sender: u32, number: u32) -> SentAnswer {
+        let first = self.first.sent(book, kind, sender, number);
+        let second = self.second.sent(book, kind, sender, number);
+        same("sent", first, second)
     }
 
     fn waiting(&mut self, book: &[u8]) -> Waiting {

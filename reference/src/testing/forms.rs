@@ -92,15 +92,34 @@ pub fn message(kind: u8, season: u32, sender: u8, number: u8, v: &Declaration) -
     bytes
 }
 
-/// A freshly opened book, by the layout: the header, and empty slots.
+/// The bytes of a request in this season.
+pub fn request_of(season: u32) -> [u8; 11] {
+    let mut bytes = [1, 0, 1, 9, 2, 0, 4, 0, 0, 0, 0];
+    bytes[7..].copy_from_slice(&season.to_be_bytes());
+    bytes
+}
+
+/// A freshly opened book with f and d at zero.
 pub fn fresh_book(n: u8, s: u8, own: u8, season: u32, sheet: &[u8; SHEET]) -> Vec<u8> {
+    fresh([n, s, own, 0, 0], season, sheet)
+}
+
+/// A freshly opened book with this n, S, own number, f and d, by the layout: the header, nobody helped, and
+/// empty slots.
+pub fn fresh([n, s, own, f, d]: [u8; 5], season: u32, sheet: &[u8; SHEET]) -> Vec<u8> {
     let (houses, numbers) = (usize::from(n), usize::from(s));
     let slots = numbers + numbers * houses * (2 * houses + 3);
     let mut book = vec![n, s, own];
     book.extend(season.to_be_bytes());
     book.extend(sheet);
-    book.resize(29 + 21 * slots, 0);
+    book.extend([f, d]);
+    book.resize(slots_from(n) + 21 * slots, 0);
     book
+}
+
+/// Where the slots begin in a book of so many houses: behind the header and the help counts.
+pub fn slots_from(n: u8) -> usize {
+    31 + usize::from(n)
 }
 
 /// A number below `bound`, or at times one that is not.
@@ -165,7 +184,37 @@ pub fn random_sheet(random: &mut Random) -> [u8; SHEET] {
     sheet(cap, gates[0], gates[1])
 }
 
-/// A legal book that no run need ever reach: any slot is full with any 20 bytes, often a few of a pool.
+/// An f that fits so many houses, often the largest.
+pub fn random_down(random: &mut Random, n: u8) -> u8 {
+    let most = (n - 1) / 2;
+    match random.below(3) {
+        0 => most.min(4),
+        _ => random.below(usize::from(most.min(4)) + 1) as u8,
+    }
+}
+
+/// How often an asker was helped: at most d times, and often d, one less or never.
+pub fn random_helped(random: &mut Random, d: u8) -> u8 {
+    match random.below(4) {
+        0 => 0,
+        1 => d.saturating_sub(1),
+        2 => d,
+        _ => random.below(usize::from(d) + 1) as u8,
+    }
+}
+
+/// Draws the recovery limit and all help counts of a book anew.
+pub fn redraw_helped(random: &mut Random, book: &mut [u8]) {
+    let d = random.below(9) as u8;
+    let from = slots_from(book[0]);
+    book[30] = d;
+    for helped in &mut book[31..from] {
+        *helped = random_helped(random, d);
+    }
+}
+
+/// A legal book that no run need ever reach: f is any that fits, d and the help counts are any, and any
+/// slot is full with any 20 bytes, often a few of a pool.
 pub fn random_book(random: &mut Random, pool: &[Declaration]) -> Vec<u8> {
     let n = match random.below(4) {
         0 => 1 + random.below(16),
@@ -174,9 +223,11 @@ pub fn random_book(random: &mut Random, pool: &[Declaration]) -> Vec<u8> {
     let s = 1 + random.below(4) as u8;
     let own = random.below(usize::from(n)) as u8;
     let season = random.pick(&[SEASON, 0, u32::MAX]);
-    let mut book = fresh_book(n, s, own, season, &random_sheet(random));
+    let f = random_down(random, n);
+    let mut book = fresh([n, s, own, f, 0], season, &random_sheet(random));
+    redraw_helped(random, &mut book);
     let full = random.below(9);
-    for slot in book[29..].chunks_exact_mut(21) {
+    for slot in book[slots_from(n)..].chunks_exact_mut(21) {
         if random.chance(full, 8) {
             let declaration = match random.below(8) {
                 0 => random.bytes(20),

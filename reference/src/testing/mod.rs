@@ -1,4 +1,4 @@
-//! Checks of any library that has the eight calls: each takes the library, panics with a plain sentence
+//! Checks of any library that has the ten calls: each takes the library, panics with a plain sentence
 //! where an answer is not document 01's, and prints its seed when it does.
 
 pub mod books;
@@ -10,6 +10,8 @@ pub mod pairs;
 pub mod random;
 pub mod readings;
 pub mod refusals;
+pub mod requests;
+pub mod returns;
 pub mod rows;
 pub mod scheduler;
 pub mod season;

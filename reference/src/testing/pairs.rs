@@ -1,6 +1,7 @@
-//! "Where several apply, the first in the call's order is given": each pair of errors that can occur at once.
+//! "Where several apply, the first in the call's order is given": each pair of errors that can occur at
+//! once.
 
-use super::forms::{fresh_book, honey, message, open_sheet, SEASON};
+use super::forms::{fresh, honey, message, open_sheet, request_of, slots_from, SEASON};
 use crate::{Library, Outcome};
 
 /// A receiving with errors to be. As it starts it is accepted.
@@ -57,12 +58,13 @@ const RECEIVING_PAIRS: [(u8, u8); 15] = [
 ];
 
 /// A legal book of four houses that heard, on number 0 of sender 2, its SEND, house 0's ECHO and house
-/// 3's READY, and that published at number 0.
+/// 3's READY, that published at number 0, and that helped house 3 as often as it may and the others less.
 fn book() -> Vec<u8> {
-    let mut book = fresh_book(4, 2, 1, SEASON, &open_sheet());
+    let mut book = fresh([4, 2, 1, 1, 3], SEASON, &open_sheet());
+    book[31..slots_from(4)].copy_from_slice(&[0, 1, 2, 3]);
     let entry = 2 + 2 * 11;
     for slot in [0, entry, entry + 1, entry + 1 + 4 + 3] {
-        let slot = &mut book[29 + 21 * slot..][..21];
+        let slot = &mut book[slots_from(4) + 21 * slot..][..21];
         slot[0] = 1;
         slot[1..].copy_from_slice(&honey(77, 40, 800));
     }
@@ -86,7 +88,7 @@ fn received(library: &mut impl Library, errors: &[&Error<Receiving>]) -> u8 {
     }
     let mut lent = book();
     if call.damaged {
-        lent[29] = 2;
+        lent[slots_from(4)] = 2;
     }
     let before = lent.clone();
     let declaration = honey(77, 40, call.kilograms);
@@ -107,9 +109,10 @@ fn received(library: &mut impl Library, errors: &[&Error<Receiving>]) -> u8 {
     outcome.answer
 }
 
-/// Accepted; or the book the same, no message and no delivery.
+/// Accepted; or the book the same, no message, no delivery and no help.
 fn clean(outcome: &Outcome, same: bool) -> bool {
-    outcome.answer == 0 || (same && outcome.message.is_none() && outcome.delivery.is_none())
+    let carries = outcome.message.is_some() || outcome.delivery.is_some() || outcome.helps;
+    outcome.answer == 0 || (same && !carries)
 }
 
 /// Receiving: 1 to 7 in order.
@@ -136,6 +139,103 @@ pub fn receiving(library: &mut impl Library) {
         6,
         "another's SEND after the SEND"
     );
+}
+
+/// A request with errors to be. As it starts it is accepted.
+struct Asking {
+    damaged: bool,
+    bytes: Vec<u8>,
+    asker: u32,
+}
+
+/// The errors of a request.
+const ASKING: [Error<Asking>; 12] = [
+    (14, "helped enough", |a| a.asker = 3),
+    (4, "house", |a| a.asker = 4),
+    (4, "house, the next", |a| a.asker = 5),
+    (4, "house, beyond a byte", |a| a.asker = 258),
+    (4, "house, the largest", |a| a.asker = u32::MAX),
+    (3, "season", |a| a.bytes[10] ^= 1),
+    (3, "season, another byte", |a| a.bytes[7] ^= 0x80),
+    (2, "cut", |a| a.bytes.truncate(10)),
+    (2, "a byte more", |a| a.bytes.push(0)),
+    (2, "kind", |a| a.bytes[3] = 3),
+    (2, "a message's length", |a| a.bytes.resize(36, 0)),
+    (1, "book", |a| a.damaged = true),
+];
+
+/// The pairs of a request that can occur: 4 and 14 cannot, for there is no count of a house that is not
+/// there.
+const ASKING_PAIRS: [(u8, u8); 9] = [
+    (1, 2),
+    (1, 3),
+    (1, 4),
+    (1, 14),
+    (2, 3),
+    (2, 4),
+    (2, 14),
+    (3, 4),
+    (3, 14),
+];
+
+/// Makes this request with these errors, and gives its answer.
+fn asked(library: &mut impl Library, errors: &[&Error<Asking>]) -> u8 {
+    let mut call = Asking {
+        damaged: false,
+        bytes: request_of(SEASON).to_vec(),
+        asker: 2,
+    };
+    for (_, _, error) in errors {
+        error(&mut call);
+    }
+    let mut lent = book();
+    if call.damaged {
+        lent[31] = 4;
+    }
+    let before = lent.clone();
+    let outcome = library.receive(&mut lent, call.asker, &call.bytes);
+    assert!(
+        clean(&outcome, before == lent),
+        "a refusal by {} that is not clean",
+        outcome.answer
+    );
+    outcome.answer
+}
+
+/// A request: 1 to 4 in order, and then 14.
+pub fn asking(library: &mut impl Library) {
+    assert_eq!(asked(library, &[]), 0, "a request with no error");
+    for error in &ASKING {
+        assert_eq!(asked(library, &[error]), error.0, "a request: {}", error.1);
+    }
+    let of = |number| ASKING.iter().filter(move |error| error.0 == number);
+    for (first, second) in ASKING_PAIRS {
+        for (a, b) in of(first).flat_map(|a| of(second).map(move |b| (a, b))) {
+            let answer = asked(library, &[b, a]);
+            assert_eq!(answer, first, "a request: {} and {}", a.1, b.1);
+        }
+    }
+    for (a, b) in of(3).flat_map(|a| of(4).chain(of(14)).map(move |b| (a, b))) {
+        for (c, book) in of(2).flat_map(|c| of(1).map(move |book| (c, book))) {
+            let answers = [&[b, a, c][..], &[b, a, book], &[b, a, c, book]];
+            let answers = answers.map(|errors| asked(library, errors));
+            assert_eq!(answers, [2, 1, 1], "a request: {}, {}, {}", a.1, b.1, c.1);
+        }
+    }
+}
+
+/// Where all were helped d times: 14 to each house of the book, and 4 to any other.
+pub fn nobody_to_help(library: &mut impl Library) {
+    for d in 0..=8 {
+        let mut lent = fresh([4, 1, 0, 0, d], SEASON, &open_sheet());
+        lent[31..slots_from(4)].fill(d);
+        let before = lent.clone();
+        for (house, answer) in [(0, 14), (3, 14), (4, 4), (5, 4), (256, 4), (u32::MAX, 4)] {
+            let outcome = library.receive(&mut lent, house, &request_of(SEASON));
+            assert_eq!(outcome.answer, answer, "house {house}, d = {d}");
+            assert!(clean(&outcome, before == lent), "house {house}, d = {d}");
+        }
+    }
 }
 
 /// Publishing: 1, 4, 5, 8.
@@ -176,45 +276,64 @@ pub fn opening(library: &mut impl Library) {
     let good = open_sheet();
     let mut bad = good;
     bad[4] = 3;
-    let length = fresh_book(4, 2, 1, SEASON, &good).len();
-    let cases = [
-        ("no error", [4, 2, 1], &good[..], length, 0),
-        ("9 by n", [0, 2, 0], &good, length, 9),
-        ("9 by n", [17, 2, 1], &good, length, 9),
-        ("9 by n, beyond a byte", [260, 2, 1], &good, length, 9),
-        ("9 by S", [4, 0, 1], &good, length, 9),
-        ("9 by S", [4, 5, 1], &good, length, 9),
-        ("9 by S, beyond a byte", [4, 258, 1], &good, length, 9),
-        ("9 by own number", [4, 2, 4], &good, length, 9),
-        (
-            "9 by own number, beyond a byte",
-            [4, 2, 257],
-            &good,
-            length,
-            9,
-        ),
-        ("10", [4, 2, 1], &bad, length, 10),
-        ("10 by length", [4, 2, 1], &good[..21], length, 10),
-        ("11", [4, 2, 1], &good, length - 1, 11),
-        ("11", [4, 2, 1], &good, length + 1, 11),
-        ("11", [4, 2, 1], &good, 0, 11),
-        ("9+10 by n", [17, 2, 1], &bad, length, 9),
-        ("9+10 by S", [4, 5, 1], &bad, length, 9),
-        ("9+10 by own number", [4, 2, 4], &bad, length, 9),
-        ("10+11", [4, 2, 1], &bad, length - 1, 10),
-        ("9+11 by own number", [4, 2, 4], &good, length + 1, 9),
-        ("9+10+11", [4, 2, 4], &bad, length + 1, 9),
+    let numbers = [4, 2, 1, 1, 3];
+    let length = fresh(numbers, SEASON, &good).len();
+    let numbers = numbers.map(u32::from);
+    let with = |place: usize, number: u32| {
+        let mut numbers = numbers;
+        numbers[place] = number;
+        numbers
+    };
+    let not_allowed = [
+        ("n", with(0, 0)),
+        ("n", with(0, 17)),
+        ("n, beyond a byte", with(0, 260)),
+        ("S", with(1, 0)),
+        ("S", with(1, 5)),
+        ("S, beyond a byte", with(1, 258)),
+        ("own number", with(2, 4)),
+        ("own number, beyond a byte", with(2, 257)),
+        ("f, 2f = n", with(3, 2)),
+        ("f, 2f > n", with(3, 3)),
+        ("f", with(3, 5)),
+        ("f, beyond a byte", with(3, 257)),
+        ("f, doubled beyond a word", with(3, (1 << 31) + 1)),
+        ("d", with(4, 9)),
+        ("d, beyond a byte", with(4, 259)),
+        ("d, the largest", with(4, u32::MAX)),
     ];
-    for (name, [n, s, own], sheet, length, answer) in cases {
-        let mut lent = vec![0xEE; length];
-        assert_eq!(
-            library.open(&mut lent, n, s, own, SEASON, sheet),
-            answer,
-            "opening: {name}"
-        );
-        let same = lent.iter().all(|&byte| byte == 0xEE);
-        assert_eq!(same, answer != 0, "opening: {name}: the buffer");
+    let others = [
+        ("no error", &good[..], length, 0),
+        ("10", &bad, length, 10),
+        ("10 by length", &good[..21], length, 10),
+        ("11, one less", &good, length - 1, 11),
+        ("11, one more", &good, length + 1, 11),
+        ("11, none", &good, 0, 11),
+        ("10+11", &bad, length - 1, 10),
+    ];
+    for (name, sheet, buffer, answer) in others {
+        opens(library, numbers, sheet, buffer, answer, name);
+        for (by, numbers) in not_allowed {
+            let name = format!("9 by {by}, and {name}");
+            opens(library, numbers, sheet, buffer, 9, &name);
+        }
     }
+}
+
+/// Opens in a buffer of this length: it is written to at answer 0 alone.
+fn opens(
+    library: &mut impl Library,
+    [n, s, own, f, d]: [u32; 5],
+    sheet: &[u8],
+    buffer: usize,
+    answer: u8,
+    name: &str,
+) {
+    let mut lent = vec![0xEE; buffer];
+    let opened = library.open(&mut lent, n, s, own, f, d, SEASON, sheet);
+    assert_eq!(opened, answer, "opening: {name}");
+    let same = lent.iter().all(|&byte| byte == 0xEE);
+    assert_eq!(same, answer != 0, "opening: {name}: the buffer");
 }
 
 /// Judging: 10, then 5.

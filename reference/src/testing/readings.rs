@@ -1,7 +1,7 @@
 //! Judging at the edges: kilograms as exact numbers, readings and limits as floats.
 
 use super::forms::{
-    declaration, fresh_book, honey, message, open_sheet, sheet, EDGE_READINGS, OPEN, SEASON,
+    declaration, fresh, fresh_book, honey, message, open_sheet, sheet, EDGE_READINGS, OPEN, SEASON,
 };
 use crate::{Gate, Kind, Library};
 
@@ -179,7 +179,7 @@ fn sheet_is(library: &mut impl Library, bytes: &[u8], legal: bool) {
     let judged = library.judge(bytes, &declaration(0, 0, 0, USUAL));
     assert_eq!(judged != 10, legal, "judging by the sheet {bytes:?}");
     let mut book = fresh_book(1, 1, 0, SEASON, &open_sheet());
-    let opened = library.open(&mut book, 1, 1, 0, SEASON, bytes);
+    let opened = library.open(&mut book, 1, 1, 0, 0, 0, SEASON, bytes);
     assert_eq!(
         opened,
         if legal { 0 } else { 10 },
@@ -208,38 +208,30 @@ pub fn counted_apart(library: &mut impl Library) {
     }
 }
 
-/// At n = 4: two vouch for one and one for the other, and only another voucher for the first makes three.
+/// Vouchers for one declaration and one for the other between them: only another voucher for the first
+/// makes enough. At n = 4 with f at 0, where 3 make a READY of ECHOes and a delivery; and at n = 6 with
+/// f at 1, where 4 do. 2 READYs make a READY at both.
 fn apart(library: &mut impl Library, v: &[u8; 20], other: &[u8; 20]) {
-    let ready = Some(message(3, SEASON, 0, 0, v));
-    let calls = [
-        (
-            Kind::Echo,
-            [(0, v), (1, v), (2, other), (3, v)],
-            [None, None, None, ready],
-            false,
-        ),
-        (
-            Kind::Ready,
-            [(0, v), (1, other), (2, v), (3, v)],
-            [None, None, ready, None],
-            true,
-        ),
-    ];
-    for (kind, vouchers, given, delivers) in calls {
-        let mut book = fresh_book(4, 1, 0, SEASON, &open_sheet());
-        for ((house, declaration), given) in vouchers.into_iter().zip(given) {
-            let outcome = library.receive(
-                &mut book,
-                house,
-                &message(kind as u8, SEASON, 0, 0, declaration),
-            );
-            assert_eq!(
-                (outcome.answer, outcome.message),
-                (0, given),
-                "{kind:?} from {house}"
-            );
-            let expected = (delivers && house == 3).then_some(*v);
-            assert_eq!(outcome.delivery, expected, "{kind:?} from {house}");
+    for (n, f, enough) in [(4, 0, 3), (6, 1, 4)] {
+        for kind in [Kind::Echo, Kind::Ready] {
+            let mut book = fresh([n, 1, 0, f, 2], SEASON, &open_sheet());
+            let mut vouchers = 0;
+            for house in 0..=enough {
+                let declaration = if house == 1 { other } else { v };
+                let bytes = message(kind as u8, SEASON, 0, 0, declaration);
+                let outcome = library.receive(&mut book, house, &bytes);
+                vouchers += u32::from(house != 1);
+                let last = vouchers == enough && house != 1;
+                let gives = match kind {
+                    Kind::Ready => vouchers == 2 && house == 2,
+                    _ => last,
+                };
+                let ready = gives.then(|| message(3, SEASON, 0, 0, v));
+                let which = format!("{kind:?} from {house} of {n}");
+                assert_eq!((outcome.answer, outcome.message), (0, ready), "{which}");
+                let delivery = (last && kind == Kind::Ready).then_some(*v);
+                assert_eq!(outcome.delivery, delivery, "{which}");
+            }
         }
     }
 }

@@ -1,8 +1,12 @@
-//! Document 01's rows 1 to 12 and its run cases, and the wall card for all n.
+//! Document 01's rows 1 to 12 and its run cases, and the counts for all n and f.
 
-use super::forms::{fresh_book, honey, message, open_sheet, sheet, OPEN, SEASON};
+use super::forms::{
+    fresh, fresh_book, honey, message, open_sheet, random_pool, redraw_helped, sheet, slots_from,
+    OPEN, SEASON,
+};
+use super::random::Random;
 use super::season::{Rules, Season};
-use crate::{Gate, Kind, Library, Outcome};
+use crate::{Counts, Declaration, Gate, Kind, Library, Outcome};
 
 /// t and the echo quorum for n = 1 to 16, as document 01 prints them.
 pub const CARD: [(usize, usize); 16] = [
@@ -31,16 +35,38 @@ pub const WHOLE: [u8; 36] = [
     0x3F, 0x00, 0x00, 0x00,
 ];
 
+/// The counts among n houses of which f may be down, found by trying and not by their formulas: t is the
+/// largest with n > 3t + 2f, and the quorum the least whose double is n+t+1 or more. None where no t fits.
+pub fn searched(n: usize, f: usize) -> Option<Counts> {
+    let tolerated = (0..=n).rfind(|t| n > 3 * t + 2 * f)?;
+    let quorum = (0..=n).find(|quorum| 2 * quorum > n + tolerated)?;
+    Some(Counts {
+        tolerated,
+        quorum,
+        amplify: tolerated + 1,
+        deliver: 2 * tolerated + f + 1,
+    })
+}
+
+/// All n from 1 to 16 with each f from 0 to 4 that fits, and the counts that go with them.
+pub fn all_counts() -> impl Iterator<Item = (u8, u8, Counts)> {
+    let all = (1..=16u8).flat_map(|n| (0..=4u8).map(move |f| (n, f)));
+    all.filter_map(|(n, f)| Some((n, f, searched(usize::from(n), usize::from(f))?)))
+}
+
 /// Opens a book of house 0, with one number and the sheet of row 4.
-fn opened(library: &mut impl Library, n: u8) -> Vec<u8> {
+fn opened(library: &mut impl Library, n: u8, f: u8) -> Vec<u8> {
     let (answer, length) = library.length(u32::from(n), 1);
     assert_eq!(answer, 0, "length at n = {n}");
+    let d = n % 9;
     let mut book = vec![0xEE; length];
-    let answer = library.open(&mut book, u32::from(n), 1, 0, SEASON, &open_sheet());
-    assert_eq!(answer, 0, "opening at n = {n}");
+    let numbers = [n, 1, 0, f, d];
+    let [n, s, own, f, d] = numbers.map(u32::from);
+    let answer = library.open(&mut book, n, s, own, f, d, SEASON, &open_sheet());
+    assert_eq!(answer, 0, "opening at n = {n}, f = {f}");
     assert!(
-        book == fresh_book(n, 1, 0, SEASON, &open_sheet()),
-        "opening's bytes at n = {n}"
+        book == fresh(numbers, SEASON, &open_sheet()),
+        "opening's bytes at n = {n}, f = {f}"
     );
     book
 }
@@ -53,42 +79,148 @@ fn vouch(library: &mut impl Library, book: &mut [u8], house: usize, kind: Kind) 
     outcome
 }
 
-/// Rows 1 to 3 and 10 to 12, and the same for every n: ECHOes below the quorum give nothing and at it a
-/// READY; READYs give a READY at t+1 and a delivery at 2t+1.
+/// Rows 1 to 3 and 10 to 12, and the same for every n and f: ECHOes below the quorum give nothing and at
+/// it a READY; READYs give a READY at t+1 and a delivery at 2t+f+1.
 pub fn card(library: &mut impl Library) {
     let declaration = honey(77, 40, 800);
     let ready = Some(message(3, SEASON, 0, 0, &declaration));
-    for (n, (t, quorum)) in (1..).zip(CARD) {
-        let mut book = opened(library, n);
+    for (n, f, counts) in all_counts() {
+        let mut book = opened(library, n, f);
         for house in 0..usize::from(n) {
             let outcome = vouch(library, &mut book, house, Kind::Echo);
-            let expected = if house + 1 == quorum { ready } else { None };
-            assert_eq!(
-                outcome.message,
-                expected,
-                "n = {n}, ECHO number {}",
-                house + 1
-            );
-            assert_eq!(outcome.delivery, None, "n = {n}, ECHO number {}", house + 1);
+            let which = format!("n = {n}, f = {f}, ECHO number {}", house + 1);
+            let expected = ready.filter(|_| house + 1 == counts.quorum);
+            assert_eq!(outcome.message, expected, "{which}");
+            assert_eq!(outcome.delivery, None, "{which}");
         }
-        let mut book = opened(library, n);
+        let mut book = opened(library, n, f);
         for house in 0..usize::from(n) {
             let outcome = vouch(library, &mut book, house, Kind::Ready);
-            let expected = if house == t { ready } else { None };
-            assert_eq!(
-                outcome.message,
-                expected,
-                "n = {n}, READY number {}",
-                house + 1
-            );
-            let expected = (house == 2 * t).then_some(declaration);
-            assert_eq!(
-                outcome.delivery,
-                expected,
-                "n = {n}, READY number {}",
-                house + 1
-            );
+            let which = format!("n = {n}, f = {f}, READY number {}", house + 1);
+            let expected = ready.filter(|_| house + 1 == counts.amplify);
+            assert_eq!(outcome.message, expected, "{which}");
+            let expected = (house + 1 == counts.deliver).then_some(declaration);
+            assert_eq!(outcome.delivery, expected, "{which}");
         }
+    }
+}
+
+/// The rule between entries "asks that its two books agree on f as well": with another f a READY gives and
+/// delivers something else.
+pub fn another_f(library: &mut impl Library) {
+    let outcomes = [0, 1].map(|f| {
+        let mut book = fresh([4, 1, 0, f, 2], SEASON, &open_sheet());
+        [0, 1, 2].map(|house| {
+            let outcome = vouch(library, &mut book, house, Kind::Ready);
+            (outcome.message.is_some(), outcome.delivery.is_some())
+        })
+    });
+    let t_is_1 = [(false, false), (true, false), (false, true)];
+    let t_is_0 = [(true, false), (false, true), (false, false)];
+    assert_eq!(outcomes, [t_is_1, t_is_0], "READYs at n = 4, f = 0 and 1");
+}
+
+/// The counts on any legal book, for every n and f and for every number of vouchers that one more makes:
+/// "the mark decides", so a count long passed gives a READY or a delivery where the mark is empty.
+pub fn thresholds(library: &mut impl Library, seed: u64) {
+    let mut random = Random::new(seed);
+    let pool = random_pool(&mut random);
+    for (n, f, counts) in all_counts() {
+        for vouchers in 1..=usize::from(n) {
+            for kind in [Kind::Echo, Kind::Ready] {
+                let case = Vouching::random(&mut random, [n, f], vouchers, kind);
+                case.check(library, &mut random, &pool, &counts);
+            }
+        }
+    }
+}
+
+/// A voucher for a declaration, with which so many vouch for it.
+struct Vouching {
+    n: u8,
+    f: u8,
+    vouchers: usize,
+    kind: Kind,
+    /// The houses in any order: the first brings the message, and the next vouched before.
+    houses: Vec<usize>,
+    /// Whether a READY was sent, and whether something is delivered.
+    marks: [bool; 2],
+}
+
+impl Vouching {
+    fn random(random: &mut Random, [n, f]: [u8; 2], vouchers: usize, kind: Kind) -> Self {
+        let mut houses: Vec<usize> = (0..usize::from(n)).collect();
+        for place in (1..houses.len()).rev() {
+            houses.swap(place, random.below(place + 1));
+        }
+        Vouching {
+            n,
+            f,
+            vouchers,
+            kind,
+            houses,
+            marks: [0, 1].map(|_| random.chance(1, 4)),
+        }
+    }
+
+    /// The book before: who vouched, others for other declarations or not at all, and the marks.
+    fn book(&self, random: &mut Random, pool: &[Declaration]) -> Vec<u8> {
+        let mut book = fresh([self.n, 1, self.n - 1, self.f, 0], SEASON, &open_sheet());
+        redraw_helped(random, &mut book);
+        let from = slots_from(self.n) + 21;
+        let size = usize::from(self.n);
+        let first = match self.kind {
+            Kind::Send => 0,
+            Kind::Echo => 1,
+            Kind::Ready => 1 + size,
+        };
+        let mut put = |slot: usize, v: &Declaration| {
+            let slot = &mut book[from + 21 * slot..][..21];
+            slot[0] = 1;
+            slot[1..].copy_from_slice(v);
+        };
+        for (place, house) in self.houses.iter().enumerate().skip(1) {
+            if place < self.vouchers {
+                put(first + house, &honey(77, 40, 800));
+            } else if random.chance(1, 2) {
+                put(first + house, &random.pick(pool));
+            }
+        }
+        for (mark, full) in self.marks.into_iter().enumerate() {
+            if full {
+                put(1 + 2 * size + mark, &random.pick(pool));
+            }
+        }
+        book
+    }
+
+    fn check(
+        &self,
+        library: &mut impl Library,
+        random: &mut Random,
+        pool: &[Declaration],
+        counts: &Counts,
+    ) {
+        let declaration = honey(77, 40, 800);
+        let [ready_sent, delivered] = self.marks;
+        let is_ready = self.kind == Kind::Ready;
+        let enough = if is_ready {
+            counts.amplify
+        } else {
+            counts.quorum
+        };
+        let gives = self.vouchers >= enough && !ready_sent;
+        let delivers = is_ready && self.vouchers >= counts.deliver && !delivered;
+        let mut book = self.book(random, pool);
+        let outcome = vouch(library, &mut book, self.houses[0], self.kind);
+        let which = format!(
+            "{} {:?} at n = {}, f = {}, marks {:?}",
+            self.vouchers, self.kind, self.n, self.f, self.marks
+        );
+        let ready = gives.then(|| message(3, SEASON, 0, 0, &declaration));
+        assert_eq!(outcome.message, ready, "{which}");
+        let delivery = delivers.then_some(declaration);
+        assert_eq!(outcome.delivery, delivery, "{which}");
     }
 }
 
@@ -119,12 +251,13 @@ pub fn judged(library: &mut impl Library) {
     }
 }
 
-/// Row 9, and the run cases of 35 and 37 bytes and of kinds 0 and 4, by reader, receiver and writer.
+/// Row 9, and the run cases of 35 and 37 bytes and of kinds 0 and 4, by reader, receiver and writer; and
+/// kind 9, which no 36 bytes have.
 pub fn messages(library: &mut impl Library) {
     let declaration = honey(77, 40, 800);
     let read = library
         .read(&WHOLE)
-        .message
+        .message()
         .expect("the whole message reads");
     assert_eq!(
         (read.kind, read.season, read.sender, read.number),
@@ -144,9 +277,9 @@ pub fn messages(library: &mut impl Library) {
     let mut longer = WHOLE.to_vec();
     longer.push(0);
     let kind = |kind| message(kind, SEASON, 2, 1, &declaration).to_vec();
-    for bytes in [WHOLE[..35].to_vec(), longer, kind(0), kind(4)] {
+    for bytes in [WHOLE[..35].to_vec(), longer, kind(0), kind(4), kind(9)] {
         let read = library.read(&bytes);
-        assert_eq!((read.answer, read.message), (2, None), "reading {bytes:?}");
+        assert_eq!((read.answer, read.form), (2, None), "reading {bytes:?}");
         let mut book = fresh_book(4, 2, 0, SEASON, &open_sheet());
         let received = library.receive(&mut book, 2, &bytes);
         assert_eq!(received.answer, 2, "receiving {bytes:?}");
@@ -155,7 +288,7 @@ pub fn messages(library: &mut impl Library) {
             "the book at answer 2"
         );
     }
-    for kind in [0, 4] {
+    for kind in [0, 4, 9] {
         let written = library.write(kind, SEASON, 2, 1, &declaration);
         assert_eq!(
             (written.answer, written.message),

@@ -1,10 +1,17 @@
-//! Whole seasons under a random scheduler, and the attack that two wrong houses of four succeed with.
+//! Whole seasons under a random scheduler, and directed ones.
 
-use super::forms::{honey, message, random_declaration, SEASON};
+pub mod directed;
+mod weather;
+
+use super::forms::random_declaration;
 use super::random::Random;
+use super::season::moments::Tally;
 use super::season::{Rules, Season};
 use super::wrong::{plausible, Wrong};
 use crate::{Declaration, Library};
+use weather::{pick_some, Aim, Weather};
+
+pub use directed::directed_disagreement;
 
 /// In which order copies are consumed.
 #[derive(Clone, Copy, Debug)]
@@ -16,16 +23,19 @@ enum Order {
     Starving(usize),
     /// Copies of this kind as late as can be.
     Last(u8),
+    /// Copies to houses that are down as early as can be: they are lost.
+    Losing,
 }
 
 impl Order {
     fn random(random: &mut Random, n: u8) -> Self {
-        match random.below(5) {
+        match random.below(6) {
             0 => Order::Any,
             1 => Order::Oldest,
             2 => Order::Newest,
             3 => Order::Starving(random.below(usize::from(n))),
-            _ => Order::Last(1 + random.below(3) as u8),
+            4 => Order::Last(1 + random.below(3) as u8),
+            _ => Order::Losing,
         }
     }
 
@@ -37,6 +47,7 @@ impl Order {
             match self {
                 Order::Starving(house) => copy.to == house || copy.from == house,
                 Order::Last(kind) => copy.bytes[3] == kind,
+                Order::Losing => !season.is_down(copy.to),
                 _ => false,
             }
         };
@@ -69,7 +80,8 @@ fn publications(
             }
             if random.chance(1, 8) {
                 let number = random.pick(&[number, number, u32::from(rules.s), 256]);
-                all.push((house, number, random_declaration(random)));
+                let any = random_declaration(random);
+                all.push((house, number, random.pick(&[any, pool[0], pool[1]])));
             }
         }
     }
@@ -79,65 +91,203 @@ fn publications(
     all
 }
 
-/// Runs one season to its end, every copy between honest houses consumed.
-pub fn run<'l, L: Library>(library: &'l mut L, random: &mut Random, rules: Rules) -> Season<'l, L> {
-    let pool = plausible(random);
-    let mut to_publish = publications(random, &rules, &pool);
-    let wrong = Wrong::new(random, &rules, &pool);
-    let order = Order::random(random, rules.n);
-    let haste = random.pick(&[1, 4, 16]);
-    let mut lies = rules.entries() * (1 + random.below(6 * usize::from(rules.n)));
-    let mut season = Season::open(library, rules);
-    while season.pending() > 0 || !to_publish.is_empty() || lies > 0 {
-        match random.below(8) {
-            0 if random.chance(haste, 16) => {
-                if let Some((house, number, declaration)) = to_publish.pop() {
-                    season.publish(house, number, &declaration);
-                }
+/// A season that is drawn step by step.
+struct Run<'r, 'l, L> {
+    random: &'r mut Random,
+    season: Season<'l, L>,
+    to_publish: Vec<(usize, u32, Declaration)>,
+    wrong: Wrong,
+    lies: usize,
+    order: Order,
+    weather: Weather,
+}
+
+impl<L: Library> Run<'_, '_, L> {
+    /// All is published that will be, but by houses that are down; and nothing is left to hand in.
+    fn is_late(&self) -> bool {
+        let down = |(house, _, _): &(usize, u32, Declaration)| self.season.is_down(*house);
+        self.lies == 0 && self.to_publish.iter().all(down)
+    }
+
+    fn is_over(&self) -> bool {
+        let nothing_left = self.season.pending() == 0 && self.season.requests().is_empty();
+        let done = self.lies == 0 && self.to_publish.is_empty();
+        nothing_left && done && self.weather.is_over(&self.season)
+    }
+
+    /// The next publication. A house that is down waits for its return, or never publishes.
+    fn publish(&mut self) {
+        let Some((house, number, declaration)) = self.to_publish.pop() else {
+            return;
+        };
+        if self.season.is_down(house) {
+            if self.weather.waits(self.random, &self.season, house) {
+                self.to_publish.insert(0, (house, number, declaration));
             }
-            1..=3 if lies > 0 => {
-                lies -= 1;
-                if let Some(lie) = wrong.lie(random, season.copies()) {
-                    season.hand_in(lie.to, lie.under, &lie.bytes);
-                }
-            }
-            _ if season.pending() > 0 => {
-                let place = order.next(random, &season);
-                season.consume(place);
-            }
-            _ => (),
+            return;
+        }
+        let at = (house, Aim::Publication);
+        self.weather
+            .step(self.random, &mut self.season, at, |season| {
+                season.publish(house, number, &declaration)
+            });
+    }
+
+    /// The next lie. To a house that is down nothing can be handed in.
+    fn hand_in(&mut self) {
+        self.lies -= 1;
+        let Some(lie) = self.wrong.lie(self.random, self.season.copies()) else {
+            return;
+        };
+        if self.season.is_down(lie.to) {
+            return;
+        }
+        let aim = self.random.pick(&[Aim::Given, Aim::Given, Aim::Help]);
+        self.weather
+            .step(self.random, &mut self.season, (lie.to, aim), |season| {
+                season.hand_in(lie.to, lie.under, &lie.bytes)
+            });
+    }
+
+    /// The next copy is consumed, or never comes.
+    fn consume(&mut self) {
+        if self.season.pending() == 0 {
+            return;
+        }
+        let place = self.order.next(self.random, &self.season);
+        let copy = self.season.pending_copy(place);
+        let to = copy.to;
+        if self.weather.keeps_back(self.random, copy) {
+            self.season.keep_back(place);
+            return;
+        }
+        let at = (to, Aim::Given);
+        self.weather
+            .step(self.random, &mut self.season, at, |season| {
+                season.consume(place)
+            });
+    }
+
+    /// Any request is consumed, or never comes.
+    fn consume_request(&mut self) {
+        if self.season.requests().is_empty() {
+            return;
+        }
+        let place = self.random.below(self.season.requests().len());
+        let asked = self.season.requests()[place];
+        if self.weather.keeps_request_back(self.random, asked) {
+            self.season.keep_back_request(place);
+            return;
+        }
+        let at = (asked.to, Aim::Help);
+        let answer = self
+            .weather
+            .step(self.random, &mut self.season, at, |season| {
+                season.consume_request(place)
+            });
+        if answer == Some(0) {
+            self.weather.helped(&mut self.season, asked.from);
         }
     }
-    season
+
+    fn bring_again(&mut self) {
+        if self.season.consumed() > 0 {
+            let place = self.random.below(self.season.consumed());
+            self.season.bring_again(place);
+        }
+    }
+}
+
+/// Runs one season to its end: every copy and request is consumed, but for some of houses that are then
+/// down.
+pub fn run<'l, L: Library>(library: &'l mut L, random: &mut Random, rules: Rules) -> Season<'l, L> {
+    let weather = Weather::random(random, &rules);
+    run_in(library, random, rules, weather)
+}
+
+fn run_in<'l, L: Library>(
+    library: &'l mut L,
+    random: &mut Random,
+    rules: Rules,
+    weather: Weather,
+) -> Season<'l, L> {
+    let pool = plausible(random);
+    let to_publish = publications(random, &rules, &pool);
+    let favoured = weather.favoured(random);
+    let wrong = Wrong::new(random, &rules, &pool, &favoured);
+    let haste = random.pick(&[1, 4, 16]);
+    let mut run = Run {
+        to_publish,
+        lies: wrong.lies(random),
+        wrong,
+        order: Order::random(random, rules.n),
+        weather,
+        season: Season::open(library, rules),
+        random,
+    };
+    run.weather.begin(run.random, &mut run.season);
+    while !run.is_over() {
+        let late = run.is_late();
+        run.weather.pass(run.random, &mut run.season, late);
+        match run.random.below(16) {
+            0 | 1 if run.random.chance(haste, 16) => run.publish(),
+            2..=7 if run.lies > 0 => run.hand_in(),
+            8 => run.consume_request(),
+            9 if run.random.chance(1, 2) => run.bring_again(),
+            _ => run.consume(),
+        }
+    }
+    run.season
+}
+
+/// How often a house may return and be helped, mostly seldom.
+const LIMITS: [u8; 16] = [0, 0, 0, 0, 0, 1, 1, 1, 2, 2, 3, 4, 5, 6, 7, 8];
+
+/// A season of n houses, with any f that fits n and any d, often t wrong houses, and at times more.
+fn random_rules(random: &mut Random, n: u8, s: u8) -> Rules {
+    let fits = usize::from(((n - 1) / 2).min(crate::MOST_DOWN)) + 1;
+    let f = random.below(fits).min(random.below(fits)) as u8;
+    let d = random.pick(&LIMITS);
+    let t = Rules::new(n, s, &[]).with(f, d).tolerated();
+    let wrong = match random.below(8) {
+        0 | 1 => random.below(usize::from(n)),
+        2 => 0,
+        3 => t.saturating_sub(1),
+        _ => t,
+    };
+    let wrong = some_houses(random, n, wrong);
+    Rules::new(n, s, &wrong).with(f, d)
 }
 
 /// Some `count` of the n houses.
 fn some_houses(random: &mut Random, n: u8, count: usize) -> Vec<usize> {
-    let mut houses: Vec<usize> = (0..usize::from(n)).collect();
-    while houses.len() > count {
-        houses.swap_remove(random.below(houses.len()));
-    }
-    houses
+    let houses: Vec<usize> = (0..usize::from(n)).collect();
+    pick_some(random, &houses, count)
 }
 
-/// So many seasons of n houses with at most t wrong; and with more, for what holds with any number. Gives
-/// how many deliveries there were on entries of wrong senders, so that one can see that they took part.
-pub fn seasons(library: &mut impl Library, seed: u64, n: u8, s: u8, count: u64) -> usize {
-    let t = super::rows::CARD[usize::from(n) - 1].0;
-    let mut of_wrong = 0;
+/// So many seasons of n houses, with at most t wrong; and with more, for what holds with any number. Gives
+/// what came about in them.
+pub fn seasons(library: &mut impl Library, seed: u64, n: u8, s: u8, count: u64) -> Tally {
+    let mut tally = Tally::default();
     for round in 0..count {
-        let mut random = Random::new(seed + round);
-        let wrong = match random.below(4) {
-            0 => random.below(usize::from(n)),
-            1 => random.below(t + 1),
-            _ => t,
-        };
-        let wrong = some_houses(&mut random, n, wrong);
-        let mut season = run(library, &mut random, Rules::new(n, s, &wrong));
+        let size = u64::from(n) << 8 | u64::from(s);
+        let mut random = Random::new(seed.wrapping_add(round << 16 | size));
+        let rules = random_rules(&mut random, n, s);
+        let mut season = run(library, &mut random, rules);
         season.check();
-        of_wrong += season.deliveries_of_wrong();
+        tally.add_all(&season.tally());
     }
-    of_wrong
+    tally
+}
+
+/// One season with these rules in which f honest houses are down at the end, and the others return d times at
+/// most. Gives what came about in it.
+pub fn season_within(library: &mut impl Library, seed: u64, rules: Rules) -> Tally {
+    let mut random = Random::new(seed);
+    let weather = Weather::within(&mut random, &rules);
+    let mut season = run_in(library, &mut random, rules, weather);
+    season.check();
+    season.tally()
 }
 
 /// Of so many seasons with two wrong houses of four, on how many entries two honest houses disagree. What
@@ -145,37 +295,11 @@ pub fn seasons(library: &mut impl Library, seed: u64, n: u8, s: u8, count: u64) 
 pub fn disagreements(library: &mut impl Library, seed: u64, count: u64) -> usize {
     let mut found = 0;
     for round in 0..count {
-        let mut random = Random::new(seed + round);
+        let mut random = Random::new(seed.wrapping_add(round));
         let wrong = some_houses(&mut random, 4, 2);
         let mut season = run(library, &mut random, Rules::new(4, 1, &wrong));
         season.check();
         found += season.disagreements().len();
     }
     found
-}
-
-/// Two wrong houses of four: the wrong sender tells house 0 one thing and house 1 another, and both wrong
-/// houses vouch for it. Each honest house has a quorum and enough READYs, and they deliver differently.
-pub fn directed_disagreement(library: &mut impl Library) -> Vec<usize> {
-    let mut season = Season::open(library, Rules::new(4, 1, &[2, 3]));
-    for (house, declaration) in [(0, honey(77, 40, 800)), (1, honey(77, 40, 799))] {
-        let bytes = |kind| message(kind, SEASON, 2, 0, &declaration);
-        assert_eq!(
-            season.hand_in(house, 2, &bytes(1)),
-            0,
-            "the wrong sender's SEND"
-        );
-        for kind in [2, 3] {
-            for wrong in [2, 3] {
-                assert_eq!(
-                    season.hand_in(house, wrong, &bytes(kind)),
-                    0,
-                    "a wrong voucher"
-                );
-            }
-        }
-    }
-    season.drain();
-    season.check();
-    season.disagreements()
 }

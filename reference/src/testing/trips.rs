@@ -21,7 +21,7 @@ pub fn round(library: &mut impl Library, seed: u64, rounds: usize) {
         assert_eq!(written.answer, 0, "writing kind {kind}");
         let bytes = written.message.expect("a message at answer 0");
         let answer = library.read(&bytes);
-        let read = answer.message.expect("what was written reads");
+        let read = answer.message().expect("what was written reads");
         assert_eq!(
             (answer.answer, read.kind as u8, read.season),
             (0, kind, season)
@@ -73,7 +73,7 @@ pub fn malformed(library: &mut impl Library, seed: u64) {
                 if well_formed { 0 } else { 2 },
                 "byte {place} changed"
             );
-            assert_eq!(read.message.is_some(), well_formed, "byte {place} changed");
+            assert_eq!(read.form.is_some(), well_formed, "byte {place} changed");
         }
     }
     for length in (0..=64).filter(|&length| length != 36) {
@@ -84,7 +84,7 @@ pub fn malformed(library: &mut impl Library, seed: u64) {
         noise.truncate(length);
         for bytes in [zeros, noise, random.bytes(length)] {
             let read = library.read(&bytes);
-            assert_eq!((read.answer, read.message), (2, None), "{length} bytes");
+            assert_eq!((read.answer, read.form), (2, None), "{length} bytes");
         }
     }
 }

@@ -1,10 +1,11 @@
 //! Wrong houses that work together: they see every copy, plan what each honest house is to believe,
-//! equivocate, vouch for it, replay, lie about the kind, stay silent towards some, and send noise.
+//! equivocate, vouch for it, replay, lie about the kind, stay silent towards some, ask for help again and
+//! again, and send noise.
 
 use super::forms::{declaration, honey, message, random_declaration, SEASON};
 use super::random::Random;
 use super::season::{Rules, Sent};
-use crate::Declaration;
+use crate::{request, Declaration};
 
 /// Plausible declarations of a season, near to each other: one bit apart, the sign of a zero apart.
 pub fn plausible(random: &mut Random) -> [Declaration; 4] {
@@ -28,6 +29,9 @@ pub struct Lie {
     pub bytes: Vec<u8>,
 }
 
+/// So many requests may be added to a season in which most lies are requests.
+const MOST_REQUESTS: usize = 600;
+
 /// The wrong houses of a season.
 pub struct Wrong {
     rules: Rules,
@@ -35,37 +39,69 @@ pub struct Wrong {
     wrong: Vec<usize>,
     /// For each entry and house, what it is to believe.
     plan: Vec<Vec<Declaration>>,
-    /// For each wrong and honest house, whether nothing is said.
-    silent: Vec<Vec<bool>>,
+    /// For each wrong and honest house, which kinds are never said.
+    silent: Vec<Vec<[bool; 3]>>,
     /// How many lies in sixteen follow the plan.
     resolve: usize,
+    /// How many lies in sixteen are requests.
+    asks: usize,
 }
 
 impl Wrong {
-    /// Wrong houses with a plan of their own. There is an honest house.
-    pub fn new(random: &mut Random, rules: &Rules, pool: &[Declaration]) -> Self {
+    /// Wrong houses with a plan of their own. There is an honest house. Where houses are favoured, they vouch
+    /// for one thing on each entry and towards these alone: those are to deliver, and nobody else.
+    pub fn new(
+        random: &mut Random,
+        rules: &Rules,
+        pool: &[Declaration],
+        favoured: &[bool],
+    ) -> Self {
         let houses = usize::from(rules.n);
+        let favours = favoured.contains(&true);
         let plan = (0..rules.entries()).map(|_| {
             let beliefs = [random.pick(pool), random.pick(pool)];
-            let split = random.below(houses + 1);
+            let split = if favours { 0 } else { random.below(houses + 1) };
             let believes = |house| beliefs[usize::from(house < split)];
             (0..houses).map(believes).collect()
         });
         let plan = plan.collect();
         let withholds = random.pick(&[0, 0, 1, 4]);
-        let silent =
-            (0..houses).map(|_| (0..houses).map(|_| random.chance(withholds, 8)).collect());
-        let silent = silent.collect();
+        let silent = (0..houses * houses).map(|pair| {
+            let others = favours && !favoured[pair % houses];
+            let send = random.chance(if others { 2 } else { withholds }, 8);
+            let vouch = others || send;
+            [send, vouch, vouch]
+        });
+        let silent: Vec<[bool; 3]> = silent.collect();
         let honest = rules.honest();
+        let mut wrong: Vec<usize> = (0..houses).collect();
+        wrong.retain(|house| !honest.contains(house));
         Wrong {
-            wrong: (0..houses)
-                .filter(|house| !honest.contains(house))
-                .collect(),
             honest,
+            wrong,
             rules: rules.clone(),
             plan,
-            silent,
-            resolve: random.pick(&[4, 12, 15]),
+            silent: silent.chunks(houses).map(<[_]>::to_vec).collect(),
+            resolve: if favours {
+                16
+            } else {
+                random.pick(&[4, 12, 15])
+            },
+            asks: random.pick(&[0, 1, 1, 4, 14]),
+        }
+    }
+
+    /// How many lies there will be. Where most are requests they are far more than d for each helper.
+    pub fn lies(&self, random: &mut Random) -> usize {
+        let [n, h, d] = [
+            usize::from(self.rules.n),
+            self.honest.len(),
+            usize::from(self.rules.d),
+        ];
+        let some = self.rules.entries() * (1 + random.below(6 * n));
+        match self.asks {
+            14 => some + (8 * h * n * d).min(MOST_REQUESTS),
+            _ => some,
         }
     }
 
@@ -76,11 +112,14 @@ impl Wrong {
             return Some(self.stranger(random, to, copies));
         }
         let from = random.pick(&self.wrong);
-        if self.silent[from][to] {
-            return None;
+        if random.chance(self.asks, 16) {
+            return Some(self.request(random, from, to));
         }
         if random.chance(self.resolve, 16) {
-            return Some(self.planned(random, from, to));
+            return self.planned(random, from, to);
+        }
+        if self.silent[from][to] != [false; 3] {
+            return None;
         }
         let mut bytes = self.overheard(random, copies);
         match random.below(10) {
@@ -106,20 +145,39 @@ impl Wrong {
     }
 
     /// SEND, ECHO or READY of what the plan wants this house to believe.
-    fn planned(&self, random: &mut Random, from: usize, to: usize) -> Lie {
+    fn planned(&self, random: &mut Random, from: usize, to: usize) -> Option<Lie> {
         let number = random.below(usize::from(self.rules.s));
         let kind = 1 + random.below(3) as u8;
+        if self.silent[from][to][usize::from(kind) - 1] {
+            return None;
+        }
         let sender = match kind {
             1 => from,
             _ => random.below(usize::from(self.rules.n)),
         };
         let entry = number * usize::from(self.rules.n) + sender;
         let belief = self.plan[entry][to];
-        Lie {
+        Some(Lie {
             to,
             under: from as u32,
             bytes: message(kind, SEASON, sender as u8, number as u8, &belief).to_vec(),
+        })
+    }
+
+    /// A request, as often as not well-formed and of this season; at times under a number that no house has.
+    fn request(&self, random: &mut Random, from: usize, to: usize) -> Lie {
+        let mut bytes = request(SEASON).to_vec();
+        let mut under = from as u32;
+        match random.below(16) {
+            0 => bytes = request(SEASON ^ 1 << random.below(32)).to_vec(),
+            1 => bytes[random.below(11)] ^= 1 << random.below(8),
+            2 => bytes.truncate(random.below(11)),
+            3 => bytes.push(0),
+            4 => bytes = message(9, SEASON, 0, 0, &random_declaration(random)).to_vec(),
+            5 => under = self.strange_number(random, to),
+            _ => (),
         }
+        Lie { to, under, bytes }
     }
 
     /// A message that was sent, by anybody to anybody; or one out of the air.
@@ -130,14 +188,19 @@ impl Wrong {
         }
     }
 
-    /// A true message under a number that no house has.
+    /// A true message or a request under a number that no house has.
     fn stranger(&self, random: &mut Random, to: usize, copies: &[Sent]) -> Lie {
+        let under = self.strange_number(random, to);
+        let bytes = match random.below(8) {
+            0 => request(SEASON).to_vec(),
+            _ => self.overheard(random, copies),
+        };
+        Lie { to, under, bytes }
+    }
+
+    /// A number that no house has.
+    fn strange_number(&self, random: &mut Random, to: usize) -> u32 {
         let n = u32::from(self.rules.n);
-        let under = random.pick(&[n, n + 1, 255, 256, 256 + to as u32, u32::MAX, 1 << 31]);
-        Lie {
-            to,
-            under,
-            bytes: self.overheard(random, copies),
-        }
+        random.pick(&[n, n + 1, 255, 256, 256 + to as u32, u32::MAX, 1 << 31])
     }
 }

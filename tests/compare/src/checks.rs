@@ -3,7 +3,11 @@
 use crate::linked::Linked;
 use crate::{drawn, edges, entries};
 use reference::testing::both::Both;
-use reference::testing::{books, openings, pairs, readings, refusals, rows, scheduler, trips};
+use reference::testing::season::moments::{Moment, Tally};
+use reference::testing::season::Rules;
+use reference::testing::{
+    books, openings, pairs, readings, refusals, requests, returns, rows, scheduler, trips,
+};
 use reference::Reference;
 
 /// The proved library and the ordinary one.
@@ -13,7 +17,7 @@ pub type Pair = Both<Linked, Reference>;
 pub type Check = (&'static str, fn(&mut Pair, u64, usize));
 
 /// Checks that are the same at any size; the seed is for noise.
-pub const COUNTED: [Check; 15] = [
+pub const COUNTED: [Check; 21] = [
     ("the rows and run cases of document 01", |pair, _, _| {
         rows::card(pair);
         rows::judged(pair);
@@ -23,6 +27,8 @@ pub const COUNTED: [Check; 15] = [
     }),
     ("each pair of errors", |pair, _, _| {
         pairs::receiving(pair);
+        pairs::asking(pair);
+        pairs::nobody_to_help(pair);
         pairs::publishing(pair);
         pairs::opening(pair);
         pairs::judging(pair);
@@ -30,7 +36,19 @@ pub const COUNTED: [Check; 15] = [
     ("the attack of two wrong houses of four", |pair, _, _| {
         assert_eq!(scheduler::directed_disagreement(pair), [2]);
     }),
+    ("directed seasons with crashes", |pair, _, _| {
+        scheduler::directed::crashes(pair);
+    }),
     ("lengths of books", |pair, _, _| openings::lengths(pair)),
+    ("openings with every f and d", |pair, _, _| {
+        openings::every_f_and_d(pair);
+    }),
+    ("the counts for every n and f", |pair, seed, _| {
+        rows::another_f(pair);
+        for round in 0..4 {
+            rows::thresholds(pair, seed + round);
+        }
+    }),
     ("all sizes", |pair, _, _| edges::sizes(pair)),
     ("foreign numbers", |pair, _, _| edges::strangers(pair)),
     ("messages of every length", |pair, seed, _| {
@@ -42,12 +60,29 @@ pub const COUNTED: [Check; 15] = [
     ("books that are not legal", |pair, _, _| {
         books::illegal_books(pair);
     }),
+    ("every f, d and help count of a book", |pair, seed, _| {
+        books::helped_and_down(pair, seed);
+    }),
     ("every bit of a book", |pair, seed, _| {
         edges::damaged_books(pair, seed);
     }),
     ("every state of one entry", |pair, seed, _| {
         entries::states(pair, seed, 5);
     }),
+    ("requests of every form and count", |pair, seed, _| {
+        requests::one_form(pair, seed);
+        requests::every_count(pair, seed);
+        requests::heard_all_the_same(pair);
+    }),
+    (
+        "what was sent, of every kind and number",
+        |pair, seed, _| {
+            returns::every_kind_and_number(pair);
+            returns::all_sent(pair, seed);
+            returns::order(pair);
+            returns::given_and_sent(pair);
+        },
+    ),
     ("products", |pair, _, _| readings::products(pair)),
     ("NaN of every kind", |pair, seed, _| edges::nans(pair, seed)),
     ("edge readings and limits", |pair, _, _| {
@@ -61,9 +96,18 @@ pub const COUNTED: [Check; 15] = [
 ];
 
 /// Checks that draw their cases: more with a larger size.
-pub const DRAWN: [Check; 10] = [
+pub const DRAWN: [Check; 13] = [
     ("calls on any legal book", |pair, seed, scale| {
         refusals::calls(pair, seed, 200 * scale);
+    }),
+    ("requests until helped enough", |pair, seed, scale| {
+        for round in 0..scale.div_ceil(4) as u64 {
+            requests::until_enough(pair, seed + round);
+        }
+        requests::round(pair, seed, 100 * scale);
+    }),
+    ("returns and what was sent", |pair, seed, scale| {
+        returns::any_book(pair, seed, 100 * scale);
     }),
     ("damaged books", |pair, seed, scale| {
         drawn::damaged_books(pair, seed, 200 * scale);
@@ -84,18 +128,27 @@ pub const DRAWN: [Check; 10] = [
         trips::round(pair, seed, 500 * scale);
     }),
     ("seasons of up to seven houses", |pair, seed, scale| {
-        let mut of_wrong = 0;
-        for (n, s) in (1..=7).flat_map(|n| (1..=4).map(move |s| (n, s))) {
-            of_wrong += scheduler::seasons(pair, seed, n, s, 2 * scale as u64);
+        let mut tally = Tally::default();
+        for n in 1..=7 {
+            let sizes = [4 * scale, scale, scale.div_ceil(4)];
+            for (s, seasons) in [1, 2, 3 + n % 2].into_iter().zip(sizes) {
+                tally.add_all(&scheduler::seasons(pair, seed, n, s, seasons as u64));
+            }
         }
-        assert!(of_wrong > 0, "no wrong sender was ever delivered");
+        let missing = tally.missing();
+        let enough = scale < ENOUGH_FOR_ALL || missing.is_empty();
+        assert!(enough, "it never came about: {missing:?}");
     }),
     ("seasons of up to sixteen houses", |pair, seed, scale| {
-        // The gate's seed has the largest book among them.
         for n in 8..=16 {
-            let s = 1 + (seed.wrapping_add(u64::from(n) + 1) % 4) as u8;
+            let s = 1 + (seed.wrapping_add(u64::from(n)) % 2) as u8;
             scheduler::seasons(pair, seed, n, s, scale.div_ceil(8) as u64);
         }
+    }),
+    ("a season of the largest book", |pair, seed, _| {
+        let rules = Rules::new(16, 4, &[3, 7, 11]).with(3, 2);
+        let tally = scheduler::season_within(pair, seed, rules);
+        assert_eq!(tally.of(Moment::Premised), 1, "{tally}");
     }),
     ("two wrong houses of four disagree", |pair, seed, scale| {
         let seasons = (50 * scale).max(ENOUGH_TO_DISAGREE);
@@ -104,5 +157,8 @@ pub const DRAWN: [Check; 10] = [
     }),
 ];
 
-/// Of so many seasons about 25 show a disagreement, whatever the seed; of fifty at times none does.
+/// At this size each moment of a season that is counted comes about.
+const ENOUGH_FOR_ALL: usize = 8;
+
+/// Of so many seasons about 14 show a disagreement, whatever the seed; of fifty at times none does.
 const ENOUGH_TO_DISAGREE: usize = 400;

@@ -2,7 +2,8 @@
 //! them has to be the same, whatever it is.
 
 use reference::testing::forms::{
-    declaration, fresh_book, message, random_book, random_pool, random_reading, SEASON,
+    declaration, fresh_book, message, random_book, random_pool, random_reading, request_of,
+    slots_from, SEASON,
 };
 use reference::testing::random::Random;
 use reference::Library;
@@ -107,9 +108,13 @@ fn damaged(random: &mut Random, book: &[u8]) -> Vec<u8> {
             book.extend(random.bytes(more));
         }
         3 => book.rotate_left(1 + place % 21),
-        4 => book[place % 29] ^= 1 << random.below(8),
+        4 => {
+            let head = place % slots_from(book[0]);
+            book[head] ^= 1 << random.below(8);
+        }
         5 => {
-            let slot = 29 + (place - place % 21) % (book.len() - 29);
+            let from = slots_from(book[0]);
+            let slot = from + (place - place % 21) % (book.len() - from);
             let presence = random.pick(&[0, 1, 2, 255]);
             book[slot] = presence;
         }
@@ -125,12 +130,16 @@ pub fn damaged_books(library: &mut impl Library, seed: u64, books: usize) {
         let pool = random_pool(&mut random);
         let book = random_book(&mut random, &pool);
         let season = u32::from_be_bytes([book[3], book[4], book[5], book[6]]);
+        let request = request_of(season);
         for _ in 0..4 {
             let mut book = damaged(&mut random, &book);
             let v = random.pick(&pool);
             let [sender, number, kind] = [3, 2, 3].map(|most| random.below(most) as u8);
             let bytes = message(1 + kind, season, sender, number, &v);
             library.waiting(&book);
+            library.come_back(&book);
+            library.sent(&book, 1 + kind, u32::from(sender), u32::from(number));
+            library.receive(&mut book, u32::from(sender), &request);
             library.publish(&mut book, u32::from(number), &v);
             library.receive(&mut book, u32::from(sender), &bytes);
         }

@@ -1,28 +1,42 @@
 //! Every size, every length, every bit and every foreign number, where they can be counted out.
 
 use reference::testing::forms::{
-    declaration, fresh_book, honey, message, open_sheet, sheet, OPEN, SEASON,
+    declaration, fresh, fresh_book, honey, message, open_sheet, request_of, sheet, slots_from,
+    OPEN, SEASON,
 };
 use reference::testing::random::Random;
 use reference::{Gate, Library};
 
-/// All 64 sizes: opened with each own number, in buffers that fit and that do not; then the last entry,
-/// from the publication to the delivery.
+/// All 64 sizes: opened with each own number and some f, in buffers that fit and that do not; then the last
+/// entry, from the publication to the delivery, and the last asker.
 pub fn sizes(library: &mut impl Library) {
     for (n, s) in (1..=16).flat_map(|n| (1..=4).map(move |s| (n, s))) {
         let (answer, length) = library.length(n, s);
         assert_eq!(answer, 0, "the length of {n} and {s}");
         let mut book = vec![];
+        let (f, d) = (((n - 1) / 2).min(s), n % 9);
         for (own, buffer, expected) in (0..n)
             .map(|own| (own, length, 0))
             .chain([(n, length, 9), (0, length - 1, 11), (0, length + 1, 11)])
             .chain([(0, 49_152, 11), (n - 1, length, 0)])
         {
             book = vec![0xEE; buffer];
-            let answer = library.open(&mut book, n, s, own, SEASON, &open_sheet());
+            let answer = library.open(&mut book, n, s, own, f, d, SEASON, &open_sheet());
             assert_eq!(answer, expected, "opening {n} and {s} as {own}");
         }
         last_entry(library, &mut book, n, s);
+        last_asker(library, &mut book, n, d);
+    }
+}
+
+/// The last house is helped d times and not once more.
+fn last_asker(library: &mut impl Library, book: &mut [u8], n: u32, d: u32) {
+    for time in 0..=d {
+        let answer = library.receive(book, n - 1, &request_of(SEASON)).answer;
+        let enough = if time < d { 0 } else { 14 };
+        assert_eq!(answer, enough, "house {} of {n}, d = {d}", n - 1);
+        let returned = library.come_back(book).request;
+        assert_eq!(returned, Some(request_of(SEASON)), "a return of {n}");
     }
 }
 
@@ -45,6 +59,10 @@ fn last_entry(library: &mut impl Library, book: &mut [u8], n: u32, s: u32) {
         let waits = library.waiting(book).entry.is_some();
         assert_eq!(waits, deliveries == 0, "waiting until the delivery");
     }
+    for kind in 1..=3 {
+        let sent = library.sent(book, kind, n - 1, s - 1).message;
+        assert_eq!(sent, Some(bytes(kind)), "sent again at {n} and {s}");
+    }
     assert_eq!(deliveries, 1, "deliveries at {n} and {s}");
 }
 
@@ -61,7 +79,7 @@ fn numbers() -> Vec<u32> {
 /// "House number, sender or entry number not in the book", up to the largest; and n, S and own number.
 pub fn strangers(library: &mut impl Library) {
     let v = honey(77, 40, 800);
-    let book = fresh_book(4, 2, 1, SEASON, &open_sheet());
+    let book = fresh([4, 2, 1, 1, 3], SEASON, &open_sheet());
     for number in numbers() {
         for kind in 1..=3 {
             let sender = if number < 4 { number as u8 } else { 3 };
@@ -69,11 +87,25 @@ pub fn strangers(library: &mut impl Library) {
             let answer = library.receive(&mut book.clone(), number, &bytes).answer;
             assert_eq!(answer, if number < 4 { 0 } else { 4 }, "house {number}");
         }
+        let asked = library.receive(&mut book.clone(), number, &request_of(SEASON));
+        assert_eq!(
+            asked.answer,
+            if number < 4 { 0 } else { 4 },
+            "asker {number}"
+        );
         let answer = library.publish(&mut book.clone(), number, &v).answer;
         assert_eq!(answer, if number < 2 { 0 } else { 4 }, "number {number}");
-        for [n, s, own] in [[number, 2, 0], [4, number, 0], [4, 2, number]] {
+        for (sender, at) in [(number, 0), (0, number), (number, number)] {
+            let answer = library.sent(&book, 2, sender, at).answer;
+            let there = sender < 4 && at < 2;
+            assert_eq!(answer, if there { 0 } else { 4 }, "{sender} and {at}");
+        }
+        for place in 0..5 {
+            let mut numbers = [4, 2, 0, 1, 3];
+            numbers[place] = number;
+            let [n, s, own, f, d] = numbers;
             library.length(n, s);
-            library.open(&mut book.clone(), n, s, own, number, &open_sheet());
+            library.open(&mut book.clone(), n, s, own, f, d, number, &open_sheet());
         }
     }
     for byte in 0..=255 {
@@ -86,11 +118,11 @@ pub fn strangers(library: &mut impl Library) {
     }
 }
 
-/// Messages of every length 0 to 64 and some longer, cut or lengthened with zeros, noise and a second
-/// message, by reader and receiver; and every other byte in every place, of every kind.
+/// Messages and requests of every length 0 to 64 and some longer, cut or lengthened with zeros, noise and a
+/// second one, by reader and receiver; and every other byte in every place of a message, of every kind.
 pub fn messages(library: &mut impl Library, seed: u64) {
     let mut random = Random::new(seed);
-    let book = fresh_book(4, 2, 1, SEASON, &open_sheet());
+    let book = fresh([4, 2, 1, 1, 3], SEASON, &open_sheet());
     let lengths = (0..=64).chain([72, 100, 255, 256, 292, 1_000, 65_000]);
     for (kind, length) in (1..=3).flat_map(|kind| lengths.clone().map(move |l| (kind, l))) {
         let whole = message(kind, SEASON, 2, 1, &honey(77, 40, 800));
@@ -107,6 +139,17 @@ pub fn messages(library: &mut impl Library, seed: u64) {
         library.read(&noise);
         library.receive(&mut book.clone(), 2, &noise);
     }
+    for length in lengths {
+        let whole = request_of(SEASON);
+        let noise = random.bytes(length);
+        for more in [&vec![0; length], &noise, &whole.repeat(length / 11 + 1)] {
+            let bytes = &[&whole[..], more].concat()[..length];
+            let expected = if length == 11 { 0 } else { 2 };
+            assert_eq!(library.read(bytes).answer, expected, "{length} bytes");
+            let received = library.receive(&mut book.clone(), 2, bytes);
+            assert_eq!(received.answer, expected, "{length} bytes");
+        }
+    }
     for (place, change) in (0..36).flat_map(|place| (1..=255).map(move |change| (place, change))) {
         let mut bytes = message(random.pick(&[1, 2, 3]), SEASON, 2, 1, &honey(77, 40, 800));
         bytes[place] ^= change;
@@ -114,7 +157,7 @@ pub fn messages(library: &mut impl Library, seed: u64) {
     }
 }
 
-/// The three calls that take a book, on these bytes.
+/// The calls that take a book, on these bytes.
 fn on_book(library: &mut impl Library, random: &mut Random, book: &[u8]) {
     let v = honey(77, 40, 800);
     let kind = random.pick(&[1, 2, 3]);
@@ -123,28 +166,44 @@ fn on_book(library: &mut impl Library, random: &mut Random, book: &[u8]) {
     });
     library.publish(&mut book.to_vec(), 0, &v);
     library.receive(&mut book.to_vec(), 0, &message(kind, season, 0, 0, &v));
+    library.receive(&mut book.to_vec(), 0, &request_of(season));
+    library.come_back(book);
+    library.sent(book, kind, 0, 0);
     library.waiting(book);
 }
 
-/// A small book, half full, with every bit flipped and with every byte at 0, 2 and 255; cut to every
-/// length; and lengthened, with zeros and with noise.
-pub fn damaged_books(library: &mut impl Library, seed: u64) {
-    let mut random = Random::new(seed);
+/// A small legal book of so many houses, half full, each asker helped as often as it may be or once less.
+fn half_full([n, f, d]: [u8; 3]) -> Vec<u8> {
     let gates = [Gate::AtMost(20.0), Gate::Between(-0.0, 2.0)];
-    let mut book = fresh_book(1, 1, 0, SEASON, &sheet(20, gates[0], gates[1]));
-    for slot in book[29..].chunks_exact_mut(21).step_by(2) {
+    let mut book = fresh([n, 1, 0, f, d], SEASON, &sheet(20, gates[0], gates[1]));
+    for (house, helped) in book[31..slots_from(n)].iter_mut().enumerate() {
+        *helped = d - (house % 2) as u8;
+    }
+    for slot in book[slots_from(n)..].chunks_exact_mut(21).step_by(2) {
         slot[0] = 1;
         slot[1..].copy_from_slice(&honey(77, 40, 799));
     }
-    for place in 0..book.len() {
-        let bits = (0..8).map(|bit| book[place] ^ 1 << bit);
-        for byte in bits.chain([0, 2, 255]) {
-            let mut other = book.clone();
-            other[place] = byte;
-            on_book(library, &mut random, &other);
+    book
+}
+
+/// Small books with every bit flipped and with every byte at 0, 2 and 255: one house's whole book, and
+/// five houses' up to the first slots. One house's book cut to every length; and lengthened, with zeros
+/// and noise.
+pub fn damaged_books(library: &mut impl Library, seed: u64) {
+    let mut random = Random::new(seed);
+    for (numbers, most) in [([1, 0, 3], 200), ([5, 2, 4], 80)] {
+        let book = half_full(numbers);
+        for place in 0..book.len().min(most) {
+            let bits = (0..8).map(|bit| book[place] ^ 1 << bit);
+            for byte in bits.chain([0, 2, 255]) {
+                let mut other = book.clone();
+                other[place] = byte;
+                on_book(library, &mut random, &other);
+            }
+            on_book(library, &mut random, &book[..place]);
         }
-        on_book(library, &mut random, &book[..place]);
     }
+    let book = half_full([1, 0, 3]);
     for more in (1..=64).chain([1_000, 65_000]) {
         for tail in [vec![0; more], random.bytes(more)] {
             on_book(library, &mut random, &[&book[..], &tail].concat());
@@ -185,7 +244,7 @@ fn as_readings(library: &mut impl Library, v: &[u8; 20]) {
         for kind in 1..=3 {
             let bytes = message(kind, SEASON, 2, 0, v);
             assert_eq!(library.receive(&mut book, 2, &bytes).answer, 5, "{v:02X?}");
-            let read = library.read(&bytes).message.expect("a message");
+            let read = library.read(&bytes).message().expect("a message");
             assert_eq!(read.declaration, *v, "read unchanged");
             let written = library.write(kind, SEASON, 2, 0, v);
             assert_eq!(written.message, Some(bytes), "written unchanged");
@@ -201,7 +260,7 @@ fn as_limit(library: &mut impl Library, gate: Gate) {
         let mut book = fresh_book(1, 1, 0, SEASON, &sheet);
         assert_eq!(library.publish(&mut book, 0, &v).answer, 1, "{gate:?}");
         assert_eq!(library.waiting(&book).answer, 1, "{gate:?}");
-        let answer = library.open(&mut book, 1, 1, 0, SEASON, &sheet);
+        let answer = library.open(&mut book, 1, 1, 0, 0, 0, SEASON, &sheet);
         assert_eq!(answer, 10, "{gate:?}");
     }
 }

@@ -1,6 +1,8 @@
 //! Every state of one entry that counts for a message: reachable or not, with all that may come of it.
 
-use reference::testing::forms::{declaration, fresh_book, message, open_sheet, SEASON};
+use reference::testing::forms::{
+    declaration, fresh, message, open_sheet, redraw_helped, slots_from, SEASON,
+};
 use reference::testing::random::Random;
 use reference::{Declaration, Library};
 
@@ -13,12 +15,13 @@ fn three() -> [Declaration; 3] {
     [with(0x0000_0000), with(0x8000_0000), with(0x7FA0_0001)]
 }
 
-/// Up to so many houses: SENDs, ECHOes and READYs from each house on every state of the slots that they
-/// are counted by, each slot empty or with one of two declarations. The other slots are drawn.
+/// Up to so many houses with each f that fits: SENDs, ECHOes and READYs from each house on every state
+/// of the slots that they are counted by, each slot empty or with one of two declarations. The other
+/// slots, d and the help counts are drawn.
 pub fn states(library: &mut impl Library, seed: u64, most: u8) {
     let mut random = Random::new(seed);
     let (mut given, mut delivered) = (0, 0);
-    for n in 1..=most {
+    for (n, f) in (1..=most).flat_map(|n| (0..n.div_ceil(2)).map(move |f| (n, f))) {
         let houses = usize::from(n);
         let first = usize::from(NUMBERS) + (2 * houses - 1) * (2 * houses + 3);
         let marks = [first + 2 * houses + 1, first + 2 * houses + 2];
@@ -30,7 +33,7 @@ pub fn states(library: &mut impl Library, seed: u64, most: u8) {
         for (kind, slots) in (1..).zip(&of_kind) {
             let counted = [&slots[..], &marks].concat();
             for state in 0..3usize.pow(counted.len() as u32) {
-                let book = book(&mut random, n, first, &counted, state);
+                let book = book(&mut random, [n, f], first, &counted, state);
                 for house in 0..n {
                     for v in &three()[..2] {
                         let bytes = message(kind, SEASON, n - 1, NUMBERS - 1, v);
@@ -40,6 +43,8 @@ pub fn states(library: &mut impl Library, seed: u64, most: u8) {
                     }
                 }
                 library.waiting(&book);
+                let (sender, number) = (u32::from(n) - 1, u32::from(NUMBERS) - 1);
+                library.sent(&book, kind, sender, number);
             }
         }
     }
@@ -47,12 +52,19 @@ pub fn states(library: &mut impl Library, seed: u64, most: u8) {
 }
 
 /// A legal book whose counted slots are as this state says, and whose entry is else drawn.
-fn book(random: &mut Random, n: u8, first: usize, counted: &[usize], state: usize) -> Vec<u8> {
-    let mut book = fresh_book(n, NUMBERS, n - 1, SEASON, &open_sheet());
+fn book(
+    random: &mut Random,
+    [n, f]: [u8; 2],
+    first: usize,
+    counted: &[usize],
+    state: usize,
+) -> Vec<u8> {
+    let mut book = fresh([n, NUMBERS, n - 1, f, 0], SEASON, &open_sheet());
+    redraw_helped(random, &mut book);
     let of = three();
     let other = 1 + random.below(2);
     let mut put = |slot: usize, v: Option<&Declaration>| {
-        let slot = &mut book[29 + 21 * slot..][..21];
+        let slot = &mut book[slots_from(n) + 21 * slot..][..21];
         slot.fill(0);
         if let Some(v) = v {
             slot[0] = 1;

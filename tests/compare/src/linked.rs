@@ -1,32 +1,47 @@
-//! The library that a house links, as the eight calls over the driver. Whatever the structs may not hold
+//! The library that a house links, as the ten calls over the driver. Whatever the structs may not hold
 //! makes a panic here, before anything is compared.
 
-use crate::pipe::{Call, Pipe, Request};
+use crate::pipe::{Call, Pipe, Question, NUMBERS};
 use reference::{
-    Declaration, Kind, Library, Message, Outcome, ReadAnswer, Waiting, WaitingEntry, Written,
+    Declaration, Form, Kind, Library, Message, Outcome, ReadAnswer, Returned, SentAnswer, Waiting,
+    WaitingEntry, Written,
 };
 
 /// Every call with the answers that it can give.
-pub const ANSWERS: [(Call, &[u8]); 8] = [
+pub const ANSWERS: [(Call, &[u8]); 10] = [
     (Call::Length, &[0, 9]),
     (Call::Open, &[0, 9, 10, 11]),
     (Call::Publish, &[0, 1, 4, 5, 8]),
-    (Call::Receive, &[0, 1, 2, 3, 4, 5, 6, 7]),
+    (Call::Receive, &[0, 1, 2, 3, 4, 5, 6, 7, 14]),
+    (Call::ComeBack, &[0, 1]),
+    (Call::Sent, &[0, 1, 2, 4]),
     (Call::Waiting, &[0, 1]),
     (Call::Judge, &[0, 5, 10]),
     (Call::Write, &[0, 2]),
     (Call::Read, &[0, 2]),
 ];
 
+/// What answers carry.
+pub const CARRIED: [&str; 4] = [
+    "messages given",
+    "declarations delivered",
+    "requests helped",
+    "messages to send again",
+];
+
 const NO_DECLARATION: Declaration = [0; 20];
+const NO_NUMBERS: [u32; NUMBERS] = [0; NUMBERS];
+
+/// How often a call gave each answer.
+pub type Given = [u64; 15];
 
 /// The library at the other end of the pipes, and how often each call gave each answer.
 pub struct Linked {
     pipe: Pipe,
     /// By call and answer.
-    pub counts: [[u64; 12]; 8],
-    /// Messages given, and declarations delivered.
-    pub carried: [u64; 2],
+    pub counts: [Given; ANSWERS.len()],
+    /// How often an answer carried each of them.
+    pub carried: [u64; CARRIED.len()],
 }
 
 impl Linked {
@@ -34,8 +49,8 @@ impl Linked {
     pub fn start(words: &[String]) -> Self {
         Linked {
             pipe: Pipe::start(words),
-            counts: [[0; 12]; 8],
-            carried: [0; 2],
+            counts: [[0; 15]; ANSWERS.len()],
+            carried: [0; CARRIED.len()],
         }
     }
 
@@ -50,17 +65,17 @@ impl Linked {
     }
 
     /// Makes a call on a book, which a refusal leaves byte for byte.
-    fn on_book<const N: usize>(&mut self, request: Request) -> ([u8; N], Vec<u8>) {
-        let (fields, book) = self.pipe.call(&request, N);
+    fn on_book<const N: usize>(&mut self, question: Question) -> ([u8; N], Vec<u8>) {
+        let (fields, book) = self.pipe.call(&question, N);
         let answer = fields[0];
-        let (call, answers) = ANSWERS[request.call as usize];
-        assert_eq!(call, request.call, "the table of answers");
+        let (call, answers) = ANSWERS[question.call as usize];
+        assert_eq!(call, question.call, "the table of answers");
         assert!(
             answers.contains(&answer),
             "{call:?} gives {answer}, no answer of its own"
         );
         assert!(
-            answer == 0 || book == request.book,
+            answer == 0 || book == question.book,
             "{call:?} is refused by {answer} and writes"
         );
         self.counts[call as usize][usize::from(answer)] += 1;
@@ -71,11 +86,11 @@ impl Linked {
     fn plain<const N: usize>(
         &mut self,
         call: Call,
-        numbers: [u32; 4],
+        numbers: [u32; NUMBERS],
         declaration: &Declaration,
         bytes: &[u8],
     ) -> [u8; N] {
-        let (fields, _) = self.on_book(Request {
+        let (fields, _) = self.on_book(Question {
             call,
             numbers,
             declaration: *declaration,
@@ -85,18 +100,45 @@ impl Linked {
         fields
     }
 
+    /// Makes a call that reads a book, and does not write to it.
+    fn reading<const N: usize>(
+        &mut self,
+        call: Call,
+        numbers: [u32; NUMBERS],
+        book: &[u8],
+    ) -> [u8; N] {
+        let (fields, after) = self.on_book(Question {
+            call,
+            numbers,
+            declaration: NO_DECLARATION,
+            book,
+            bytes: &[],
+        });
+        assert!(after == book, "{call:?} writes to the book");
+        fields
+    }
+
     /// Makes a publishing or a receiving, and takes its outcome apart.
-    fn step(&mut self, request: Request) -> (Outcome, Vec<u8>) {
-        let (fields, after) = self.on_book::<59>(request);
+    fn step(&mut self, question: Question) -> (Outcome, Vec<u8>) {
+        let (fields, after) = self.on_book::<60>(question);
         let answer = fields[0];
         let outcome = Outcome {
             answer,
             message: held("gives", fields[1], fields[2..38].try_into().expect("36")),
-            delivery: held("delivers", fields[38], fields[39..].try_into().expect("20")),
+            delivery: held(
+                "delivers",
+                fields[38],
+                fields[39..59].try_into().expect("20"),
+            ),
+            helps: flag("helps", fields[59]),
         };
-        let carries = [outcome.message.is_some(), outcome.delivery.is_some()];
+        let carries = [
+            outcome.message.is_some(),
+            outcome.delivery.is_some(),
+            outcome.helps,
+        ];
         assert!(
-            answer == 0 || carries == [false; 2],
+            answer == 0 || carries == [false; 3],
             "a refusal by {answer} carries something"
         );
         for (count, carries) in self.carried.iter_mut().zip(carries) {
@@ -121,18 +163,46 @@ fn held<const N: usize>(name: &str, byte: u8, bytes: [u8; N]) -> Option<[u8; N]>
     None
 }
 
+/// What the fields of a reading say. Of a request they are kind 9, the season, and zeros.
+fn form(fields: [u8; 27]) -> Form {
+    let [kind, y0, y1, y2, y3, rest @ ..] = fields;
+    let season = u32::from_be_bytes([y0, y1, y2, y3]);
+    if kind == 9 {
+        assert_eq!(rest, [0; 22], "a request with an entry or a declaration");
+        return Form::Request(season);
+    }
+    let [sender, number, declaration @ ..] = rest;
+    Form::Message(Message {
+        kind: Kind::of(kind).unwrap_or_else(|| panic!("reading gives the kind {kind}")),
+        season,
+        sender,
+        number,
+        declaration,
+    })
+}
+
 impl Library for Linked {
     fn length(&mut self, n: u32, s: u32) -> (u8, usize) {
         let [answer, length @ ..] =
-            self.plain::<9>(Call::Length, [n, s, 0, 0], &NO_DECLARATION, &[]);
+            self.plain::<9>(Call::Length, [n, s, 0, 0, 0, 0], &NO_DECLARATION, &[]);
         let length = u64::from_be_bytes(length);
         (answer, usize::try_from(length).expect("a book's length"))
     }
 
-    fn open(&mut self, book: &mut [u8], n: u32, s: u32, own: u32, season: u32, sheet: &[u8]) -> u8 {
-        let ([answer], after) = self.on_book(Request {
+    fn open(
+        &mut self,
+        book: &mut [u8],
+        n: u32,
+        s: u32,
+        own: u32,
+        f: u32,
+        d: u32,
+        season: u32,
+        sheet: &[u8],
+    ) -> u8 {
+        let ([answer], after) = self.on_book(Question {
             call: Call::Open,
-            numbers: [n, s, own, season],
+            numbers: [n, s, own, f, d, season],
             declaration: NO_DECLARATION,
             book,
             bytes: sheet,
@@ -142,9 +212,9 @@ impl Library for Linked {
     }
 
     fn publish(&mut self, book: &mut [u8], number: u32, declaration: &Declaration) -> Outcome {
-        let (outcome, after) = self.step(Request {
+        let (outcome, after) = self.step(Question {
             call: Call::Publish,
-            numbers: [number, 0, 0, 0],
+            numbers: [number, 0, 0, 0, 0, 0],
             declaration: *declaration,
             book,
             bytes: &[],
@@ -154,9 +224,9 @@ impl Library for Linked {
     }
 
     fn receive(&mut self, book: &mut [u8], house: u32, message: &[u8]) -> Outcome {
-        let (outcome, after) = self.step(Request {
+        let (outcome, after) = self.step(Question {
             call: Call::Receive,
-            numbers: [house, 0, 0, 0],
+            numbers: [house, 0, 0, 0, 0, 0],
             declaration: NO_DECLARATION,
             book,
             bytes: message,
@@ -165,15 +235,28 @@ impl Library for Linked {
         outcome
     }
 
+    fn come_back(&mut self, book: &[u8]) -> Returned {
+        let [answer, request @ ..] = self.reading::<12>(Call::ComeBack, NO_NUMBERS, book);
+        Returned {
+            answer,
+            request: held("returned", u8::from(answer == 0), request),
+        }
+    }
+
+    fn sent(&mut self, book: &[u8], kind: u8, sender: u32, number: u32) -> SentAnswer {
+        let numbers = [u32::from(kind), sender, number, 0, 0, 0];
+        let [answer, gives, message @ ..] = self.reading::<38>(Call::Sent, numbers, book);
+        let message = held("gives", gives, message);
+        assert!(
+            answer == 0 || message.is_none(),
+            "a refusal by {answer} carries a message"
+        );
+        self.carried[3] += u64::from(message.is_some());
+        SentAnswer { answer, message }
+    }
+
     fn waiting(&mut self, book: &[u8]) -> Waiting {
-        let ([answer, waits, number, sender], after) = self.on_book(Request {
-            call: Call::Waiting,
-            numbers: [0; 4],
-            declaration: NO_DECLARATION,
-            book,
-            bytes: &[],
-        });
-        assert!(after == book, "the waiting search writes to the book");
+        let [answer, waits, number, sender] = self.reading(Call::Waiting, NO_NUMBERS, book);
         let entry = held("waits", waits, [number, sender]);
         assert!(
             answer == 0 || entry.is_none(),
@@ -186,7 +269,7 @@ impl Library for Linked {
     }
 
     fn judge(&mut self, sheet: &[u8], declaration: &Declaration) -> u8 {
-        let [answer] = self.plain(Call::Judge, [0; 4], declaration, sheet);
+        let [answer] = self.plain(Call::Judge, NO_NUMBERS, declaration, sheet);
         answer
     }
 
@@ -196,6 +279,8 @@ impl Library for Linked {
             season,
             u32::from(sender),
             u32::from(number),
+            0,
+            0,
         ];
         let [answer, message @ ..] = self.plain::<37>(Call::Write, numbers, v, &[]);
         Written {
@@ -205,19 +290,12 @@ impl Library for Linked {
     }
 
     fn read(&mut self, message: &[u8]) -> ReadAnswer {
-        let fields = self.plain::<28>(Call::Read, [0; 4], &NO_DECLARATION, message);
+        let fields = self.plain::<28>(Call::Read, NO_NUMBERS, &NO_DECLARATION, message);
         let [answer, five @ ..] = fields;
         let five = held("read", u8::from(answer == 0), five);
-        let message =
-            five.map(
-                |[kind, y0, y1, y2, y3, sender, number, declaration @ ..]| Message {
-                    kind: Kind::of(kind).unwrap_or_else(|| panic!("reading gives the kind {kind}")),
-                    season: u32::from_be_bytes([y0, y1, y2, y3]),
-                    sender,
-                    number,
-                    declaration,
-                },
-            );
-        ReadAnswer { answer, message }
+        ReadAnswer {
+            answer,
+            form: five.map(form),
+        }
     }
 }

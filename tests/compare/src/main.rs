@@ -1,5 +1,5 @@
 //! The proved library, over pipes, against document 01 in ordinary Rust: every call is made on both, and
-//! every answer, message, delivery and byte of the book is compared.
+//! every answer, all that it carries and every byte of the book is compared.
 //!
 //! `compare gate WORDS..` runs all checks once with a fixed seed, and `compare long SECONDS SEED WORDS..`
 //! goes on for as long as one likes. The words run the driver.
@@ -13,7 +13,7 @@ mod linked;
 mod pipe;
 
 use checks::{Check, Pair, COUNTED, DRAWN};
-use linked::{Linked, ANSWERS};
+use linked::{Linked, ANSWERS, CARRIED};
 use reference::testing::both::Both;
 use reference::testing::random::Random;
 use reference::Reference;
@@ -88,6 +88,9 @@ fn gate(words: &[String]) {
             .all(|answer| counts[usize::from(*answer)] > 0);
         assert!(seen, "{call:?}: not every answer was seen: {counts:?}");
     }
+    let carried = pair.first.carried;
+    let seen = carried.iter().all(|count| *count > 0);
+    assert!(seen, "not all was carried: {carried:?}");
     let seconds = began.elapsed().as_secs();
     println!(
         "compare: {} calls, no difference ({seconds} s)",
@@ -131,6 +134,7 @@ fn summary(linked: &Linked) {
             .map(|&answer| format!("{answer}: {}", counts[usize::from(answer)]));
         println!("  {call:?}: {}", row.collect::<Vec<_>>().join(", "));
     }
-    let [given, delivered] = linked.carried;
-    println!("  messages given: {given}, declarations delivered: {delivered}");
+    let carried = CARRIED.iter().zip(linked.carried);
+    let carried = carried.map(|(what, count)| format!("{what}: {count}"));
+    println!("  {}", carried.collect::<Vec<_>>().join(", "));
 }

@@ -1,4 +1,4 @@
-//! The driver as a process at the other end of two pipes: one request, one reply, nothing between.
+//! The driver as a process at the other end of two pipes: one question, one reply, nothing between.
 
 use reference::{Declaration, DECLARATION};
 use std::io::{BufReader, Read, Write};
@@ -7,13 +7,15 @@ use std::sync::atomic::{AtomicU64, Ordering};
 use std::sync::{Arc, Mutex};
 use std::time::Duration;
 
-/// The eight calls, under the driver's numbers.
+/// The ten calls, under the driver's numbers.
 #[derive(Clone, Copy, Debug, PartialEq, Eq)]
 pub enum Call {
     Length,
     Open,
     Publish,
     Receive,
+    ComeBack,
+    Sent,
     Waiting,
     Judge,
     Write,
@@ -21,16 +23,21 @@ pub enum Call {
 }
 
 /// All that any call takes. What a call does not take is empty or zeros.
-pub struct Request<'a> {
+pub struct Question<'a> {
     pub call: Call,
-    pub numbers: [u32; 4],
+    pub numbers: [u32; NUMBERS],
     pub declaration: Declaration,
     pub book: &'a [u8],
     /// A sheet or a message.
     pub bytes: &'a [u8],
 }
 
-/// What comes before the answer in a reply.
+/// How many numbers a question has.
+pub const NUMBERS: usize = 6;
+
+/// What comes before the lengths of the book and of the bytes in a question, and before the answer in a
+/// reply.
+const LENGTHS: usize = 1 + 4 * NUMBERS + DECLARATION;
 const HEAD: usize = 6;
 
 /// Longer than any call takes, on a busy machine and under the emulator.
@@ -42,8 +49,8 @@ pub struct Pipe {
     to: Option<ChildStdin>,
     from: BufReader<ChildStdout>,
     calls: u32,
-    request: Vec<u8>,
-    /// Counts requests and whole replies, so it is odd while a reply is waited for.
+    question: Vec<u8>,
+    /// Counts questions and whole replies, so it is odd while a reply is waited for.
     turns: Arc<AtomicU64>,
 }
 
@@ -55,7 +62,7 @@ fn watch(turns: &AtomicU64, child: &Mutex<Child>) {
         std::thread::sleep(PATIENCE);
         let now = turns.load(Ordering::Relaxed);
         if now == before && now % 2 == 1 {
-            eprintln!("the driver: no whole reply to request {}", now / 2);
+            eprintln!("the driver: no whole reply to question {}", now / 2);
             if let Ok(mut child) = child.lock() {
                 child.kill().expect("the driver can be ended");
             }
@@ -89,25 +96,25 @@ impl Pipe {
             from: BufReader::with_capacity(1 << 17, from),
             child,
             calls: 0,
-            request: vec![],
+            question: vec![],
             turns,
         }
     }
 
     /// Makes a call: gives the answer, which has this length, and the book's bytes afterwards.
-    pub fn call(&mut self, request: &Request, length: usize) -> (Vec<u8>, Vec<u8>) {
+    pub fn call(&mut self, question: &Question, length: usize) -> (Vec<u8>, Vec<u8>) {
         self.turns.fetch_add(1, Ordering::Relaxed);
-        self.send(request);
-        let mut head = vec![request.call as u8];
+        self.send(question);
+        let mut head = vec![question.call as u8];
         head.extend(self.calls.to_be_bytes());
         head.push(length as u8);
         assert_eq!(self.take(HEAD), head, "the head of the driver's reply");
         let answer = self.take(length);
-        let book = self.take(request.book.len());
-        let others = self.take(request.bytes.len() + DECLARATION);
+        let book = self.take(question.book.len());
+        let others = self.take(question.bytes.len() + DECLARATION);
         self.turns.fetch_add(1, Ordering::Relaxed);
         self.calls = self.calls.wrapping_add(1);
-        let same = [request.bytes, &request.declaration].concat() == others;
+        let same = [question.bytes, &question.declaration].concat() == others;
         assert!(same, "a sheet, message or declaration is written to");
         (answer, book)
     }
@@ -121,21 +128,21 @@ impl Pipe {
         bytes
     }
 
-    fn send(&mut self, request: &Request) {
-        self.request.clear();
-        self.request.push(request.call as u8);
-        for number in request.numbers {
-            self.request.extend(number.to_be_bytes());
+    fn send(&mut self, question: &Question) {
+        self.question.clear();
+        self.question.push(question.call as u8);
+        for number in question.numbers {
+            self.question.extend(number.to_be_bytes());
         }
-        self.request.extend(request.declaration);
-        for bytes in [request.book, request.bytes] {
-            self.request.extend((bytes.len() as u32).to_be_bytes());
+        self.question.extend(question.declaration);
+        for bytes in [question.book, question.bytes] {
+            self.question.extend((bytes.len() as u32).to_be_bytes());
         }
-        self.request.extend(request.book);
-        self.request.extend(request.bytes);
+        self.question.extend(question.book);
+        self.question.extend(question.bytes);
         let to = self.to.as_mut().expect("a pipe to the driver");
-        if let Err(error) = to.write_all(&self.request) {
-            self.gone(&format!("a request was not taken ({error})"));
+        if let Err(error) = to.write_all(&self.question) {
+            self.gone(&format!("a question was not taken ({error})"));
         }
     }
 
@@ -166,21 +173,22 @@ impl Pipe {
 }
 
 impl Drop for Pipe {
-    /// Where a check panics, the last request is shown whole but for its book, of which the head is shown.
+    /// Where a check panics, the last question is shown whole but for its book, of which the head is shown.
     fn drop(&mut self) {
-        if !std::thread::panicking() || self.request.len() < 45 {
+        if !std::thread::panicking() || self.question.len() < LENGTHS + 8 {
             return;
         }
-        let (head, rest) = self.request.split_at(45);
-        let length = u32::from_be_bytes([head[37], head[38], head[39], head[40]]) as usize;
+        let (head, rest) = self.question.split_at(LENGTHS + 8);
+        let length = &head[LENGTHS..LENGTHS + 4];
+        let length = u32::from_be_bytes(length.try_into().expect("four bytes")) as usize;
         let (book, bytes) = rest.split_at(length);
         eprintln!(
-            "the last request, after {} replies: {head:02X?}",
+            "the last question, after {} replies: {head:02X?}",
             self.calls
         );
         eprintln!(
             "  a book of {length} bytes: {:02X?} ..",
-            &book[..length.min(29)]
+            &book[..length.min(47)]
         );
         eprintln!(
             "  a sheet or message of {} bytes: {bytes:02X?}",

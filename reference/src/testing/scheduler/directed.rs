@@ -1,0 +1,295 @@
+//! Seasons that are laid out step by step, with exact numbers.
+
+use crate::testing::forms::{honey, message, SEASON};
+use crate::testing::season::{Rules, Season};
+use crate::{request, Declaration, Kind, Library};
+
+/// What is published, on the entry of house 0 and number 0 where nothing else is said.
+fn published() -> Declaration {
+    honey(77, 40, 800)
+}
+
+/// Which of the houses delivered what was published, on the entry of this sender and number 0. None
+/// delivered another thing.
+fn delivered<L: Library>(season: &Season<L>, sender: usize) -> Vec<usize> {
+    let houses = 0..usize::from(season.rules().n);
+    let mut which = vec![];
+    for house in houses {
+        match season.delivered(house, sender, 0) {
+            Some(v) if v == published() => which.push(house),
+            Some(_) => panic!("house {house} delivered another declaration"),
+            None => (),
+        }
+    }
+    which
+}
+
+/// All requests that wait are consumed; gives the answers, and none where one is lost.
+fn answers<L: Library>(season: &mut Season<L>) -> Vec<Option<u8>> {
+    let requests = season.requests().len();
+    (0..requests).map(|_| season.consume_request(0)).collect()
+}
+
+/// Whether a copy is of this kind.
+fn is_kind(bytes: &[u8], kind: Kind) -> bool {
+    bytes[3] == kind as u8
+}
+
+/// Two wrong houses of four: the wrong sender tells house 0 one thing and house 1 another, and both wrong
+/// houses vouch for it. Each honest house has a quorum and enough READYs, and they deliver differently.
+pub fn directed_disagreement(library: &mut impl Library) -> Vec<usize> {
+    let mut season = Season::open(library, Rules::new(4, 1, &[2, 3]));
+    for (house, declaration) in [(0, honey(77, 40, 800)), (1, honey(77, 40, 799))] {
+        let bytes = |kind| message(kind, SEASON, 2, 0, &declaration);
+        assert_eq!(
+            season.hand_in(house, 2, &bytes(1)),
+            0,
+            "the wrong sender's SEND"
+        );
+        for kind in [2, 3] {
+            for wrong in [2, 3] {
+                assert_eq!(
+                    season.hand_in(house, wrong, &bytes(kind)),
+                    0,
+                    "a wrong voucher"
+                );
+            }
+        }
+    }
+    season.drain();
+    season.check();
+    season.disagreements()
+}
+
+/// Six houses, f = 1 and d = 1: house 5 is wrong, heard at house 0 and helped there once; house 1 is down
+/// when the SEND comes, and returns; house 4 crashes for good when its ECHO has left. House 0 delivers first,
+/// by the READY of the wrong house; then all that are up deliver.
+pub fn six_houses(library: &mut impl Library) {
+    let mut season = Season::open(library, Rules::new(6, 1, &[5]).with(1, 1));
+    season.crash(1);
+    assert_eq!(season.publish(0, 0, &published()), 0, "the publication");
+    season.consume_where(|copy| is_kind(&copy.bytes, Kind::Send));
+    season.crash(4);
+    season.consume_where(|copy| is_kind(&copy.bytes, Kind::Echo));
+    assert_eq!(
+        season.copies_on(0, 0),
+        [6, 24, 18],
+        "copies up to the READYs"
+    );
+    assert_eq!(season.hand_in(0, 5, &request(SEASON)), 0, "helped once");
+    assert_eq!(season.hand_in(0, 5, &request(SEASON)), 14, "and no more");
+    let ready = message(3, SEASON, 0, 0, &published());
+    assert_eq!(season.hand_in(0, 5, &ready), 0, "the wrong house is heard");
+    season.drain();
+    assert_eq!(delivered(&season, 0), [0], "four READYs, one of them wrong");
+    assert_eq!(season.copies_on(0, 0), [7, 25, 19], "one copy each to 5");
+    season.come_back(1);
+    assert_eq!(season.copies_on(0, 0), [7, 25, 19], "nothing to send again");
+    let asked = answers(&mut season);
+    assert_eq!(asked, [Some(0), Some(0), Some(0), Some(0), None]);
+    assert_eq!(season.copies_on(0, 0), [8, 28, 22], "help of 0, 2 and 3");
+    season.drain();
+    season.check();
+    assert_eq!(delivered(&season, 0), [0, 1, 2, 3], "all that are up");
+    assert_eq!(season.copies_on(0, 0), [8, 34, 28], "and all copies");
+}
+
+/// One house, d = 8: it returns eight times, sends its three messages again each time and helps itself. The
+/// bound of 1 + 2 + 48 copies is reached, and that of 1 + 16 of READY. A ninth return goes past it.
+pub fn one_house(library: &mut impl Library) {
+    let mut season = Season::open(library, Rules::new(1, 1, &[]).with(0, 8));
+    assert_eq!(season.publish(0, 0, &published()), 0, "the publication");
+    season.drain();
+    for returns in 1..=8 {
+        season.crash(0);
+        season.come_back(0);
+        assert_eq!(answers(&mut season), [Some(0)], "it helps itself");
+        season.drain();
+        let of_each = 1 + 2 * returns;
+        assert_eq!(season.copies_on(0, 0), [of_each; 3], "return {returns}");
+    }
+    season.check();
+    assert_eq!(season.copies().len(), 3 + 48, "the bound is reached");
+    assert_eq!(delivered(&season, 0), [0]);
+    season.crash(0);
+    season.come_back(0);
+    assert_eq!(answers(&mut season), [Some(14)], "helped eight times");
+    season.drain();
+    season.check();
+    assert_eq!(season.copies().len(), 3 + 48 + 3, "past the premise");
+}
+
+/// Three houses, f = 1 and d = 1: each is down once, and all return. House 0 crashes when it has published,
+/// before any copy has left; house 1 misses all that comes; house 2 crashes at the end.
+pub fn three_houses(library: &mut impl Library) {
+    let mut season = Season::open(library, Rules::new(3, 1, &[]).with(1, 1));
+    season.failing(vec![], |season| season.publish(0, 0, &published()));
+    assert!(season.is_down(0) && season.copies().is_empty(), "none left");
+    season.come_back(0);
+    assert_eq!(answers(&mut season), [Some(0); 3]);
+    assert_eq!(
+        season.copies_on(0, 0),
+        [4, 0, 0],
+        "SEND to all, and help to 0"
+    );
+    season.crash(1);
+    season.drain();
+    assert_eq!(delivered(&season, 0), [0, 2]);
+    assert_eq!(
+        season.copies_on(0, 0),
+        [4, 6, 6],
+        "0 and 2 among themselves"
+    );
+    season.come_back(1);
+    assert_eq!(answers(&mut season), [Some(0); 3]);
+    assert_eq!(season.copies_on(0, 0), [5, 8, 8], "help of 0 and 2");
+    season.drain();
+    assert_eq!(delivered(&season, 0), [0, 1, 2]);
+    assert_eq!(
+        season.copies_on(0, 0),
+        [5, 11, 11],
+        "and what 1 gives of it"
+    );
+    season.crash(2);
+    season.come_back(2);
+    assert_eq!(season.copies_on(0, 0), [5, 14, 14], "2 sends again");
+    assert_eq!(answers(&mut season), [Some(0); 3]);
+    season.drain();
+    season.check();
+    assert_eq!(season.copies_on(0, 0), [6, 17, 17], "help of all three");
+}
+
+/// Three houses, f = 1: house 2 returns before anything is published, is down while the others deliver, and
+/// returns once more. With d = 1 that is one return too many: its last request is answered 14 by all, and it
+/// misses the delivery. With d = 2 it is helped, and delivers.
+pub fn returns_past_d(library: &mut impl Library) {
+    for (d, answer, who) in [(1, 14, &[0, 1][..]), (2, 0, &[0, 1, 2][..])] {
+        let mut season = Season::open(library, Rules::new(3, 1, &[]).with(1, d));
+        season.crash(2);
+        season.come_back(2);
+        assert_eq!(answers(&mut season), [Some(0); 3], "nothing to help with");
+        season.crash(2);
+        assert_eq!(season.publish(0, 0, &published()), 0, "the publication");
+        season.drain();
+        assert_eq!(delivered(&season, 0), [0, 1], "house 2 is down");
+        season.come_back(2);
+        assert_eq!(answers(&mut season), [Some(answer); 3], "d = {d}");
+        season.drain();
+        season.check();
+        assert_eq!(delivered(&season, 0), who, "d = {d}");
+    }
+}
+
+/// A sender that is down at the end: nothing is delivered, though at most f are down and all is drained.
+/// Either no copy left it; or all did, and each house was down when its copy came and returned later, and
+/// none of those that helped it had heard the SEND.
+pub fn sender_down(library: &mut impl Library) {
+    let rules = Rules::new(3, 1, &[]).with(1, 1);
+    let mut season = Season::open(library, rules.clone());
+    season.failing(vec![], |season| season.publish(0, 0, &published()));
+    season.drain();
+    season.check();
+    assert_eq!(delivered(&season, 0), []);
+    assert!(season.copies().is_empty(), "no copy left");
+
+    let mut season = Season::open(library, rules);
+    assert_eq!(season.publish(0, 0, &published()), 0, "the publication");
+    season.crash(0);
+    for house in [1, 2] {
+        season.crash(house);
+        season.consume_where(|copy| copy.to == house);
+        season.come_back(house);
+        assert_eq!(answers(&mut season), [None, Some(0), Some(0)]);
+    }
+    season.drain();
+    season.check();
+    assert_eq!(delivered(&season, 0), []);
+    assert_eq!(
+        season.copies_on(0, 0),
+        [3, 0, 0],
+        "the three that were lost"
+    );
+}
+
+/// Four houses and any d: wrong house 3 asks house 0 for help twenty times, and is helped d times. That
+/// takes nothing from house 1, which returns d times and is helped each time.
+pub fn asking_often(library: &mut impl Library) {
+    for d in 0..=8 {
+        let mut season = Season::open(library, Rules::new(4, 1, &[3]).with(0, d));
+        assert_eq!(season.publish(0, 0, &published()), 0, "the publication");
+        season.drain();
+        assert_eq!(season.copies_on(0, 0), [4, 12, 12]);
+        let d = usize::from(d);
+        for asked in 0..20 {
+            let answer = season.hand_in(0, 3, &request(SEASON));
+            let expected = if asked < d { 0 } else { 14 };
+            assert_eq!(answer, expected, "request {asked} with d = {d}");
+        }
+        assert_eq!(season.helped(0, 3), d);
+        assert_eq!(season.copies_on(0, 0), [4 + d, 12 + d, 12 + d]);
+        assert_eq!(season.hand_in(0, 4, &request(SEASON)), 4, "no house 4");
+        for _ in 0..d {
+            season.crash(1);
+            season.come_back(1);
+            assert_eq!(answers(&mut season), [Some(0); 3], "house 1 is helped");
+            season.drain();
+        }
+        season.check();
+        assert_eq!(delivered(&season, 0), [0, 1, 2]);
+    }
+}
+
+/// Six houses and f = 1, wrong sender 5: house 4 has three READYs, one of them wrong, and crashes for good
+/// before the others hear of its own. To deliver at 2t + 1 would be too early: of the READYs that it counted
+/// only that of house 3 reaches anybody who stays up, and nobody else would deliver.
+pub fn three_readies_of_six(library: &mut impl Library) {
+    let mut season = Season::open(library, Rules::new(6, 1, &[5]).with(1, 0));
+    let bytes = |kind: Kind| message(kind as u8, SEASON, 5, 0, &published());
+    for house in [0, 3, 4] {
+        assert_eq!(season.hand_in(house, 5, &bytes(Kind::Send)), 0, "the SEND");
+    }
+    season.keep_back_where(|copy| copy.from == 4 && copy.to < 3);
+    season.consume_where(|_| true);
+    assert_eq!(season.copies_on(5, 0), [0, 18, 0], "three ECHOes of four");
+    for house in [3, 4] {
+        assert_eq!(season.hand_in(house, 5, &bytes(Kind::Echo)), 0, "an ECHO");
+    }
+    season.keep_back_where(|copy| copy.from == 4 && copy.to < 4);
+    season.consume_where(|copy| copy.to == 4);
+    assert_eq!(season.hand_in(4, 5, &bytes(Kind::Ready)), 0, "a READY");
+    season.crash(4);
+    season.drain();
+    season.check();
+    assert_eq!(season.copies_on(5, 0), [0, 18, 12], "two READYs of two");
+    assert_eq!(delivered(&season, 5), [], "nobody has four READYs");
+}
+
+/// Four houses, one of them wrong, and d = 2: when all is delivered each honest house returns twice, and all
+/// help all four twice. The bound of hn + 2hnd copies of READY is reached. That of all copies is not, since
+/// one house alone sends SEND: n + 2nd of it, where the bound has n + 2hnd.
+pub fn all_helped(library: &mut impl Library) {
+    let mut season = Season::open(library, Rules::new(4, 1, &[3]).with(0, 2));
+    assert_eq!(season.publish(0, 0, &published()), 0, "the publication");
+    season.drain();
+    for house in [0, 1, 2, 0, 1, 2] {
+        season.crash(house);
+        season.come_back(house);
+        assert_eq!(answers(&mut season), [Some(0); 3], "house {house} asks");
+        assert_eq!(season.hand_in(house, 3, &request(SEASON)), 0, "3 asks");
+        season.drain();
+    }
+    season.check();
+    assert_eq!(season.copies_on(0, 0), [4 + 16, 12 + 48, 12 + 48]);
+}
+
+/// All directed seasons of houses that crash and return.
+pub fn crashes(library: &mut impl Library) {
+    six_houses(library);
+    one_house(library);
+    three_houses(library);
+    returns_past_d(library);
+    sender_down(library);
+    asking_often(library);
+    three_readies_of_six(library);
+    all_helped(library);
+}

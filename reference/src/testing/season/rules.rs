@@ -1,0 +1,64 @@
+//! How a season is set up.
+
+use crate::testing::forms::sheet;
+use crate::{Gate, SHEET};
+
+/// How a season is set up.
+#[derive(Clone, Debug)]
+pub struct Rules {
+    /// How many houses.
+    pub n: u8,
+    /// How many numbers for each sender.
+    pub s: u8,
+    /// How many honest houses may be down at the end.
+    pub f: u8,
+    /// How often a house may return, and an asker is helped.
+    pub d: u8,
+    /// The season's sheet.
+    pub sheet: [u8; SHEET],
+    /// For each house whether it is wrong.
+    pub wrong: Vec<bool>,
+}
+
+impl Rules {
+    /// A season of `n` houses and `s` numbers in which these houses are wrong, with f and d at zero.
+    pub fn new(n: u8, s: u8, wrong: &[usize]) -> Self {
+        let houses = 0..usize::from(n);
+        Rules {
+            n,
+            s,
+            f: 0,
+            d: 0,
+            sheet: sheet(20, Gate::AtMost(20.0), Gate::Between(0.0, 2.0)),
+            wrong: houses.map(|house| wrong.contains(&house)).collect(),
+        }
+    }
+
+    /// The same with this f and d.
+    pub fn with(self, f: u8, d: u8) -> Self {
+        Rules { f, d, ..self }
+    }
+
+    /// The numbers of the honest houses.
+    pub fn honest(&self) -> Vec<usize> {
+        let houses = 0..usize::from(self.n);
+        houses.filter(|&house| !self.wrong[house]).collect()
+    }
+
+    /// How many houses are wrong.
+    pub fn wrong_houses(&self) -> usize {
+        self.wrong.iter().filter(|wrong| **wrong).count()
+    }
+
+    /// "n > 3t + 2f", and "t is the largest that fits". There is one where 2f is below n.
+    pub fn tolerated(&self) -> usize {
+        let (n, f) = (usize::from(self.n), usize::from(self.f));
+        let fits = |t: &usize| n > 3 * t + 2 * f;
+        (0..n).rev().find(fits).expect("2f is below n")
+    }
+
+    /// How many entries a book has.
+    pub fn entries(&self) -> usize {
+        usize::from(self.n) * usize::from(self.s)
+    }
+}
