@@ -1,5 +1,5 @@
-/* Four houses in one process: they open, publish, receive and store; one loses power, returns and is helped; and they write an
- * account of it.
+/* Four houses in one process: they open, publish, receive and store; one loses power twice, returns and is helped; and they write
+ * an account of it.
  *
  * Each call works on a copy of the book. The copy is stored, with a delivery beside it, and only then does anything leave. What a
  * house sent can be read off its book, so that no message is stored: after a power cut the book says what is to be sent again.
@@ -157,7 +157,26 @@ static void carry_to_all(uint32_t from, const uint8_t *bytes, size_t len) {
     }
 }
 
-/* ---- return and help */
+/* ---- a start, a return and help */
+
+/* Sends again to all what it has sent: the last message may not have left. */
+static void send_again(const struct house *house) {
+    for (gm_walk walk = gm_first_sent(house->book, house->len); walk.sent.gives; gm_next_sent(house->book, house->len, &walk)) {
+        printf("house %u sends again to all: %s\n", (unsigned)house->own, kind_of(walk.sent.message, GM_MESSAGE_BYTES));
+        carry_to_all(house->own, walk.sent.message, GM_MESSAGE_BYTES);
+    }
+}
+
+/* Power is back, and nothing that was sent to the house was lost: it asks for no help. */
+static bool start(struct house *house) {
+    if (!recover(house) || gm_waiting(house->book, house->len).answer != GM_ACCEPTED) {
+        return false;
+    }
+    house->up = true;
+    printf("house %u starts at once with the book and the delivery of its file\n", (unsigned)house->own);
+    send_again(house);
+    return house->entered;
+}
 
 /* "On return a house sends again to all what it has sent and asks all for help." */
 static bool come_back(struct house *house) {
@@ -172,10 +191,7 @@ static bool come_back(struct house *house) {
         return false;
     }
     house->up = true;
-    for (gm_walk walk = gm_first_sent(house->book, house->len); walk.sent.gives; gm_next_sent(house->book, house->len, &walk)) {
-        printf("house %u sends again to all: %s\n", (unsigned)house->own, kind_of(walk.sent.message, GM_MESSAGE_BYTES));
-        carry_to_all(house->own, walk.sent.message, GM_MESSAGE_BYTES);
-    }
+    send_again(house);
     printf("house %u asks all for help\n", (unsigned)house->own);
     carry_to_all(house->own, back.request, GM_REQUEST_BYTES);
     return true;
@@ -210,16 +226,24 @@ static void tell(const gm_outcome *gave) {
     printf("\n");
 }
 
-/* One house loses power once: after a READY was stored and before it leaves. */
+/* One house loses power twice: after a READY was stored and before it leaves; and after a delivery was stored and before the
+ * register has it. */
 static bool loses_power(struct house *house, const gm_outcome *gave) {
-    static bool was_cut;
-    if (was_cut || house->own != LOSES_POWER || !gave->gives || gm_read(gave->message, GM_MESSAGE_BYTES).kind != GM_READY) {
+    static bool first, second;
+    if (house->own != LOSES_POWER) {
         return false;
     }
-    was_cut = true;
+    if (!first && gave->gives && gm_read(gave->message, GM_MESSAGE_BYTES).kind == GM_READY) {
+        first = true;
+        printf("house %u loses power before its READY leaves\n", (unsigned)house->own);
+    } else if (!second && gave->delivers) {
+        second = true;
+        printf("house %u loses power before its register has the delivery\n", (unsigned)house->own);
+    } else {
+        return false;
+    }
     house->up = false;
     memset(house->book, 0, sizeof house->book);
-    printf("house %u loses power before its READY leaves\n", (unsigned)house->own);
     return true;
 }
 
@@ -235,7 +259,7 @@ static bool settle(struct house *house, uint32_t from, const uint8_t *worked, co
     }
     memcpy(house->book, worked, house->len);
     if (loses_power(house, gave)) {
-        return true;
+        return !gave->delivers || start(house);
     }
     if (gave->gives) {
         carry_to_all(house->own, gave->message, GM_MESSAGE_BYTES);

@@ -1,5 +1,5 @@
-//! Four houses in one process: they open, publish, receive and store; one loses power, returns and is helped; and they write an
-//! account of it.
+//! Four houses in one process: they open, publish, receive and store; one loses power twice, returns and is helped; and they write
+//! an account of it.
 //!
 //! Each call works on a clone of the book. The clone is stored, with a delivery beside it, and only then does anything leave. What
 //! a house sent can be read off its book, so that no message is stored: after a power cut the book says what is to be sent again.
@@ -116,7 +116,7 @@ struct Valley {
     carried: Vec<Copy>,
     taken: usize,
     lost: usize,
-    was_cut: bool,
+    cuts: usize,
 }
 
 fn kind_of(bytes: &[u8]) -> &'static str {
@@ -201,7 +201,7 @@ impl Valley {
         house.disk.store(&worked, gave.delivery)?;
         house.book = Some(worked);
         if self.loses_power(own, &gave) {
-            return Ok(());
+            return gave.delivery.map_or(Ok(()), |_| self.start(own));
         }
         if let Some(message) = gave.message {
             self.carry_to_all(own, &message);
@@ -213,36 +213,61 @@ impl Valley {
         Ok(())
     }
 
-    /// One house loses power once: after a READY was stored and before it leaves.
+    /// One house loses power twice: after a READY was stored and before it leaves; and after a delivery was stored and before the
+    /// register has it.
     fn loses_power(&mut self, own: usize, gave: &Outcome) -> bool {
         let is_ready = gave
             .message
             .is_some_and(|message| kind_of(&message) == "READY");
-        if self.was_cut || own != LOSES_POWER || !is_ready {
+        let before = match self.cuts {
+            0 if is_ready => "its READY leaves",
+            1 if gave.delivery.is_some() => "its register has the delivery",
+            _ => return false,
+        };
+        if own != LOSES_POWER {
             return false;
         }
-        self.was_cut = true;
+        self.cuts += 1;
         self.houses[own].book = None;
-        println!("house {own} loses power before its READY leaves");
+        println!("house {own} loses power before {before}");
         true
+    }
+
+    /// Takes the book and a delivery from the file.
+    fn recover(&mut self, own: usize) -> Fallible<Book> {
+        let (book, delivery) = self.houses[own].disk.recover()?;
+        self.houses[own].enter(delivery);
+        self.houses[own].book = Some(book.clone());
+        Ok(book)
+    }
+
+    /// Sends again to all what it has sent: the last message may not have left.
+    fn send_again(&mut self, own: usize, book: &Book) {
+        for message in book.all_sent() {
+            println!("house {own} sends again to all: {}", kind_of(&message));
+            self.carry_to_all(own, &message);
+        }
+    }
+
+    /// Power is back, and nothing that was sent to the house was lost: it asks for no help.
+    fn start(&mut self, own: usize) -> Fallible<()> {
+        let book = self.recover(own)?;
+        println!("house {own} starts at once with the book and the delivery of its file");
+        self.send_again(own, &book);
+        Ok(())
     }
 
     /// "On return a house sends again to all what it has sent and asks all for help."
     fn come_back(&mut self, own: usize) -> Fallible<()> {
-        let (book, delivery) = self.houses[own].disk.recover()?;
-        self.houses[own].enter(delivery);
+        let book = self.recover(own)?;
         let Some(Entry { number, sender }) = book.waiting()? else {
             return Err("nothing waits".into());
         };
         print!("house {own} returns with the book of its file: accepted; ");
         println!("waiting: number {number} of sender {sender}");
-        for message in book.all_sent() {
-            println!("house {own} sends again to all: {}", kind_of(&message));
-            self.carry_to_all(own, &message);
-        }
+        self.send_again(own, &book);
         println!("house {own} asks all for help");
         self.carry_to_all(own, &book.come_back()?);
-        self.houses[own].book = Some(book);
         Ok(())
     }
 
@@ -299,7 +324,7 @@ fn main() -> Fallible<()> {
         carried: Vec::new(),
         taken: 0,
         lost: 0,
-        was_cut: false,
+        cuts: 0,
     };
 
     let lot77 = Declaration::new(77, 40, 800, 17.5, 0.5);
