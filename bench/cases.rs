@@ -5,6 +5,10 @@ use reference::{write, Declaration, Kind};
 pub const NUMBERS: u32 = 4;
 pub const SEASON: u32 = 2026;
 pub const OWN: u32 = 0;
+/// f, so that t is document 01's.
+pub const DOWN: u32 = 0;
+/// d.
+pub const LIMIT: u32 = 2;
 
 /// Cap 20; moisture at most 20.0, conductivity between 0.125 and 1.0: both kinds of gate that have limits.
 pub const SHEET: [u8; 22] = [
@@ -30,6 +34,8 @@ pub enum Call {
         house: u32,
         message: Vec<u8>,
     },
+    Return,
+    Sent,
     Waiting,
     Judge,
     Write,
@@ -70,6 +76,11 @@ const FULL: Filling = Filling {
     full: |_| true,
 };
 
+/// The byte that counts how often an asker was helped; for n, the byte where the slots begin.
+fn helped_byte(asker: usize) -> usize {
+    31 + asker
+}
+
 /// The slots of an entry: SEND, ECHOes, READYs, READY sent, delivered.
 fn first_slot(n: u32) -> usize {
     let n = n as usize;
@@ -91,10 +102,11 @@ fn book(n: u32, filling: Filling, but: &[usize]) -> Vec<u8> {
     let (_, length) = reference::length(n, NUMBERS);
     let mut book = vec![0; length];
     assert_eq!(
-        reference::open(&mut book, n, NUMBERS, OWN, SEASON, &SHEET),
+        reference::open(&mut book, n, NUMBERS, OWN, DOWN, LIMIT, SEASON, &SHEET),
         0
     );
-    for (k, slot) in book[29..].chunks_exact_mut(21).enumerate() {
+    let slots = &mut book[helped_byte(n as usize)..];
+    for (k, slot) in slots.chunks_exact_mut(21).enumerate() {
         if (filling.full)(k) && !but.contains(&k) {
             slot[0] = 1;
             slot[1..].copy_from_slice(&DECLARATION);
@@ -106,6 +118,13 @@ fn book(n: u32, filling: Filling, but: &[usize]) -> Vec<u8> {
 fn message(kind: Kind) -> Vec<u8> {
     let written = write(kind as u8, SEASON, SENDER as u8, NUMBER as u8, &DECLARATION);
     written.message.expect("the kind is one of three").to_vec()
+}
+
+fn hear_request() -> Call {
+    Call::Receive {
+        house: VOUCHER as u32,
+        message: reference::request(SEASON).to_vec(),
+    }
 }
 
 fn receive(kind: Kind) -> Call {
@@ -152,7 +171,7 @@ fn accepted(n: u32, rows: &mut Vec<Case>) {
             ));
         }
     }
-    let sent = first_slot(n) + 1 + 2 * n as usize;
+    let sent = ready_sent_slot(n);
     let due = book(n, FULL, &[heard_slot(n, Kind::Ready), sent, sent + 1]);
     rows.push(case(
         "receive READY, both marks due",
@@ -214,6 +233,50 @@ fn refused(n: u32, rows: &mut Vec<Case>) {
     ));
 }
 
+/// The slot of the READY that this house sent on the named entry.
+fn ready_sent_slot(n: u32) -> usize {
+    first_slot(n) + 1 + 2 * n as usize
+}
+
+fn returning(n: u32, rows: &mut Vec<Case>) {
+    for filling in [EMPTY, HALF, FULL] {
+        let book = book(n, filling, &[]);
+        rows.push(case(
+            "receive a request",
+            n,
+            filling.name,
+            book,
+            hear_request(),
+            0,
+        ));
+    }
+    let mut spent = book(n, FULL, &[]);
+    spent[helped_byte(VOUCHER)] = LIMIT as u8;
+    rows.push(case("refusal 14", n, FULL.name, spent, hear_request(), 14));
+    for filling in [EMPTY, HALF, FULL] {
+        rows.push(case(
+            "return",
+            n,
+            filling.name,
+            book(n, filling, &[]),
+            Call::Return,
+            0,
+        ));
+    }
+    for filling in [EMPTY, FULL] {
+        let book = book(n, filling, &[ready_sent_slot(n)]);
+        rows.push(case("sent, none", n, filling.name, book, Call::Sent, 0));
+    }
+    rows.push(case(
+        "sent",
+        n,
+        FULL.name,
+        book(n, FULL, &[]),
+        Call::Sent,
+        0,
+    ));
+}
+
 fn others(n: u32, rows: &mut Vec<Case>) {
     rows.push(case(
         "open",
@@ -238,7 +301,7 @@ fn others(n: u32, rows: &mut Vec<Case>) {
 /// All rows, in the table's order.
 pub fn all() -> Vec<Case> {
     let mut rows = Vec::new();
-    for part in [accepted, refused, others] {
+    for part in [accepted, refused, returning, others] {
         for n in [4, 16] {
             part(n, &mut rows);
         }
@@ -246,6 +309,10 @@ pub fn all() -> Vec<Case> {
     let calls = [
         ("judge", Call::Judge),
         ("read", Call::Read(message(Kind::Echo))),
+        (
+            "read a request",
+            Call::Read(reference::request(SEASON).to_vec()),
+        ),
         ("write", Call::Write),
     ];
     for (what, call) in calls {

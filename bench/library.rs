@@ -1,6 +1,6 @@
 //! The proved library's calls, as the archive exports them, and what they give in the reference's words.
 
-use reference::{Declaration, Kind, Message};
+use reference::{Declaration, Form, Kind, Message};
 
 #[repr(C)]
 pub struct Outcome {
@@ -9,6 +9,20 @@ pub struct Outcome {
     message: [u8; 36],
     delivers: bool,
     declaration: [u8; 20],
+    helps: bool,
+}
+
+#[repr(C)]
+pub struct Returned {
+    answer: u8,
+    request: [u8; 11],
+}
+
+#[repr(C)]
+pub struct Sent {
+    answer: u8,
+    gives: bool,
+    message: [u8; 36],
 }
 
 #[repr(C)]
@@ -43,6 +57,8 @@ unsafe extern "C" {
         n: u32,
         s: u32,
         own: u32,
+        f: u32,
+        d: u32,
         season: u32,
         sheet: *const u8,
         sheet_len: usize,
@@ -55,6 +71,8 @@ unsafe extern "C" {
         message: *const u8,
         message_len: usize,
     ) -> Outcome;
+    pub fn gm_return(book: *const u8, len: usize) -> Returned;
+    pub fn gm_sent(book: *const u8, len: usize, kind: u8, sender: u32, number: u32) -> Sent;
     pub fn gm_waiting(book: *const u8, len: usize) -> Waiting;
     pub fn gm_judge(sheet: *const u8, sheet_len: usize, declaration: *const u8) -> u8;
     pub fn gm_write(
@@ -73,6 +91,25 @@ impl Outcome {
             answer: self.answer,
             message: self.gives.then_some(self.message),
             delivery: self.delivers.then_some(self.declaration),
+            helps: self.helps,
+        }
+    }
+}
+
+impl Returned {
+    pub fn said(&self) -> reference::Returned {
+        reference::Returned {
+            answer: self.answer,
+            request: (self.answer == 0).then_some(self.request),
+        }
+    }
+}
+
+impl Sent {
+    pub fn said(&self) -> reference::SentAnswer {
+        reference::SentAnswer {
+            answer: self.answer,
+            message: self.gives.then_some(self.message),
         }
     }
 }
@@ -89,16 +126,19 @@ impl Written {
 impl Read {
     pub fn said(&self) -> reference::ReadAnswer {
         let declaration: Declaration = self.declaration;
-        let message = Kind::of(self.kind).map(|kind| Message {
-            kind,
-            season: self.season,
-            sender: self.sender,
-            number: self.number,
-            declaration,
+        let message = Kind::of(self.kind).map(|kind| {
+            Form::Message(Message {
+                kind,
+                season: self.season,
+                sender: self.sender,
+                number: self.number,
+                declaration,
+            })
         });
+        let request = (self.kind == 9).then_some(Form::Request(self.season));
         reference::ReadAnswer {
             answer: self.answer,
-            message,
+            form: message.or(request),
         }
     }
 }

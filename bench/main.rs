@@ -7,12 +7,13 @@
 mod cases;
 mod library;
 
-use cases::{Call, Case, DECLARATION, NUMBER, NUMBERS, OWN, SEASON, SENDER, SHEET};
+use cases::{Call, Case, DECLARATION, DOWN, LIMIT, NUMBER, NUMBERS, OWN, SEASON, SENDER, SHEET};
 use library::*;
 use std::fmt::Debug;
 use std::hint::black_box;
 
 const ECHO: u8 = 2;
+const READY: u8 = 3;
 
 /// Restores the book and makes the call, so often; then once more, and gives what that call said, as text,
 /// and the book after it. The last one costs the same for any count, so a difference of two counts drops it.
@@ -53,6 +54,8 @@ fn by_library(case: &Case, count: u32) -> (String, Vec<u8>) {
                     n,
                     NUMBERS,
                     OWN,
+                    DOWN,
+                    LIMIT,
                     SEASON,
                     sheet,
                     sheet_len,
@@ -79,6 +82,18 @@ fn by_library(case: &Case, count: u32) -> (String, Vec<u8>) {
                 )
             },
             Outcome::said,
+        ),
+        Call::Return => make(
+            count,
+            case,
+            |b| unsafe { gm_return(b.as_ptr(), b.len()) },
+            Returned::said,
+        ),
+        Call::Sent => make(
+            count,
+            case,
+            |b| unsafe { gm_sent(b.as_ptr(), b.len(), READY, sender.into(), number.into()) },
+            Sent::said,
         ),
         Call::Waiting => make(
             count,
@@ -117,11 +132,11 @@ fn by_reference(case: &Case, count: u32) -> (String, Vec<u8>) {
     let (sender, number, n) = (SENDER as u8, NUMBER as u8, case.n);
     match &case.call {
         Call::Open => {
-            let open = black_box(reference::open as fn(&mut _, _, _, _, _, &[u8]) -> _);
+            let open = black_box(reference::open as fn(&mut _, _, _, _, _, _, _, &[u8]) -> _);
             make(
                 count,
                 case,
-                |b| open(b, n, NUMBERS, OWN, SEASON, &SHEET),
+                |b| open(b, n, NUMBERS, OWN, DOWN, LIMIT, SEASON, &SHEET),
                 |said| *said,
             )
         }
@@ -137,6 +152,19 @@ fn by_reference(case: &Case, count: u32) -> (String, Vec<u8>) {
         Call::Receive { house, message } => {
             let receive = black_box(reference::receive as fn(&mut _, _, &[u8]) -> _);
             make(count, case, |b| receive(b, *house, message), |said| *said)
+        }
+        Call::Return => {
+            let come_back = black_box(reference::come_back as fn(&_) -> _);
+            make(count, case, |b| come_back(b), |said| *said)
+        }
+        Call::Sent => {
+            let sent = black_box(reference::sent as fn(&_, _, _, _) -> _);
+            make(
+                count,
+                case,
+                |b| sent(b, READY, sender.into(), number.into()),
+                |said| *said,
+            )
         }
         Call::Waiting => {
             let waiting = black_box(reference::waiting as fn(&_) -> _);
@@ -172,9 +200,12 @@ fn gives(case: &Case) -> &'static str {
     let outcome = match &case.call {
         Call::Receive { house, message } => reference::receive(&mut book, *house, message),
         Call::Publish => reference::publish(&mut book, NUMBER as u32, &DECLARATION),
+        Call::Return => return "request",
+        Call::Sent => return sent(&book),
         _ => return "",
     };
     match (outcome.message.map(|message| message[3]), outcome.delivery) {
+        (None, None) if outcome.helps => "help",
         (None, None) => "",
         (Some(1), _) => "SEND",
         (Some(2), _) => "ECHO",
@@ -182,6 +213,11 @@ fn gives(case: &Case) -> &'static str {
         (None, Some(_)) => "delivery",
         (Some(_), Some(_)) => "READY and delivery",
     }
+}
+
+fn sent(book: &[u8]) -> &'static str {
+    let sent = reference::sent(book, READY, SENDER as u32, NUMBER as u32);
+    sent.message.map_or("", |_| "READY")
 }
 
 /// Both sides gave the same, byte for byte, and the answer that the row names.

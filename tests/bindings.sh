@@ -2,8 +2,8 @@
 # What a house links: the header as C11 and C++17, the C example and each answer over the archive, the Rust crate and its example.
 #
 # C is built with the kit's own compiler and linker for x86-64, the archive's processor, and run on the kit's C library; on Arm under
-# the kit's emulator. Rust is native: it links the archive on x86-64, and elsewhere bindings/rust/stand-in. Both examples write one
-# account and the same books. Says nothing where all passes.
+# the kit's emulator. Rust is native: it links bindings/rust/stand-in on every machine, and on x86-64 the archive too. Both examples
+# write one account and the same files, to the byte. Says nothing where all passes.
 set -uo pipefail
 cd "$(dirname "${BASH_SOURCE[0]}")/.." || exit 1
 root=$PWD
@@ -35,7 +35,7 @@ quiet() { # WHAT COMMAND...
 [ -x "$clang" ] || fail "the kit has no compiler at $tools/bin"
 command -v cargo >/dev/null || fail 'no cargo on this machine'
 [ -f "$archive" ] || quiet 'build failed' ./build
-mkdir -p "$room/lib"
+mkdir -p "$room"
 
 # ---- the header
 # shellcheck disable=SC2086
@@ -100,22 +100,29 @@ quiet 'the account of the C example' diff bindings/example_house.stdout "$room/a
 unsafe_files=$(grep -lrw --include='*.rs' unsafe bindings/rust/src bindings/rust/examples)
 [ "$unsafe_files" = bindings/rust/src/ffi.rs ] || fail "unsafe stands in: $unsafe_files"
 
-if [ "$machine" = x86_64 ]; then
-    cp "$archive" "$room/lib/libgrassmunch.a"
-else
-    export CARGO_TARGET_DIR=$room/stand-in
-    quiet 'the stand-in' cargo build --offline --locked --manifest-path bindings/rust/stand-in/Cargo.toml
-    cp "$room/stand-in/debug/libgrassmunch.a" "$room/lib/libgrassmunch.a"
-fi
-export CARGO_TARGET_DIR=$room/rust GRASSMUNCH_LIB=$room/lib
 export RUSTFLAGS='-D warnings' RUSTDOCFLAGS='-D warnings'
-cd bindings/rust || exit 1
-quiet 'the Rust crate' cargo build --offline --locked --lib --examples
-quiet 'the pages of the Rust crate' cargo doc --offline --locked --no-deps
-quiet 'a doc test' cargo test --offline --locked --doc
-fresh_folder "$room/books-rust"
-"$room/rust/debug/examples/house" "$room/books-rust" >"$room/account-rust" || fail 'the Rust example ended with an error'
-quiet 'the account of the Rust example' diff ../example_house.stdout "$room/account-rust"
-for book in 0 1 2 3; do
-    quiet "the book of house $book, C and Rust" cmp -n 1919 "$room/books-c/house-$book.book" "$room/books-rust/house-$book.book"
-done
+
+in_crate() { (cd bindings/rust && "$@"); }
+
+try_rust() { # WHAT LIBRARY
+    local what=$1 house
+    mkdir -p "$room/lib-$what"
+    cp "$2" "$room/lib-$what/libgrassmunch.a"
+    export CARGO_TARGET_DIR=$room/rust-$what GRASSMUNCH_LIB=$room/lib-$what
+    quiet "the Rust crate over the $what" in_crate cargo build --offline --locked --lib --examples
+    quiet "a doc test over the $what" in_crate cargo test --offline --locked --doc
+    fresh_folder "$room/books-$what"
+    "$room/rust-$what/debug/examples/house" "$room/books-$what" >"$room/account-$what" || fail "the Rust example over the $what"
+    quiet "the account of the Rust example over the $what" diff bindings/example_house.stdout "$room/account-$what"
+    for house in 0 1 2 3; do
+        quiet "the file of house $house, C and Rust over the $what" \
+            cmp "$room/books-c/house-$house.book" "$room/books-$what/house-$house.book"
+    done
+}
+
+CARGO_TARGET_DIR=$room/stand-in quiet 'the stand-in' cargo build --offline --locked --manifest-path bindings/rust/stand-in/Cargo.toml
+try_rust stand-in "$room/stand-in/debug/libgrassmunch.a"
+if [ "$machine" = x86_64 ]; then
+    try_rust archive "$archive"
+fi
+quiet 'the pages of the Rust crate' in_crate cargo doc --offline --locked --no-deps

@@ -1,18 +1,21 @@
-/* Each call with each of its answers, null pointers with length 0, and the message of document 01: says what is not so, and ends with
- * status 1 then. It tries that header and archive agree; tests over all inputs stand elsewhere. */
+/* Each call with each of its answers, two answers at once where the order decides, the walk over what was sent, null pointers with
+ * length 0, and the message of document 01: says what is not so, and ends with status 1 then. It tries that header and archive
+ * agree; tests over all inputs stand elsewhere. */
 #include "grassmunch.h"
 
 #include <stdio.h>
 #include <string.h>
 
-/* n = 4 and S = 1, as docs/BOOK.md gives the length. */
-enum { BOOK = 974 };
+/* n = 4 and S = 1, as docs/BOOK.md gives the length; f = 0, so that t = 1; each asker is helped twice. */
+enum { HOUSES = 4, BOOK = 980, DOWN = 0, LIMIT = 2 };
 
 static const uint8_t sheet[GM_SHEET_BYTES] = {0, 0, 0, 20, GM_GATE_AT_MOST, 0, 0, 0, 0, 0x41, 0xA0, 0, 0, GM_GATE_OPEN};
 static const uint8_t lot77[GM_DECLARATION_BYTES] = {0, 0, 0, 77, 0, 0, 0, 40, 0, 0, 3, 0x20, 0x41, 0x8C, 0, 0, 0x3F, 0, 0, 0};
 static const uint8_t heavy[GM_DECLARATION_BYTES] = {0, 0, 0, 77, 0, 0, 0, 40, 0, 0, 3, 0x21, 0x41, 0x8C, 0, 0, 0x3F, 0, 0, 0};
 static const uint8_t whole[GM_MESSAGE_BYTES] = {1, 0, 1, GM_SEND, 2, 0, 6, 0, 0, 0x07, 0xEA, 2, 1, 3, 0, 20,
                                                 0, 0, 0, 77, 0, 0, 0, 40, 0, 0, 3, 0x20, 0x41, 0x8C, 0, 0, 0x3F, 0, 0, 0};
+static const uint8_t request[GM_REQUEST_BYTES + 1] = {1, 0, 1, GM_REQUEST, 2, 0, 4, 0, 0, 0x07, 0xEA};
+static const uint8_t request_2027[GM_REQUEST_BYTES] = {1, 0, 1, GM_REQUEST, 2, 0, 4, 0, 0, 0x07, 0xEB};
 
 static uint8_t book[BOOK], before[BOOK];
 static int wrong;
@@ -36,8 +39,19 @@ static bool is_zero(const uint8_t *bytes, size_t size) {
 }
 
 static bool refused(gm_outcome got, uint8_t answer) {
-    return got.answer == answer && !got.gives && !got.delivers && is_zero(got.message, 36) && is_zero(got.declaration, 20) &&
-           untouched();
+    return got.answer == answer && !got.gives && !got.delivers && !got.helps && is_zero(got.message, 36) &&
+           is_zero(got.declaration, 20) && untouched();
+}
+
+static bool helped(gm_outcome got) {
+    return got.answer == GM_ACCEPTED && got.helps && !got.gives && !got.delivers && is_zero(got.message, 36) &&
+           is_zero(got.declaration, 20);
+}
+
+static bool not_sent(gm_sent_answer got, uint8_t answer) { return got.answer == answer && !got.gives && is_zero(got.message, 36); }
+
+static uint8_t open_as(uint32_t n, uint32_t own, uint32_t f, uint32_t d) {
+    return gm_open(book, BOOK, n, 1, own, f, d, 2026, sheet, sizeof sheet);
 }
 
 static gm_outcome receive(uint32_t house, uint8_t kind, uint32_t season, uint8_t sender, const uint8_t *declaration) {
@@ -45,28 +59,49 @@ static gm_outcome receive(uint32_t house, uint8_t kind, uint32_t season, uint8_t
     return gm_receive(book, BOOK, house, message.message, sizeof message.message);
 }
 
+static gm_outcome hear_request(uint32_t asker) { return gm_receive(book, BOOK, asker, request, GM_REQUEST_BYTES); }
+
 static void opening(void) {
     so(gm_length(4, 1).answer == GM_ACCEPTED && gm_length(4, 1).length == BOOK, "length 0");
     so(gm_length(16, 4).length == GM_LONGEST_BOOK, "the longest book");
     so(gm_length(17, 1).answer == GM_NOT_ALLOWED && gm_length(17, 1).length == 0, "length 9");
     memset(book, 0xFF, BOOK);
     memcpy(before, book, BOOK);
-    so(gm_open(book, BOOK, 4, 1, 4, 2026, sheet, sizeof sheet) == GM_NOT_ALLOWED && untouched(), "opening 9");
-    so(gm_open(book, BOOK, 4, 1, 0, 2026, sheet, sizeof sheet - 1) == GM_SHEET_NOT_LEGAL && untouched(), "opening 10");
-    so(gm_open(book, BOOK - 1, 4, 1, 0, 2026, sheet, sizeof sheet) == GM_WRONG_LENGTH && untouched(), "opening 11");
-    so(refused(gm_publish(book, BOOK, 0, lot77), GM_NO_LEGAL_BOOK), "publishing 1");
+    so(open_as(HOUSES, 4, DOWN, LIMIT) == GM_NOT_ALLOWED && untouched(), "opening 9: own number 4");
+    so(open_as(HOUSES, 0, 2, LIMIT) == GM_NOT_ALLOWED && untouched(), "opening 9: 2f = n");
+    so(open_as(HOUSES, 0, DOWN, 9) == GM_NOT_ALLOWED && untouched(), "opening 9: d = 9");
+    so(open_as(16, 0, 5, LIMIT) == GM_NOT_ALLOWED && untouched(), "opening 9: f = 5");
+    so(open_as(16, 0, 4, LIMIT) == GM_WRONG_LENGTH && untouched(), "opening 11: f = 4 is allowed");
+    so(gm_open(book, 0, HOUSES, 1, 0, 2, LIMIT, 2026, sheet, 0) == GM_NOT_ALLOWED && untouched(), "opening 9 before 10 and 11");
+    so(gm_open(book, 0, HOUSES, 1, 0, DOWN, LIMIT, 2026, sheet, 0) == GM_SHEET_NOT_LEGAL && untouched(), "opening 10 before 11");
+    so(gm_open(book, BOOK - 1, HOUSES, 1, 0, DOWN, LIMIT, 2026, sheet, sizeof sheet) == GM_WRONG_LENGTH && untouched(),
+       "opening 11");
+}
+
+static void no_legal_book(void) {
+    so(refused(gm_publish(book, BOOK, 1, heavy), GM_NO_LEGAL_BOOK), "publishing 1");
     so(refused(receive(0, GM_SEND, 2026, 0, lot77), GM_NO_LEGAL_BOOK), "receiving 1");
+    so(refused(hear_request(0), GM_NO_LEGAL_BOOK), "a request 1");
+    so(refused(gm_receive(book, BOOK, 4, request, 10), GM_NO_LEGAL_BOOK), "a request 1 before 2");
+    gm_return_answer back = gm_return(book, BOOK);
+    so(back.answer == GM_NO_LEGAL_BOOK && is_zero(back.request, GM_REQUEST_BYTES), "a return 1");
+    so(not_sent(gm_sent(book, BOOK, GM_SEND, 0, 0), GM_NO_LEGAL_BOOK), "sent 1");
+    so(not_sent(gm_sent(book, BOOK, 0, 4, 1), GM_NO_LEGAL_BOOK), "sent 1 before 2");
+    so(not_sent(gm_first_sent(book, BOOK).sent, GM_NO_LEGAL_BOOK), "a walk 1");
     so(gm_waiting(book, BOOK).answer == GM_NO_LEGAL_BOOK, "waiting 1");
-    so(gm_open(book, BOOK, 4, 1, 0, 2026, sheet, sizeof sheet) == GM_ACCEPTED && !untouched(), "opening 0");
+    so(open_as(HOUSES, 0, DOWN, LIMIT) == GM_ACCEPTED && !untouched(), "opening 0");
+    so(book[29] == DOWN && book[30] == LIMIT && is_zero(book + 31, HOUSES), "f and d in the book, and nobody helped");
+    so(not_sent(gm_first_sent(book, BOOK).sent, GM_NOT_IN_BOOK), "a fresh house sent nothing");
 }
 
 static void publishing(void) {
     memcpy(before, book, BOOK);
-    so(refused(gm_publish(book, BOOK, 1, lot77), GM_NOT_IN_BOOK), "publishing 4");
+    so(refused(gm_publish(book, BOOK, 1, heavy), GM_NOT_IN_BOOK), "publishing 4");
     so(refused(gm_publish(book, BOOK, 0, heavy), GM_NOT_PLAUSIBLE), "publishing 5");
     gm_outcome got = gm_publish(book, BOOK, 0, lot77);
     gm_written send = gm_write(GM_SEND, 2026, 0, 0, lot77);
-    so(got.answer == GM_ACCEPTED && got.gives && memcmp(got.message, send.message, 36) == 0 && !got.delivers, "publishing 0");
+    so(got.answer == GM_ACCEPTED && got.gives && memcmp(got.message, send.message, 36) == 0 && !got.delivers && !got.helps,
+       "publishing 0");
     memcpy(before, book, BOOK);
     so(refused(gm_publish(book, BOOK, 0, lot77), GM_ALREADY_PUBLISHED), "publishing 8");
 }
@@ -80,7 +115,7 @@ static void receiving(void) {
     so(refused(receive(1, GM_SEND, 2026, 0, lot77), GM_NOT_FROM_SENDER), "receiving 6");
     so(!gm_waiting(book, BOOK).waits, "none waits");
     gm_outcome got = receive(3, GM_SEND, 2026, 3, lot77);
-    so(got.answer == GM_ACCEPTED && got.gives && gm_read(got.message, 36).kind == GM_ECHO, "receiving 0");
+    so(got.answer == GM_ACCEPTED && got.gives && gm_read(got.message, 36).kind == GM_ECHO && !got.helps, "receiving 0");
     memcpy(before, book, BOOK);
     so(refused(receive(3, GM_SEND, 2026, 3, lot77), GM_ALREADY_ACCEPTED), "receiving 7");
     gm_waiting_answer next = gm_waiting(book, BOOK);
@@ -91,6 +126,101 @@ static void receiving(void) {
     so(!got.gives && got.delivers && memcmp(got.declaration, lot77, 20) == 0, "three READYs deliver");
 }
 
+static void asking(void) {
+    memcpy(before, book, BOOK);
+    so(refused(gm_receive(book, BOOK, 3, request, 10), GM_MALFORMED), "a request 2: 10 bytes");
+    so(refused(gm_receive(book, BOOK, 3, request, 12), GM_MALFORMED), "a request 2: 12 bytes");
+    uint8_t other[GM_MESSAGE_BYTES];
+    memcpy(other, request, GM_REQUEST_BYTES);
+    other[3] = GM_READY;
+    so(refused(gm_receive(book, BOOK, 3, other, GM_REQUEST_BYTES), GM_MALFORMED), "a request 2: kind 3 in 11 bytes");
+    memcpy(other, whole, GM_MESSAGE_BYTES);
+    other[3] = GM_REQUEST;
+    so(refused(gm_receive(book, BOOK, 3, other, GM_MESSAGE_BYTES), GM_MALFORMED), "a request 2: kind 9 in 36 bytes");
+    so(refused(gm_receive(book, BOOK, 4, request, 10), GM_MALFORMED), "a request 2 before 4");
+    so(refused(gm_receive(book, BOOK, 3, request_2027, sizeof request_2027), GM_OTHER_SEASON), "a request 3");
+    so(refused(gm_receive(book, BOOK, 4, request_2027, sizeof request_2027), GM_OTHER_SEASON), "a request 3 before 4");
+    so(refused(hear_request(4), GM_NOT_IN_BOOK), "a request 4");
+    so(refused(hear_request(gm_house(((uint64_t)1 << 32) + 3)), GM_NOT_IN_BOOK), "a request 4, not cut");
+    for (uint8_t times = 1; times <= LIMIT; times++) {
+        so(helped(hear_request(3)), "a request 0");
+        before[31 + 3] = times;
+        so(untouched(), "a request is counted, and no other byte changes");
+    }
+    so(refused(hear_request(3), GM_HELPED_ENOUGH), "a request 14");
+    so(refused(gm_receive(book, BOOK, 3, request_2027, sizeof request_2027), GM_OTHER_SEASON), "a request 3 before 14");
+    so(refused(gm_receive(book, BOOK, 3, request, 10), GM_MALFORMED), "a request 2 before 14");
+    so(helped(hear_request(0)) && book[31] == 1, "another asker, and itself, is helped");
+}
+
+/* House 0 published, heard the SEND of sender 3, and marked a READY there: three messages, and the book holds them. */
+static void returning(void) {
+    memcpy(before, book, BOOK);
+    gm_return_answer back = gm_return(book, BOOK);
+    so(back.answer == GM_ACCEPTED && memcmp(back.request, request, GM_REQUEST_BYTES) == 0, "a return 0");
+    so(not_sent(gm_sent(book, BOOK, 0, 0, 0), GM_MALFORMED), "sent 2: kind 0");
+    so(not_sent(gm_sent(book, BOOK, 4, 0, 0), GM_MALFORMED), "sent 2: kind 4");
+    so(not_sent(gm_sent(book, BOOK, GM_REQUEST, 4, 1), GM_MALFORMED), "sent 2 before 4: kind 9");
+    so(not_sent(gm_sent(book, BOOK, GM_SEND, 4, 0), GM_NOT_IN_BOOK), "sent 4: sender 4");
+    so(not_sent(gm_sent(book, BOOK, GM_SEND, 0, 1), GM_NOT_IN_BOOK), "sent 4: number 1");
+    so(not_sent(gm_sent(book, BOOK, GM_SEND, 256, 0), GM_NOT_IN_BOOK), "sent 4: sender 256");
+    so(not_sent(gm_sent(book, BOOK, GM_SEND, 3, 0), GM_ACCEPTED), "sent 0, none: the SEND of another");
+    so(not_sent(gm_sent(book, BOOK, GM_ECHO, 0, 0), GM_ACCEPTED), "sent 0, none: no ECHO before its SEND is heard");
+    so(not_sent(gm_sent(book, BOOK, GM_READY, 0, 0), GM_ACCEPTED), "sent 0, none: no READY");
+    static const uint8_t kinds[] = {GM_SEND, GM_ECHO, GM_READY};
+    static const uint8_t senders[] = {0, 3, 3};
+    size_t count = 0;
+    gm_walk walk = gm_first_sent(book, BOOK);
+    for (; walk.sent.gives && count < sizeof kinds; gm_next_sent(book, BOOK, &walk)) {
+        gm_written same = gm_write(kinds[count], 2026, senders[count], 0, lot77);
+        so(walk.kind == kinds[count] && walk.sender == senders[count] && walk.number == 0, "the walk's order");
+        so(walk.sent.answer == GM_ACCEPTED && memcmp(walk.sent.message, same.message, 36) == 0, "sent 0, the same 36 bytes");
+        count++;
+    }
+    so(count == sizeof kinds && not_sent(walk.sent, GM_NOT_IN_BOOK), "the walk gives three messages, and ends at answer 4");
+    gm_next_sent(book, BOOK, &walk);
+    so(not_sent(walk.sent, GM_NOT_IN_BOOK), "a walk that ended has ended");
+    so(untouched(), "a return and a walk leave the book");
+}
+
+/* Two houses with two numbers: the walk goes by number, then by sender, then by kind, and leaves out nothing. */
+static void walking(void) {
+    static uint8_t small[31 + 2 + 21 * (2 + 2 * 2 * 7)];
+    so(gm_open(small, sizeof small, 2, 2, 1, DOWN, LIMIT, 2026, sheet, sizeof sheet) == GM_ACCEPTED, "two houses open");
+    for (uint8_t number = 2; number-- > 0;) {
+        so(gm_publish(small, sizeof small, number, lot77).answer == GM_ACCEPTED, "both numbers are published");
+        for (uint8_t sender = 2; sender-- > 0;) {
+            gm_written send = gm_write(GM_SEND, 2026, sender, number, lot77);
+            gm_written ready = gm_write(GM_READY, 2026, sender, number, lot77);
+            so(gm_receive(small, sizeof small, sender, send.message, 36).gives, "each SEND gives an ECHO");
+            so(gm_receive(small, sizeof small, 0, ready.message, 36).gives, "each READY gives a READY");
+        }
+    }
+    /* of each number: sender 0 ECHO, READY; sender 1, which is the house itself, SEND, ECHO, READY */
+    static const uint8_t kinds[] = {GM_ECHO, GM_READY, GM_SEND, GM_ECHO, GM_READY, GM_ECHO, GM_READY, GM_SEND, GM_ECHO, GM_READY};
+    size_t count = 0;
+    for (gm_walk walk = gm_first_sent(small, sizeof small); walk.sent.gives; gm_next_sent(small, sizeof small, &walk)) {
+        gm_read_answer read = gm_read(walk.sent.message, 36);
+        so(read.kind == walk.kind && read.sender == walk.sender && read.number == walk.number, "the walk names its message");
+        so(count < sizeof kinds && walk.kind == kinds[count] && walk.number == count / 5, "the walk's order, two numbers");
+        count++;
+    }
+    so(count == sizeof kinds, "the whole walk");
+}
+
+/* With f = 1 among four houses t is 0, so that one READY gives a READY and two deliver; with d = 0 nobody is helped. */
+static void with_one_down(void) {
+    so(open_as(HOUSES, 0, 1, 0) == GM_ACCEPTED && book[29] == 1 && book[30] == 0, "opening with f = 1 and d = 0");
+    gm_outcome got = receive(1, GM_READY, 2026, 3, lot77);
+    so(got.gives && !got.delivers, "f = 1: one READY gives READY");
+    so(receive(2, GM_READY, 2026, 3, lot77).delivers, "f = 1: two READYs deliver");
+    memcpy(before, book, BOOK);
+    so(refused(hear_request(0), GM_HELPED_ENOUGH), "d = 0: a request 14 at once");
+    book[31 + 3] = 1;
+    so(gm_return(book, BOOK).answer == GM_NO_LEGAL_BOOK, "helped above d is no legal book");
+    book[31 + 3] = 0;
+}
+
 static void judging_writing_reading(void) {
     so(gm_judge(sheet, sizeof sheet, lot77) == GM_ACCEPTED, "judging 0");
     so(gm_judge(sheet, sizeof sheet, heavy) == GM_NOT_PLAUSIBLE, "judging 5");
@@ -99,22 +229,32 @@ static void judging_writing_reading(void) {
     so(wrote.answer == GM_ACCEPTED && memcmp(wrote.message, whole, 36) == 0, "writing 0");
     wrote = gm_write(4, 2026, 2, 1, lot77);
     so(wrote.answer == GM_MALFORMED && is_zero(wrote.message, 36), "writing 2");
+    wrote = gm_write(GM_REQUEST, 2026, 2, 1, lot77);
+    so(wrote.answer == GM_MALFORMED && is_zero(wrote.message, 36), "writing 2: kind 9");
     gm_read_answer got = gm_read(whole, sizeof whole);
     so(got.answer == GM_ACCEPTED && got.kind == GM_SEND && got.season == 2026 && got.sender == 2 && got.number == 1, "reading 0");
     so(memcmp(got.declaration, lot77, 20) == 0, "reading the declaration");
+    got = gm_read(request, GM_REQUEST_BYTES);
+    so(got.answer == GM_ACCEPTED && got.kind == GM_REQUEST && got.season == 2026, "reading a request");
+    so(got.sender == 0 && got.number == 0 && is_zero(got.declaration, 20), "a request has a season alone");
     got = gm_read(whole, sizeof whole - 1);
     so(got.answer == GM_MALFORMED && got.kind == 0 && got.season == 0 && got.sender == 0 && got.number == 0, "reading 2");
     so(is_zero(got.declaration, 20), "reading 2 gives zeros");
+    so(gm_read(request, sizeof request).answer == GM_MALFORMED, "reading 2: a request of 12 bytes");
 }
 
 static void null_with_length_0(void) {
     memcpy(before, book, BOOK);
     so(refused(gm_publish(NULL, 0, 0, lot77), GM_NO_LEGAL_BOOK), "publishing, null book");
     so(refused(gm_receive(NULL, 0, 0, whole, sizeof whole), GM_NO_LEGAL_BOOK), "receiving, null book");
+    so(refused(gm_receive(NULL, 0, 0, request, GM_REQUEST_BYTES), GM_NO_LEGAL_BOOK), "a request, null book");
     so(refused(gm_receive(NULL, 0, 0, NULL, 0), GM_NO_LEGAL_BOOK), "receiving, both null");
     so(refused(gm_receive(book, BOOK, 0, NULL, 0), GM_MALFORMED), "receiving, null message");
-    so(gm_open(NULL, 0, 4, 1, 0, 2026, sheet, sizeof sheet) == GM_WRONG_LENGTH, "opening, null book");
-    so(gm_open(book, BOOK, 4, 1, 0, 2026, NULL, 0) == GM_SHEET_NOT_LEGAL && untouched(), "opening, null sheet");
+    so(gm_open(NULL, 0, HOUSES, 1, 0, DOWN, LIMIT, 2026, sheet, sizeof sheet) == GM_WRONG_LENGTH, "opening, null book");
+    so(gm_open(book, BOOK, HOUSES, 1, 0, DOWN, LIMIT, 2026, NULL, 0) == GM_SHEET_NOT_LEGAL && untouched(), "opening, null sheet");
+    so(gm_return(NULL, 0).answer == GM_NO_LEGAL_BOOK, "a return, null book");
+    so(not_sent(gm_sent(NULL, 0, GM_SEND, 0, 0), GM_NO_LEGAL_BOOK), "sent, null book");
+    so(not_sent(gm_first_sent(NULL, 0).sent, GM_NO_LEGAL_BOOK), "a walk, null book");
     so(gm_waiting(NULL, 0).answer == GM_NO_LEGAL_BOOK, "waiting, null book");
     so(gm_judge(NULL, 0, lot77) == GM_SHEET_NOT_LEGAL, "judging, null sheet");
     so(gm_read(NULL, 0).answer == GM_MALFORMED, "reading, null message");
@@ -122,8 +262,13 @@ static void null_with_length_0(void) {
 
 int main(void) {
     opening();
+    no_legal_book();
     publishing();
     receiving();
+    asking();
+    returning();
+    walking();
+    with_one_down();
     judging_writing_reading();
     null_with_length_0();
     return wrong;

@@ -1,8 +1,10 @@
-/* Four houses in one process: they open, publish, receive, store and recover, and write an account of it.
+/* Four houses in one process: they open, publish, receive and store; one loses power twice, returns and is helped; and they write
+ * an account of it.
  *
- * Each call works on a copy of the book. The copy and what the call gave are stored together, and only then does the message leave:
- * after a power cut the file says what was promised and what may not have left yet. The next call comes once the carrier, here the
- * row `carried`, has all n copies; a house with neighbours puts its network there. The one argument is the folder for the books. */
+ * Each call works on a copy of the book. The copy is stored, with a delivery beside it, and only then does anything leave. What a
+ * house sent can be read off its book, so that no message is stored: after a power cut the book says what is to be sent again.
+ * The carrier, here the row `carried`, loses what comes to a house that is down; a house with neighbours puts its network there.
+ * The one argument is the folder for the books. */
 #define _POSIX_C_SOURCE 200809L
 #include "grassmunch.h"
 
@@ -11,7 +13,9 @@
 #include <string.h>
 #include <unistd.h>
 
-enum { HOUSES = 4, NUMBERS = 2, SEASON = 2026, PUBLISHER = 2, NUMBER = 1, COPIES = 64 };
+/* Among four houses one may be wrong where f is 0, and none where f is 1. All four are to be up at the end, so f is 0; and each may
+ * return twice, so d is 2. */
+enum { HOUSES = 4, NUMBERS = 2, DOWN = 0, LIMIT = 2, SEASON = 2026, PUBLISHER = 2, NUMBER = 1, LOSES_POWER = 1, COPIES = 128 };
 
 /* Cap 20 kilograms per colony; moisture at most 20.0; conductivity open. */
 static const uint8_t sheet[GM_SHEET_BYTES] = {0, 0, 0, 20, GM_GATE_AT_MOST, 0, 0, 0, 0, 0x41, 0xA0, 0, 0, GM_GATE_OPEN};
@@ -21,18 +25,22 @@ static const uint8_t lot77[GM_DECLARATION_BYTES] = {0, 0, 0, 77, 0, 0, 0, 40, 0,
 
 struct house {
     uint32_t own;
+    bool up;
+    bool entered; /* its register has lot 77 */
     size_t len;
     uint8_t book[GM_LONGEST_BOOK];
 };
 
+/* A message or a request on its way. */
 struct copy {
     uint32_t from, to;
-    uint8_t message[GM_MESSAGE_BYTES];
+    size_t len;
+    uint8_t bytes[GM_MESSAGE_BYTES];
 };
 
 static struct house houses[HOUSES];
 static struct copy carried[COPIES];
-static size_t sent, taken, deliveries;
+static size_t sent, taken, requests, lost, deliveries;
 static const char *folder = ".";
 
 static const char *sentence(uint8_t answer) {
@@ -46,23 +54,36 @@ static const char *sentence(uint8_t answer) {
         "SEND not from the entry's sender",
         "this kind was already accepted from this house on this entry, same declaration or not",
         "already published at this number",
-        "n, S or own number not allowed",
+        "n, S, own number, f or d not allowed",
         "sheet not legal",
         "buffer length is not the book's length",
     };
-    return answer < sizeof sentences / sizeof *sentences ? sentences[answer] : "no answer of document 01";
+    if (answer == GM_HELPED_ENOUGH) {
+        return "this asker was helped d times already";
+    }
+    return answer < sizeof sentences / sizeof *sentences ? sentences[answer] : "no answer of this library";
 }
 
-static const char *kind_of(const uint8_t *message) {
-    static const char *const kinds[] = {"no message", "SEND", "ECHO", "READY"};
-    return kinds[gm_read(message, GM_MESSAGE_BYTES).kind];
+static const char *kind_of(const uint8_t *bytes, size_t len) {
+    switch (gm_read(bytes, len).kind) {
+    case GM_SEND:
+        return "SEND";
+    case GM_ECHO:
+        return "ECHO";
+    case GM_READY:
+        return "READY";
+    case GM_REQUEST:
+        return "a request";
+    default:
+        return "no message";
+    }
 }
 
 static uint32_t word(const uint8_t *bytes) {
     return (uint32_t)bytes[0] << 24 | (uint32_t)bytes[1] << 16 | (uint32_t)bytes[2] << 8 | bytes[3];
 }
 
-/* ---- the house's own disk */
+/* ---- the house's own disk and register */
 
 static void name_file(char *name, size_t size, uint32_t own, const char *end) {
     snprintf(name, size, "%s/house-%u.%s", folder, (unsigned)own, end);
@@ -73,7 +94,8 @@ static bool write_whole(int file, const void *bytes, size_t size) {
     return (size_t)write(file, bytes, size) == size;
 }
 
-/* The book and what its last call gave, whole or not at all: a new file, synced, then renamed over the old one. */
+/* The book, and beside it a delivery behind a 1, or zeros. Whole or not at all: a new file, synced, then renamed over the old
+ * one. */
 static bool store(uint32_t own, const uint8_t *book, size_t len, const gm_outcome *gave) {
     char fresh[256], kept[256];
     name_file(fresh, sizeof fresh, own, "new");
@@ -82,7 +104,8 @@ static bool store(uint32_t own, const uint8_t *book, size_t len, const gm_outcom
     if (file < 0) {
         return false;
     }
-    bool whole = write_whole(file, book, len) && write_whole(file, gave, sizeof *gave) && fsync(file) == 0;
+    bool whole = write_whole(file, book, len) && write_whole(file, &gave->delivers, 1) &&
+                 write_whole(file, gave->declaration, GM_DECLARATION_BYTES) && fsync(file) == 0;
     bool closed = close(file) == 0;
     if (!whole || !closed || rename(fresh, kept) != 0) {
         return false;
@@ -92,31 +115,94 @@ static bool store(uint32_t own, const uint8_t *book, size_t len, const gm_outcom
     return place >= 0 && close(place) == 0 && synced;
 }
 
-/* What was stored last, if it is there to the byte and a legal book. */
-static bool recover(struct house *house, gm_outcome *gave) {
+/* A delivery comes once, but after a power cut it may be here already. */
+static void enter(struct house *house) {
+    deliveries += house->entered ? 0 : 1;
+    house->entered = true;
+}
+
+/* What was stored last, if it is there to the byte; whether it is a legal book, gm_return says. */
+static bool recover(struct house *house) {
     char kept[256];
     name_file(kept, sizeof kept, house->own, "book");
     int file = open(kept, O_RDONLY);
     if (file < 0) {
         return false;
     }
-    uint8_t past_end;
+    uint8_t delivery[1 + GM_DECLARATION_BYTES], past_end;
     bool whole = (size_t)read(file, house->book, house->len) == house->len &&
-                 (size_t)read(file, gave, sizeof *gave) == sizeof *gave && read(file, &past_end, 1) == 0;
-    return close(file) == 0 && whole && gm_waiting(house->book, house->len).answer == GM_ACCEPTED;
+                 (size_t)read(file, delivery, sizeof delivery) == sizeof delivery && read(file, &past_end, 1) == 0;
+    if (whole && delivery[0] == 1) {
+        enter(house);
+    }
+    return close(file) == 0 && whole;
 }
 
 /* ---- the house's own carrier */
 
-/* "It goes to all n houses, its own included; that is n copies." */
-static void leave(const struct house *house, const gm_outcome *gave) {
-    if (gave->delivers) {
-        deliveries++;
+static void carry(uint32_t from, uint32_t to, const uint8_t *bytes, size_t len) {
+    if (sent < COPIES) {
+        struct copy *copy = &carried[sent++];
+        copy->from = from;
+        copy->to = to;
+        copy->len = len;
+        memcpy(copy->bytes, bytes, len);
     }
-    for (uint32_t to = 0; gave->gives && to < HOUSES && sent < COPIES; to++, sent++) {
-        carried[sent].from = house->own;
-        carried[sent].to = to;
-        memcpy(carried[sent].message, gave->message, GM_MESSAGE_BYTES);
+}
+
+/* "It goes to all n houses, its own included; that is n copies." */
+static void carry_to_all(uint32_t from, const uint8_t *bytes, size_t len) {
+    for (uint32_t to = 0; to < HOUSES; to++) {
+        carry(from, to, bytes, len);
+    }
+}
+
+/* ---- a start, a return and help */
+
+/* Sends again to all what it has sent: the last message may not have left. */
+static void send_again(const struct house *house) {
+    for (gm_walk walk = gm_first_sent(house->book, house->len); walk.sent.gives; gm_next_sent(house->book, house->len, &walk)) {
+        printf("house %u sends again to all: %s\n", (unsigned)house->own, kind_of(walk.sent.message, GM_MESSAGE_BYTES));
+        carry_to_all(house->own, walk.sent.message, GM_MESSAGE_BYTES);
+    }
+}
+
+/* Power is back, and nothing that was sent to the house was lost: it asks for no help. */
+static bool start(struct house *house) {
+    if (!recover(house) || gm_waiting(house->book, house->len).answer != GM_ACCEPTED) {
+        return false;
+    }
+    house->up = true;
+    printf("house %u starts at once with the book and the delivery of its file\n", (unsigned)house->own);
+    send_again(house);
+    return house->entered;
+}
+
+/* "On return a house sends again to all what it has sent and asks all for help." */
+static bool come_back(struct house *house) {
+    if (!recover(house)) {
+        return false;
+    }
+    gm_return_answer back = gm_return(house->book, house->len);
+    gm_waiting_answer next = gm_waiting(house->book, house->len);
+    printf("house %u returns with the book of its file: %s; waiting: number %u of sender %u\n", (unsigned)house->own,
+           sentence(back.answer), (unsigned)next.number, (unsigned)next.sender);
+    if (back.answer != GM_ACCEPTED || !next.waits) {
+        return false;
+    }
+    house->up = true;
+    send_again(house);
+    printf("house %u asks all for help\n", (unsigned)house->own);
+    carry_to_all(house->own, back.request, GM_REQUEST_BYTES);
+    return true;
+}
+
+/* "A helper sends again its own messages, to the asker alone." */
+static void help(const struct house *house, uint32_t asker) {
+    for (gm_walk walk = gm_first_sent(house->book, house->len); walk.sent.gives; gm_next_sent(house->book, house->len, &walk)) {
+        printf("house %u sends again to house %u alone: %s\n", (unsigned)house->own, (unsigned)asker,
+               kind_of(walk.sent.message, GM_MESSAGE_BYTES));
+        carry(house->own, asker, walk.sent.message, GM_MESSAGE_BYTES);
     }
 }
 
@@ -128,36 +214,42 @@ static void tell(const gm_outcome *gave) {
         printf(" (answer %u)", (unsigned)gave->answer);
     }
     if (gave->gives) {
-        printf(", gives %s", kind_of(gave->message));
+        printf(", gives %s", kind_of(gave->message, GM_MESSAGE_BYTES));
     }
     if (gave->delivers) {
         printf(", delivers lot %u: %u colonies, %u kg", (unsigned)word(gave->declaration), (unsigned)word(gave->declaration + 4),
                (unsigned)word(gave->declaration + 8));
     }
+    if (gave->helps) {
+        printf(", helps");
+    }
     printf("\n");
 }
 
-/* House 1 loses power once: after a READY was stored and before it leaves. What leaves is what the file has. */
-static bool power_cut(struct house *house, gm_outcome *gave) {
-    static bool was_cut;
-    if (was_cut || house->own != 1 || !gave->gives || gm_read(gave->message, GM_MESSAGE_BYTES).kind != GM_READY) {
-        return true;
-    }
-    was_cut = true;
-    memset(house->book, 0, sizeof house->book);
-    memset(gave, 0, sizeof *gave);
-    if (!recover(house, gave)) {
+/* One house loses power twice: after a READY was stored and before it leaves; and after a delivery was stored and before the
+ * register has it. */
+static bool loses_power(struct house *house, const gm_outcome *gave) {
+    static bool first, second;
+    if (house->own != LOSES_POWER) {
         return false;
     }
-    gm_waiting_answer next = gm_waiting(house->book, house->len);
-    printf("house 1 loses power before its READY leaves; it recovers book and %s from its file; waiting: number %u of sender %u\n",
-           kind_of(gave->message), (unsigned)next.number, (unsigned)next.sender);
-    return next.waits;
+    if (!first && gave->gives && gm_read(gave->message, GM_MESSAGE_BYTES).kind == GM_READY) {
+        first = true;
+        printf("house %u loses power before its READY leaves\n", (unsigned)house->own);
+    } else if (!second && gave->delivers) {
+        second = true;
+        printf("house %u loses power before its register has the delivery\n", (unsigned)house->own);
+    } else {
+        return false;
+    }
+    house->up = false;
+    memset(house->book, 0, sizeof house->book);
+    return true;
 }
 
-/* ---- a call: on a copy, stored, then the message leaves */
+/* ---- a call: on a copy, stored, then what it gave leaves */
 
-static bool settle(struct house *house, const uint8_t *worked, gm_outcome *gave) {
+static bool settle(struct house *house, uint32_t from, const uint8_t *worked, const gm_outcome *gave) {
     tell(gave);
     if (gave->answer != GM_ACCEPTED) {
         return memcmp(worked, house->book, house->len) == 0;
@@ -166,10 +258,18 @@ static bool settle(struct house *house, const uint8_t *worked, gm_outcome *gave)
         return false;
     }
     memcpy(house->book, worked, house->len);
-    if (!power_cut(house, gave)) {
-        return false;
+    if (loses_power(house, gave)) {
+        return !gave->delivers || start(house);
     }
-    leave(house, gave);
+    if (gave->gives) {
+        carry_to_all(house->own, gave->message, GM_MESSAGE_BYTES);
+    }
+    if (gave->delivers) {
+        enter(house);
+    }
+    if (gave->helps) {
+        help(house, from);
+    }
     return true;
 }
 
@@ -178,15 +278,15 @@ static bool publish(struct house *house, uint32_t number, const uint8_t *declara
     memcpy(worked, house->book, house->len);
     gm_outcome gave = gm_publish(worked, house->len, number, declaration);
     printf("house %u publishes lot %u at number %u: ", (unsigned)house->own, (unsigned)word(declaration), (unsigned)number);
-    return settle(house, worked, &gave);
+    return settle(house, house->own, worked, &gave);
 }
 
-static bool receive(struct house *house, uint64_t from, const uint8_t *message) {
+static bool receive(struct house *house, uint64_t from, const uint8_t *bytes, size_t len) {
     uint8_t worked[GM_LONGEST_BOOK];
     memcpy(worked, house->book, house->len);
-    gm_outcome gave = gm_receive(worked, house->len, gm_house(from), message, GM_MESSAGE_BYTES);
-    printf("house %u hears %s from house %llu: ", (unsigned)house->own, kind_of(message), (unsigned long long)from);
-    return settle(house, worked, &gave);
+    gm_outcome gave = gm_receive(worked, house->len, gm_house(from), bytes, len);
+    printf("house %u hears %s from house %llu: ", (unsigned)house->own, kind_of(bytes, len), (unsigned long long)from);
+    return settle(house, gm_house(from), worked, &gave);
 }
 
 static bool open_all(void) {
@@ -195,12 +295,14 @@ static bool open_all(void) {
     if (size.answer != GM_ACCEPTED) {
         return false;
     }
-    printf("%d houses with %d numbers each, season %d: a book is %u bytes\n", HOUSES, NUMBERS, SEASON, (unsigned)size.length);
+    printf("%d houses with %d numbers each, season %d, f = %d, d = %d: a book is %u bytes\n", HOUSES, NUMBERS, SEASON, DOWN, LIMIT,
+           (unsigned)size.length);
     for (uint32_t own = 0; own < HOUSES; own++) {
         struct house *house = &houses[own];
         house->own = own;
+        house->up = true;
         house->len = size.length;
-        uint8_t answer = gm_open(house->book, house->len, HOUSES, NUMBERS, own, SEASON, sheet, sizeof sheet);
+        uint8_t answer = gm_open(house->book, house->len, HOUSES, NUMBERS, own, DOWN, LIMIT, SEASON, sheet, sizeof sheet);
         printf("house %u opens its book: %s\n", (unsigned)own, sentence(answer));
         if (answer != GM_ACCEPTED || !store(own, house->book, house->len, &nothing)) {
             return false;
@@ -209,27 +311,52 @@ static bool open_all(void) {
     return true;
 }
 
+/* Brings each copy once. "What arrives meanwhile is lost." */
+static bool bring_all(void) {
+    for (; taken < sent; taken++) {
+        const struct copy *copy = &carried[taken];
+        struct house *house = &houses[copy->to];
+        requests += copy->len == GM_REQUEST_BYTES ? 1 : 0;
+        if (!house->up) {
+            printf("house %u is down: %s from house %u is lost\n", (unsigned)copy->to, kind_of(copy->bytes, copy->len),
+                   (unsigned)copy->from);
+            lost++;
+        } else if (!receive(house, copy->from, copy->bytes, copy->len)) {
+            return false;
+        }
+    }
+    printf("%u copies and %u requests were carried, %u of them lost; %u houses delivered\n", (unsigned)(taken - requests),
+           (unsigned)requests, (unsigned)lost, (unsigned)deliveries);
+    return true;
+}
+
+/* A carrier that repeats a request spends the asker's help. */
+static bool repeat_the_request(void) {
+    gm_return_answer back = gm_return(houses[LOSES_POWER].book, houses[LOSES_POWER].len);
+    printf("the carrier brings house 0 the request of house %d twice more\n", LOSES_POWER);
+    for (int times = 0; times < 2; times++) {
+        if (!receive(&houses[0], LOSES_POWER, back.request, GM_REQUEST_BYTES)) {
+            return false;
+        }
+    }
+    return bring_all();
+}
+
 /* Four things that a house refuses; each leaves its book as it was. */
 static bool refuse(void) {
     uint8_t heavy[GM_DECLARATION_BYTES];
     memcpy(heavy, lot77, sizeof heavy);
     heavy[11]++; /* 801 kilograms of 40 colonies */
     uint64_t wide = ((uint64_t)1 << 32) + PUBLISHER; /* cut to 32 bits it would be the publisher */
-    return receive(&houses[0], PUBLISHER, carried[0].message) && receive(&houses[0], wide, carried[0].message) &&
+    const struct copy *send = &carried[0];
+    return receive(&houses[0], PUBLISHER, send->bytes, send->len) && receive(&houses[0], wide, send->bytes, send->len) &&
            publish(&houses[PUBLISHER], NUMBER, lot77) && publish(&houses[PUBLISHER], 0, heavy);
 }
 
 static bool run(void) {
-    if (!open_all() || !publish(&houses[PUBLISHER], NUMBER, lot77)) {
-        return false;
-    }
-    for (; taken < sent; taken++) {
-        if (!receive(&houses[carried[taken].to], carried[taken].from, carried[taken].message)) {
-            return false;
-        }
-    }
-    printf("%u copies were carried, %u houses delivered\n", (unsigned)taken, (unsigned)deliveries);
-    return refuse() && !gm_waiting(houses[0].book, houses[0].len).waits;
+    return open_all() && publish(&houses[PUBLISHER], NUMBER, lot77) && bring_all() && come_back(&houses[LOSES_POWER]) &&
+           bring_all() && repeat_the_request() && refuse() &&
+           !gm_waiting(houses[LOSES_POWER].book, houses[LOSES_POWER].len).waits;
 }
 
 int main(int count, char **words) {

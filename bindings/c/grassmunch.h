@@ -1,12 +1,14 @@
-/* The eight calls of the house book, for C11 and C++17. docs/HOUSE.md says which call when; docs/BOOK.md gives the bytes of a book.
+/* The ten calls of the house book, for C11 and C++17. docs/HOUSE.md says which call when; docs/BOOK.md gives the bytes of a book.
  *
- * Sentences in quotes are document 01's. For every call:
+ * Sentences in quotes are document 01's, or request 2026-10's where they speak of f and d, a return, a request or help.
+ * For every call:
  *   - A book, a sheet and a message are lent as a pointer and a length. A null pointer is allowed with length 0.
  *   - A declaration is a pointer to 20 readable bytes, and never null.
  *   - The lent book overlaps no other argument.
  *   - "Every refusal leaves the lent buffer byte for byte and carries no message and no delivery." What is absent is zeros.
  *   - A number wider than 32 bits is refused by the caller and not cut: gm_house does that.
- *   - bool is one byte, 0 or 1. Padding holds anything: compare fields, and not whole structs. */
+ *   - bool is one byte, 0 or 1. Padding holds anything: compare fields, and not whole structs.
+ * Header and archive come from one build: the archive fills the structs that stand here. */
 #ifndef GRASSMUNCH_H
 #define GRASSMUNCH_H
 
@@ -22,7 +24,7 @@ extern "C" {
 #endif
 
 /* Sizes in bytes. The longest book is that of 16 houses with 4 numbers each. */
-enum { GM_DECLARATION_BYTES = 20, GM_SHEET_BYTES = 22, GM_MESSAGE_BYTES = 36, GM_LONGEST_BOOK = 47153 };
+enum { GM_DECLARATION_BYTES = 20, GM_SHEET_BYTES = 22, GM_MESSAGE_BYTES = 36, GM_REQUEST_BYTES = 11, GM_LONGEST_BOOK = 47171 };
 
 /* "Where several apply, the first in the call's order is given." */
 enum gm_answer {
@@ -35,13 +37,14 @@ enum gm_answer {
     GM_NOT_FROM_SENDER = 6,   /* SEND not from the entry's sender */
     GM_ALREADY_ACCEPTED = 7,  /* this kind was already accepted from this house on this entry, same declaration or not */
     GM_ALREADY_PUBLISHED = 8, /* already published at this number */
-    GM_NOT_ALLOWED = 9,       /* n, S or own number not allowed */
+    GM_NOT_ALLOWED = 9,       /* n, S, own number, f or d not allowed */
     GM_SHEET_NOT_LEGAL = 10,  /* sheet not legal */
-    GM_WRONG_LENGTH = 11      /* buffer length is not the book's length */
+    GM_WRONG_LENGTH = 11,     /* buffer length is not the book's length */
+    GM_HELPED_ENOUGH = 14     /* this asker was helped d times already */
 };
 
-/* "Tag 1, length 1: kind, 1 SEND, 2 ECHO, 3 READY." */
-enum gm_kind { GM_SEND = 1, GM_ECHO = 2, GM_READY = 3 };
+/* "Tag 1, length 1: kind, 1 SEND, 2 ECHO, 3 READY." "A request is kind 9, tag 1 and then tag 2 with the season alone": 11 bytes. */
+enum gm_kind { GM_SEND = 1, GM_ECHO = 2, GM_READY = 3, GM_REQUEST = 9 };
 
 /* A gate's kind byte. "A gate is one of three kinds: open, at most a limit, or between a low and a high limit."
  * A sheet is 22 bytes, big-endian: the cap (4); then for moisture and for conductivity a kind (1), a low limit (4) and a high
@@ -59,7 +62,19 @@ typedef struct {
     uint8_t message[36];     /* zeros where none is given */
     bool delivers;           /* a declaration is delivered */
     uint8_t declaration[20]; /* zeros where none is delivered */
+    bool helps;              /* a request was accepted: what gm_sent gives goes again to the asker alone */
 } gm_outcome;
+
+typedef struct {
+    uint8_t answer;
+    uint8_t request[11]; /* it goes to all n houses, its own included; zeros at answer 1 */
+} gm_return_answer;
+
+typedef struct {
+    uint8_t answer;
+    bool gives;          /* this house sent it; false is the plain none */
+    uint8_t message[36]; /* zeros where none was sent */
+} gm_sent_answer;
 
 typedef struct {
     uint8_t answer;
@@ -70,7 +85,7 @@ typedef struct {
     uint8_t answer;
     uint8_t kind; /* this and all below: zero at answer 2 */
     uint32_t season;
-    uint8_t sender;
+    uint8_t sender; /* this and all below: zero in a request */
     uint8_t number;
     uint8_t declaration[20];
 } gm_read_answer;
@@ -85,16 +100,26 @@ typedef struct {
 /* "A public answer gives that length, or answer 9." Answers 9, else 0. */
 gm_length_answer gm_length(uint32_t n, uint32_t s);
 
-/* "Opening writes the whole buffer: nothing heard, sent, delivered or published." Answers 9, 10, 11, else 0. */
-uint8_t gm_open(uint8_t *book, size_t len, uint32_t n, uint32_t s, uint32_t own, uint32_t season, const uint8_t *sheet,
-                size_t sheet_len);
+/* "Opening writes the whole buffer: nothing heard, sent, delivered or published." "Opening takes f (0 to 4) and a recovery limit d
+ * (0 to 8); t is the largest that fits; else answer 9." So 2f is below n. Answers 9, 10, 11, else 0. */
+uint8_t gm_open(uint8_t *book, size_t len, uint32_t n, uint32_t s, uint32_t own, uint32_t f, uint32_t d, uint32_t season,
+                const uint8_t *sheet, size_t sheet_len);
 
 /* "Publishing marks the own entry and gives a SEND." Answers 1, 4, 5, 8, else 0. */
 gm_outcome gm_publish(uint8_t *book, size_t len, uint32_t number, const uint8_t declaration[20]);
 
 /* "An accepted SEND is recorded and gives an ECHO of it." An ECHO or READY is recorded, and may give a READY; a READY may deliver.
- * house is the house that the message came from. Answers 1, 2, 3, 4, 5, 6, 7, else 0. */
+ * house is the house that the message came from. Answers 1, 2, 3, 4, 5, 6, 7, else 0.
+ * A request is counted, and helps: "a helper sends again its own messages, to the asker alone, at most d times for each asker."
+ * Answers 1, 2, 3, 4, 14, else 0. */
 gm_outcome gm_receive(uint8_t *book, size_t len, uint32_t house, const uint8_t *message, size_t message_len);
+
+/* "On return a house sends again to all what it has sent and asks all for help": the request to ask with. Answers 1, else 0. */
+gm_return_answer gm_return(const uint8_t *book, size_t len);
+
+/* What this house sent of a kind on an entry, to be sent again: the same 36 bytes, or a plain none. Its SEND is on its own entries
+ * alone. Answers 1, 2 for a kind that is not 1 to 3, 4, else 0. gm_first_sent and gm_next_sent walk over all of it. */
+gm_sent_answer gm_sent(const uint8_t *book, size_t len, uint8_t kind, uint32_t sender, uint32_t number);
 
 /* "The earliest waiting entry is the one, lowest number first and then lowest sender, with a SEND heard and nothing delivered; or a
  * plain none; or answer 1." Answers 1, else 0. */
@@ -107,7 +132,7 @@ uint8_t gm_judge(const uint8_t *sheet, size_t sheet_len, const uint8_t declarati
  * number byte is written; for another kind it answers 2 and hands back no message." Answers 2, else 0. */
 gm_written gm_write(uint8_t kind, uint32_t season, uint8_t sender, uint8_t number, const uint8_t declaration[20]);
 
-/* "Reading alone answers 2 or gives the same five things." Answers 2, else 0. */
+/* "Reading alone answers 2 or gives the same five things." Of a request it gives kind 9 and the season. Answers 2, else 0. */
 gm_read_answer gm_read(const uint8_t *message, size_t message_len);
 
 /* A wide house number for gm_receive. One that 32 bits do not hold becomes the largest that they do, which is in no book: it is
@@ -119,12 +144,57 @@ static inline uint32_t gm_house(uint64_t wide) {
     return wide & UINT32_MAX;
 }
 
+/* A walk over all that this house sent: lowest number first, then lowest sender, then SEND, ECHO, READY. It goes by what gm_sent
+ * answers and by nothing else:
+ *
+ *     for (gm_walk walk = gm_first_sent(book, len); walk.sent.gives; gm_next_sent(book, len, &walk)) {
+ *         carry(walk.sent.message);
+ *     }
+ *
+ * On return each goes to all n houses, and for help to the asker alone. The walk ends at answer 4, past the last entry, or at
+ * answer 1. */
+typedef struct {
+    gm_sent_answer sent;
+    uint32_t number;
+    uint32_t sender;
+    uint8_t kind;
+} gm_walk;
+
+static inline void gm_next_sent(const uint8_t *book, size_t len, gm_walk *walk) {
+    do {
+        walk->kind++;
+        if (walk->kind > GM_READY) {
+            walk->kind = GM_SEND;
+            walk->sender++;
+        }
+        walk->sent = gm_sent(book, len, walk->kind, walk->sender, walk->number);
+        if (walk->sent.answer == GM_NOT_IN_BOOK && walk->sender > 0) { /* past the last sender */
+            walk->sender = 0;
+            walk->number++;
+            walk->sent = gm_sent(book, len, walk->kind, walk->sender, walk->number);
+        }
+    } while (walk->sent.answer == GM_ACCEPTED && !walk->sent.gives);
+}
+
+static inline gm_walk gm_first_sent(const uint8_t *book, size_t len) {
+    gm_walk walk;
+    walk.number = 0;
+    walk.sender = 0;
+    walk.kind = 0;
+    gm_next_sent(book, len, &walk);
+    return walk;
+}
+
 GM_ASSERT(sizeof(bool) == 1, "bool is one byte");
 GM_ASSERT(sizeof(size_t) == 8, "a length is 64 bits");
 GM_ASSERT(sizeof(gm_length_answer) == 16 && offsetof(gm_length_answer, length) == 8, "gm_length_answer");
-GM_ASSERT(sizeof(gm_outcome) == 59 && offsetof(gm_outcome, gives) == 1 && offsetof(gm_outcome, message) == 2 &&
-              offsetof(gm_outcome, delivers) == 38 && offsetof(gm_outcome, declaration) == 39,
+GM_ASSERT(sizeof(gm_outcome) == 60 && offsetof(gm_outcome, gives) == 1 && offsetof(gm_outcome, message) == 2 &&
+              offsetof(gm_outcome, delivers) == 38 && offsetof(gm_outcome, declaration) == 39 &&
+              offsetof(gm_outcome, helps) == 59,
           "gm_outcome");
+GM_ASSERT(sizeof(gm_return_answer) == 12 && offsetof(gm_return_answer, request) == 1, "gm_return_answer");
+GM_ASSERT(sizeof(gm_sent_answer) == 38 && offsetof(gm_sent_answer, gives) == 1 && offsetof(gm_sent_answer, message) == 2,
+          "gm_sent_answer");
 GM_ASSERT(sizeof(gm_written) == 37 && offsetof(gm_written, message) == 1, "gm_written");
 GM_ASSERT(sizeof(gm_read_answer) == 32 && offsetof(gm_read_answer, kind) == 1 && offsetof(gm_read_answer, season) == 4 &&
               offsetof(gm_read_answer, sender) == 8 && offsetof(gm_read_answer, number) == 9 &&

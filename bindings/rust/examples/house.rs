@@ -1,37 +1,48 @@
-//! Four houses in one process: they open, publish, receive, store and recover, and write an account of it.
+//! Four houses in one process: they open, publish, receive and store; one loses power twice, returns and is helped; and they write
+//! an account of it.
 //!
-//! Each call works on a clone of the book. The clone and what the call gave are stored together, and only then does the message
-//! leave: after a power cut the file says what was promised and what may not have left yet. The next call comes once the carrier,
-//! here the row `carried`, has all n copies; a house with neighbours puts its network there. The one argument is the folder for
-//! the books.
+//! Each call works on a clone of the book. The clone is stored, with a delivery beside it, and only then does anything leave. What
+//! a house sent can be read off its book, so that no message is stored: after a power cut the book says what is to be sent again.
+//! The carrier, here the row `carried`, loses what comes to a house that is down; a house with neighbours puts its network there.
+//! The one argument is the folder for the books.
 
 use std::error::Error;
 use std::fs::{self, File};
 use std::io::Write;
 use std::path::{Path, PathBuf};
 
-use grassmunch::{Book, Declaration, Entry, Gate, Kind, Message, Outcome, Refusal, Sheet};
+use grassmunch::{
+    Book, Declaration, Entry, Gate, Heard, Kind, Message, Opening, Outcome, Refusal, Sheet,
+};
 
 type Fallible<T> = Result<T, Box<dyn Error>>;
 
-const HOUSES: u32 = 4;
-const NUMBERS: u32 = 2;
-const SEASON: u32 = 2026;
+/// Among four houses one may be wrong where f is 0, and none where f is 1. All four are to be up at the end, so f is 0; and each
+/// may return twice, so d is 2.
+const OPENING: Opening = Opening {
+    n: 4,
+    s: 2,
+    f: 0,
+    d: 2,
+    season: 2026,
+    sheet: Sheet {
+        cap: 20,
+        moisture: Gate::AtMost(20.0),
+        conductivity: Gate::Open,
+    },
+};
 const PUBLISHER: usize = 2;
 const NUMBER: u32 = 1;
-const SHEET: Sheet = Sheet {
-    cap: 20,
-    moisture: Gate::AtMost(20.0),
-    conductivity: Gate::Open,
-};
+const LOSES_POWER: usize = 1;
 
+/// A message or a request on its way.
 struct Copy {
-    from: u64,
+    from: usize,
     to: usize,
-    message: [u8; Message::BYTES],
+    bytes: Vec<u8>,
 }
 
-/// A house's own disk: one file, with the book, the message or zeros, and a delivery behind a 1, or zeros.
+/// A house's own disk: one file, with the book, and beside it a delivery behind a 1, or zeros.
 struct Disk {
     folder: PathBuf,
     own: usize,
@@ -43,14 +54,10 @@ impl Disk {
     }
 
     /// Whole or not at all: a new file, synced, then renamed over the old one.
-    fn store(&self, book: &Book, gave: &Outcome) -> Fallible<()> {
+    fn store(&self, book: &Book, delivery: Option<Declaration>) -> Fallible<()> {
         let mut bytes = book.as_bytes().to_vec();
-        bytes.extend(gave.message.unwrap_or([0; Message::BYTES]));
-        bytes.push(gave.delivery.is_some().into());
-        bytes.extend(
-            gave.delivery
-                .map_or([0; Declaration::BYTES], |delivery| *delivery.as_bytes()),
-        );
+        bytes.push(delivery.is_some().into());
+        bytes.extend(delivery.map_or([0; Declaration::BYTES], |delivery| *delivery.as_bytes()));
         let mut file = File::create(self.file("new"))?;
         file.write_all(&bytes)?;
         file.sync_all()?;
@@ -60,39 +67,46 @@ impl Disk {
     }
 
     /// What was stored last, if it is there to the byte and a legal book.
-    fn recover(&self) -> Fallible<(Book, Outcome)> {
+    fn recover(&self) -> Fallible<(Book, Option<Declaration>)> {
         let mut bytes = fs::read(self.file("book"))?;
-        let length = Book::length(HOUSES, NUMBERS)?;
-        if bytes.len() != length + Message::BYTES + 1 + Declaration::BYTES {
+        let length = Book::length(OPENING.n, OPENING.s)?;
+        if bytes.len() != length + 1 + Declaration::BYTES {
             return Err("the file has another length".into());
         }
-        let gave = bytes.split_off(length);
-        let (message, delivery) = gave.split_at(Message::BYTES);
-        // zeros are no message, so nothing is taken for one
-        let message = Message::read(message)
-            .ok()
-            .map(|message| message.to_bytes());
-        let delivered = Declaration::from_bytes(delivery[1..].try_into()?);
-        let delivery = (delivery[0] == 1).then_some(delivered);
-        Ok((Book::from_bytes(bytes)?, Outcome { message, delivery }))
+        let beside = bytes.split_off(length);
+        let delivery = Declaration::from_bytes(beside[1..].try_into()?);
+        Ok((
+            Book::from_bytes(bytes)?,
+            (beside[0] == 1).then_some(delivery),
+        ))
     }
 }
 
 struct House {
-    book: Book,
+    /// None while the house is down: memory is gone, and the file stays.
+    book: Option<Book>,
     disk: Disk,
+    /// Its register. A delivery comes once, but after a power cut it may be here already.
+    register: Vec<Declaration>,
 }
 
 impl House {
     fn open(folder: &Path, own: usize) -> Fallible<House> {
-        let book = Book::open(HOUSES, NUMBERS, own as u32, SEASON, &SHEET)?;
-        let disk = Disk {
-            folder: folder.to_owned(),
-            own,
-        };
-        disk.store(&book, &Outcome::default())?;
+        let book = Book::open(&OPENING, own as u32)?;
+        let folder = folder.to_owned();
+        let disk = Disk { folder, own };
+        disk.store(&book, None)?;
         println!("house {own} opens its book: accepted");
-        Ok(House { book, disk })
+        Ok(House {
+            book: Some(book),
+            disk,
+            register: Vec::new(),
+        })
+    }
+
+    fn enter(&mut self, delivery: Option<Declaration>) {
+        self.register
+            .extend(delivery.filter(|lot| !self.register.contains(lot)));
     }
 }
 
@@ -100,15 +114,19 @@ impl House {
 struct Valley {
     houses: Vec<House>,
     carried: Vec<Copy>,
-    deliveries: usize,
-    was_cut: bool,
+    taken: usize,
+    lost: usize,
+    cuts: usize,
 }
 
-fn kind_of(message: &[u8]) -> &'static str {
-    match Message::read(message).map(|message| message.kind) {
-        Ok(Kind::Send) => "SEND",
-        Ok(Kind::Echo) => "ECHO",
-        Ok(Kind::Ready) => "READY",
+fn kind_of(bytes: &[u8]) -> &'static str {
+    match Message::read(bytes) {
+        Ok(Heard::Message(message)) => match message.kind {
+            Kind::Send => "SEND",
+            Kind::Echo => "ECHO",
+            Kind::Ready => "READY",
+        },
+        Ok(Heard::Request { .. }) => "a request",
         Err(_) => "no message",
     }
 }
@@ -116,18 +134,17 @@ fn kind_of(message: &[u8]) -> &'static str {
 fn tell(gave: &Result<Outcome, Refusal>) {
     match gave {
         Err(refusal) => print!("{} (answer {})", refusal.sentence(), refusal.number()),
-        Ok(Outcome { message, delivery }) => {
+        Ok(gave) => {
             print!("accepted");
-            if let Some(message) = message {
+            if let Some(message) = &gave.message {
                 print!(", gives {}", kind_of(message));
             }
-            if let Some(of) = delivery {
-                print!(
-                    ", delivers lot {}: {} colonies, {} kg",
-                    of.lot(),
-                    of.colonies(),
-                    of.kilograms()
-                );
+            if let Some(of) = gave.delivery {
+                let (lot, colonies, kilograms) = (of.lot(), of.colonies(), of.kilograms());
+                print!(", delivers lot {lot}: {colonies} colonies, {kilograms} kg");
+            }
+            if gave.helps {
+                print!(", helps");
             }
         }
     }
@@ -135,101 +152,196 @@ fn tell(gave: &Result<Outcome, Refusal>) {
 }
 
 impl Valley {
+    fn up(&self, own: usize) -> Fallible<&Book> {
+        self.houses[own].book.as_ref().ok_or("house is down".into())
+    }
+
+    fn carry(&mut self, from: usize, to: usize, bytes: &[u8]) {
+        let bytes = bytes.to_vec();
+        self.carried.push(Copy { from, to, bytes });
+    }
+
+    /// "It goes to all n houses, its own included; that is n copies."
+    fn carry_to_all(&mut self, from: usize, bytes: &[u8]) {
+        for to in 0..self.houses.len() {
+            self.carry(from, to, bytes);
+        }
+    }
+
     fn publish(&mut self, own: usize, number: u32, declaration: &Declaration) -> Fallible<()> {
-        let mut worked = self.houses[own].book.clone();
+        let mut worked = self.up(own)?.clone();
         let gave = worked.publish(number, declaration);
-        print!(
-            "house {own} publishes lot {} at number {number}: ",
-            declaration.lot()
-        );
-        self.settle(own, worked, gave)
+        let lot = declaration.lot();
+        print!("house {own} publishes lot {lot} at number {number}: ");
+        self.settle(own, own, worked, gave)
     }
 
-    fn receive(&mut self, own: usize, from: u64, message: &[u8]) -> Fallible<()> {
-        let mut worked = self.houses[own].book.clone();
-        let gave = worked.receive(from, message);
-        print!("house {own} hears {} from house {from}: ", kind_of(message));
-        self.settle(own, worked, gave)
+    fn receive(&mut self, own: usize, from: u64, bytes: &[u8]) -> Fallible<()> {
+        let mut worked = self.up(own)?.clone();
+        let gave = worked.receive(from, bytes);
+        print!("house {own} hears {} from house {from}: ", kind_of(bytes));
+        self.settle(own, from as usize, worked, gave)
     }
 
-    /// The copy and what was given are stored; then the book is replaced, and the message leaves.
-    fn settle(&mut self, own: usize, worked: Book, gave: Result<Outcome, Refusal>) -> Fallible<()> {
+    /// The clone is stored, with a delivery beside it; then it takes the book's place, and what the call gave leaves.
+    fn settle(
+        &mut self,
+        own: usize,
+        from: usize,
+        worked: Book,
+        gave: Result<Outcome, Refusal>,
+    ) -> Fallible<()> {
         tell(&gave);
-        let house = &mut self.houses[own];
-        let Ok(mut gave) = gave else {
-            assert_eq!(worked, house.book, "a refusal leaves the book as it was");
+        let Ok(gave) = gave else {
+            let book = self.up(own)?;
+            assert_eq!(&worked, book, "a refusal leaves the book as it was");
             return Ok(());
         };
-        house.disk.store(&worked, &gave)?;
-        house.book = worked;
-        if own == 1
-            && !self.was_cut
-            && gave
-                .message
-                .is_some_and(|message| kind_of(&message) == "READY")
-        {
-            gave = self.power_cut()?;
+        let house = &mut self.houses[own];
+        house.disk.store(&worked, gave.delivery)?;
+        house.book = Some(worked);
+        if self.loses_power(own, &gave) {
+            return gave.delivery.map_or(Ok(()), |_| self.start(own));
         }
-        self.deliveries += usize::from(gave.delivery.is_some());
         if let Some(message) = gave.message {
-            let copies = (0..self.houses.len()).map(|to| Copy {
-                from: own as u64,
-                to,
-                message,
-            });
-            self.carried.extend(copies);
+            self.carry_to_all(own, &message);
+        }
+        self.houses[own].enter(gave.delivery);
+        if gave.helps {
+            self.help(own, from)?;
         }
         Ok(())
     }
 
-    /// House 1 loses power once: after a READY was stored and before it leaves. What leaves is what the file has.
-    fn power_cut(&mut self) -> Fallible<Outcome> {
-        self.was_cut = true;
-        let house = &mut self.houses[1];
-        let (book, gave) = house.disk.recover()?;
-        house.book = book;
-        let Some(Entry { number, sender }) = house.book.waiting()? else {
+    /// One house loses power twice: after a READY was stored and before it leaves; and after a delivery was stored and before the
+    /// register has it.
+    fn loses_power(&mut self, own: usize, gave: &Outcome) -> bool {
+        let is_ready = gave
+            .message
+            .is_some_and(|message| kind_of(&message) == "READY");
+        let before = match self.cuts {
+            0 if is_ready => "its READY leaves",
+            1 if gave.delivery.is_some() => "its register has the delivery",
+            _ => return false,
+        };
+        if own != LOSES_POWER {
+            return false;
+        }
+        self.cuts += 1;
+        self.houses[own].book = None;
+        println!("house {own} loses power before {before}");
+        true
+    }
+
+    /// Takes the book and a delivery from the file.
+    fn recover(&mut self, own: usize) -> Fallible<Book> {
+        let (book, delivery) = self.houses[own].disk.recover()?;
+        self.houses[own].enter(delivery);
+        self.houses[own].book = Some(book.clone());
+        Ok(book)
+    }
+
+    /// Sends again to all what it has sent: the last message may not have left.
+    fn send_again(&mut self, own: usize, book: &Book) {
+        for message in book.all_sent() {
+            println!("house {own} sends again to all: {}", kind_of(&message));
+            self.carry_to_all(own, &message);
+        }
+    }
+
+    /// Power is back, and nothing that was sent to the house was lost: it asks for no help.
+    fn start(&mut self, own: usize) -> Fallible<()> {
+        let book = self.recover(own)?;
+        println!("house {own} starts at once with the book and the delivery of its file");
+        self.send_again(own, &book);
+        Ok(())
+    }
+
+    /// "On return a house sends again to all what it has sent and asks all for help."
+    fn come_back(&mut self, own: usize) -> Fallible<()> {
+        let book = self.recover(own)?;
+        let Some(Entry { number, sender }) = book.waiting()? else {
             return Err("nothing waits".into());
         };
-        let kind = kind_of(&gave.message.unwrap_or([0; Message::BYTES]));
-        print!(
-            "house 1 loses power before its READY leaves; it recovers book and {kind} from its file; "
-        );
+        print!("house {own} returns with the book of its file: accepted; ");
         println!("waiting: number {number} of sender {sender}");
-        Ok(gave)
+        self.send_again(own, &book);
+        println!("house {own} asks all for help");
+        self.carry_to_all(own, &book.come_back()?);
+        Ok(())
+    }
+
+    /// "A helper sends again its own messages, to the asker alone."
+    fn help(&mut self, own: usize, asker: usize) -> Fallible<()> {
+        let again: Vec<_> = self.up(own)?.all_sent().collect();
+        for message in again {
+            let kind = kind_of(&message);
+            println!("house {own} sends again to house {asker} alone: {kind}");
+            self.carry(own, asker, &message);
+        }
+        Ok(())
+    }
+
+    /// Brings each copy once. "What arrives meanwhile is lost."
+    fn bring_all(&mut self) -> Fallible<()> {
+        while let Some(copy) = self.carried.get(self.taken) {
+            let (from, to, bytes) = (copy.from, copy.to, copy.bytes.clone());
+            self.taken += 1;
+            if self.houses[to].book.is_some() {
+                self.receive(to, from as u64, &bytes)?;
+            } else {
+                let kind = kind_of(&bytes);
+                println!("house {to} is down: {kind} from house {from} is lost");
+                self.lost += 1;
+            }
+        }
+        let is_request = |copy: &&Copy| copy.bytes.len() == Message::REQUEST_BYTES;
+        let requests = self.carried.iter().filter(is_request).count();
+        let copies = self.carried.len() - requests;
+        let lost = self.lost;
+        let deliveries: usize = self.houses.iter().map(|house| house.register.len()).sum();
+        println!(
+            "{copies} copies and {requests} requests were carried, {lost} of them lost; {deliveries} houses delivered"
+        );
+        Ok(())
     }
 }
 
 fn main() -> Fallible<()> {
     let folder = PathBuf::from(std::env::args().nth(1).unwrap_or(".".into()));
-    let length = Book::length(HOUSES, NUMBERS)?;
+    let Opening {
+        n, s, f, d, season, ..
+    } = OPENING;
+    let length = Book::length(n, s)?;
     println!(
-        "{HOUSES} houses with {NUMBERS} numbers each, season {SEASON}: a book is {length} bytes"
+        "{n} houses with {s} numbers each, season {season}, f = {f}, d = {d}: a book is {length} bytes"
     );
-    let houses = (0..HOUSES as usize)
+    let houses = (0..n as usize)
         .map(|own| House::open(&folder, own))
         .collect::<Fallible<_>>()?;
     let mut valley = Valley {
         houses,
         carried: Vec::new(),
-        deliveries: 0,
-        was_cut: false,
+        taken: 0,
+        lost: 0,
+        cuts: 0,
     };
 
     let lot77 = Declaration::new(77, 40, 800, 17.5, 0.5);
     valley.publish(PUBLISHER, NUMBER, &lot77)?;
-    let mut taken = 0;
-    while let Some(&Copy { from, to, message }) = valley.carried.get(taken) {
-        valley.receive(to, from, &message)?;
-        taken += 1;
-    }
-    println!(
-        "{taken} copies were carried, {} houses delivered",
-        valley.deliveries
-    );
+    valley.bring_all()?;
+    valley.come_back(LOSES_POWER)?;
+    valley.bring_all()?;
+
+    // a carrier that repeats a request spends the asker's help
+    let request = valley.up(LOSES_POWER)?.come_back()?;
+    println!("the carrier brings house 0 the request of house {LOSES_POWER} twice more");
+    valley.receive(0, LOSES_POWER as u64, &request)?;
+    valley.receive(0, LOSES_POWER as u64, &request)?;
+    valley.bring_all()?;
 
     // four things that a house refuses; each leaves its book as it was
-    let send = valley.carried[0].message;
+    let send = valley.carried[0].bytes.clone();
     let publisher = PUBLISHER as u64;
     valley.receive(0, publisher, &send)?;
     valley.receive(0, (1 << 32) + publisher, &send)?; // cut to 32 bits it would be the publisher

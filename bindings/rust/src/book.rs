@@ -1,8 +1,25 @@
 //! A book that owns its bytes.
 
-use crate::{Declaration, Message, Refusal, Sheet, ffi};
+use crate::{Declaration, Kind, Message, Refusal, Sheet, ffi};
 
-/// What an accepted publication or message gave. Store it with the book before anything leaves.
+/// What all honest houses open with, the same at each; its own number a house gives beside it.
+#[derive(Clone, Copy, Debug, PartialEq)]
+pub struct Opening {
+    /// The houses: 1 to 16.
+    pub n: u32,
+    /// The entry numbers of each sender: 1 to 4.
+    pub s: u32,
+    /// "Up to f honest houses may be down": 0 to 4, and 2f is below n.
+    pub f: u32,
+    /// The recovery limit, how often a house may return and is helped: 0 to 8.
+    pub d: u32,
+    /// The season.
+    pub season: u32,
+    /// The season's sheet.
+    pub sheet: Sheet,
+}
+
+/// What an accepted publication, message or request gave. Store the book, and a delivery beside it, before anything leaves.
 #[derive(Clone, Copy, Debug, Default, PartialEq, Eq)]
 #[must_use = "a message that does not leave is a promise not kept, and a delivery comes once"]
 pub struct Outcome {
@@ -10,6 +27,8 @@ pub struct Outcome {
     pub message: Option<[u8; Message::BYTES]>,
     /// The declaration that is delivered.
     pub delivery: Option<Declaration>,
+    /// A request was accepted: all that [`Book::all_sent`] gives goes again to the asker alone.
+    pub helps: bool,
 }
 
 impl Outcome {
@@ -20,6 +39,7 @@ impl Outcome {
             delivery: outcome
                 .delivers
                 .then(|| Declaration::from_bytes(outcome.declaration)),
+            helps: outcome.helps,
         })
     }
 }
@@ -33,21 +53,23 @@ pub struct Entry {
     pub sender: u8,
 }
 
-/// A legal book: n, S, own number, season, sheet, and an entry for each sender and number.
+/// A legal book: n, S, own number, season, sheet, f, d, how often each asker was helped, and an entry for each sender and number.
 ///
-/// Work on a clone, store its bytes and the outcome, then put it in the old one's place and let the message leave.
+/// Work on a clone, store its bytes and a delivery, then put it in the old one's place and let the message leave. What this house
+/// sent can be read off the book at any time ([`Book::all_sent`]), so a message need not be stored beside it.
 ///
 /// ```
-/// use grassmunch::{Book, Declaration, Gate, Kind, Message, Refusal, Sheet};
+/// use grassmunch::{Book, Declaration, Gate, Heard, Kind, Message, Opening, Refusal, Sheet};
 /// let sheet = Sheet { cap: 20, moisture: Gate::AtMost(20.0), conductivity: Gate::Open };
+/// let opening = Opening { n: 1, s: 1, f: 0, d: 1, season: 2026, sheet };
 /// let declaration = Declaration::new(77, 40, 800, 17.5, 0.5);
-/// let mut book = Book::open(1, 1, 0, 2026, &sheet)?;
+/// let mut book = Book::open(&opening, 0)?;
 ///
 /// // one house alone: its SEND gives its ECHO, that its READY, and that delivers
 /// let send = book.publish(0, &declaration)?.message.unwrap();
 /// let echo = book.receive(0, &send)?.message.unwrap();
 /// let ready = book.receive(0, &echo)?.message.unwrap();
-/// assert_eq!(Message::read(&ready)?.kind, Kind::Ready);
+/// assert!(matches!(Message::read(&ready)?, Heard::Message(Message { kind: Kind::Ready, .. })));
 /// let last = book.receive(0, &ready)?;
 /// assert_eq!((last.message, last.delivery), (None, Some(declaration)));
 ///
@@ -60,7 +82,7 @@ pub struct Book(Vec<u8>);
 
 impl Book {
     /// The length of the longest book, that of 16 houses with 4 numbers each.
-    pub const LONGEST: usize = 47_153;
+    pub const LONGEST: usize = 47_171;
 
     /// The length of a book, or answer 9.
     ///
@@ -75,17 +97,27 @@ impl Book {
         Ok(length.length as usize)
     }
 
-    /// A fresh book: "nothing heard, sent, delivered or published". Answers 9, 10.
+    /// A fresh book of house `own`: "nothing heard, sent, delivered or published", and nobody helped. Answers 9, 10.
     ///
     /// ```
-    /// use grassmunch::{Book, Gate, Refusal, Sheet};
-    /// let sheet = Sheet { cap: 20, moisture: Gate::AtMost(f32::NAN), conductivity: Gate::Open };
-    /// assert_eq!(Book::open(4, 1, 4, 2026, &sheet), Err(Refusal::NotAllowed));
-    /// assert_eq!(Book::open(4, 1, 3, 2026, &sheet), Err(Refusal::SheetNotLegal));
+    /// use grassmunch::{Book, Gate, Opening, Refusal, Sheet};
+    /// let sheet = Sheet { cap: 20, moisture: Gate::AtMost(20.0), conductivity: Gate::Open };
+    /// let opening = Opening { n: 4, s: 1, f: 1, d: 2, season: 2026, sheet };
+    /// let book = Book::open(&opening, 3)?;
+    /// assert_eq!((book.houses(), book.numbers(), book.own(), book.season()), (4, 1, 3, 2026));
+    /// assert_eq!((book.down(), book.limit(), book.helped()), (1, 2, &[0; 4][..]));
+    ///
+    /// // no house 4, no t for n = 2f, no d above 8; and a limit that is NaN
+    /// assert_eq!(Book::open(&opening, 4), Err(Refusal::NotAllowed));
+    /// assert_eq!(Book::open(&Opening { f: 2, ..opening }, 3), Err(Refusal::NotAllowed));
+    /// assert_eq!(Book::open(&Opening { d: 9, ..opening }, 3), Err(Refusal::NotAllowed));
+    /// let sheet = Sheet { moisture: Gate::AtMost(f32::NAN), ..sheet };
+    /// assert_eq!(Book::open(&Opening { sheet, ..opening }, 3), Err(Refusal::SheetNotLegal));
+    /// # Ok::<(), Refusal>(())
     /// ```
-    pub fn open(n: u32, s: u32, own: u32, season: u32, sheet: &Sheet) -> Result<Book, Refusal> {
-        let mut bytes = vec![0; Book::length(n, s)?];
-        Refusal::of(ffi::open(&mut bytes, n, s, own, season, &sheet.to_bytes()))?;
+    pub fn open(opening: &Opening, own: u32) -> Result<Book, Refusal> {
+        let mut bytes = vec![0; Book::length(opening.n, opening.s)?];
+        Refusal::of(ffi::open(&mut bytes, own, opening))?;
         Ok(Book(bytes))
     }
 
@@ -93,7 +125,7 @@ impl Book {
     ///
     /// ```
     /// use grassmunch::{Book, Refusal};
-    /// assert_eq!(Book::from_bytes(vec![0; 155]), Err(Refusal::NoLegalBook));
+    /// assert_eq!(Book::from_bytes(vec![0; 158]), Err(Refusal::NoLegalBook));
     /// ```
     pub fn from_bytes(bytes: Vec<u8>) -> Result<Book, Refusal> {
         Refusal::of(ffi::waiting(&bytes).answer)?;
@@ -135,22 +167,55 @@ impl Book {
         &self.0[7..7 + Sheet::BYTES]
     }
 
+    /// f, how many honest houses may be down.
+    pub fn down(&self) -> u8 {
+        self.0[29]
+    }
+
+    /// d, the recovery limit.
+    pub fn limit(&self) -> u8 {
+        self.0[30]
+    }
+
+    /// How often each asker was helped, by house number: at most d, and from then on a request is answered 14.
+    pub fn helped(&self) -> &[u8] {
+        &self.0[31..31 + usize::from(self.houses())]
+    }
+
     /// "Publishing marks the own entry and gives a SEND." Answers 1, 4, 5, 8.
     pub fn publish(&mut self, number: u32, declaration: &Declaration) -> Result<Outcome, Refusal> {
         Outcome::of(ffi::publish(&mut self.0, number, declaration.as_bytes()))
     }
 
-    /// Receives one message, any bytes, from a house. Answers 1 to 7 in order.
+    /// Receives one message, any bytes, from a house. Answers 1 to 7 in order; a request 1 to 4, and then 14.
     ///
     /// A house number wider than 32 bits is refused as any number not in the book is, and not cut:
     ///
     /// ```
-    /// use grassmunch::{Book, Declaration, Gate, Refusal, Sheet};
+    /// use grassmunch::{Book, Declaration, Gate, Opening, Refusal, Sheet};
     /// let sheet = Sheet { cap: 20, moisture: Gate::Open, conductivity: Gate::Open };
-    /// let mut book = Book::open(1, 1, 0, 2026, &sheet)?;
+    /// let mut book = Book::open(&Opening { n: 1, s: 1, f: 0, d: 1, season: 2026, sheet }, 0)?;
     /// let send = book.publish(0, &Declaration::new(77, 40, 800, 17.5, 0.5))?.message.unwrap();
     /// assert_eq!(book.receive(1 << 32, &send), Err(Refusal::NotInBook));
     /// assert_eq!(book.receive(1 << 32, &send[1..]), Err(Refusal::Malformed));
+    /// # Ok::<(), Refusal>(())
+    /// ```
+    ///
+    /// "A helper sends again its own messages, to the asker alone, at most d times for each asker":
+    ///
+    /// ```
+    /// use grassmunch::{Book, Declaration, Gate, Opening, Refusal, Sheet};
+    /// let sheet = Sheet { cap: 20, moisture: Gate::Open, conductivity: Gate::Open };
+    /// let opening = Opening { n: 2, s: 1, f: 0, d: 1, season: 2026, sheet };
+    /// let mut helper = Book::open(&opening, 0)?;
+    /// let send = helper.publish(0, &Declaration::new(77, 40, 800, 17.5, 0.5))?.message.unwrap();
+    ///
+    /// let request = Book::open(&opening, 1)?.come_back()?;
+    /// assert!(helper.receive(1, &request)?.helps);
+    /// assert_eq!(helper.all_sent().collect::<Vec<_>>(), [send]); // these go to house 1, and to no other
+    ///
+    /// assert_eq!(helper.helped(), [0, 1]);
+    /// assert_eq!(helper.receive(1, &request), Err(Refusal::HelpedEnough));
     /// # Ok::<(), Refusal>(())
     /// ```
     pub fn receive(&mut self, house: u64, message: &[u8]) -> Result<Outcome, Refusal> {
@@ -159,13 +224,84 @@ impl Book {
         Outcome::of(ffi::receive(&mut self.0, house, message))
     }
 
+    /// "On return a house sends again to all what it has sent and asks all for help": the request to ask with. Answers 1.
+    ///
+    /// ```
+    /// use grassmunch::{Book, Declaration, Gate, Opening, Refusal, Sheet};
+    /// let sheet = Sheet { cap: 20, moisture: Gate::Open, conductivity: Gate::Open };
+    /// let mut book = Book::open(&Opening { n: 2, s: 1, f: 0, d: 1, season: 2026, sheet }, 0)?;
+    /// let send = book.publish(0, &Declaration::new(77, 40, 800, 17.5, 0.5))?.message.unwrap();
+    ///
+    /// // the house was down: to all n houses goes what it sent, and then the request
+    /// let mut to_all: Vec<Vec<u8>> = book.all_sent().map(Vec::from).collect();
+    /// to_all.push(book.come_back()?.to_vec());
+    /// assert_eq!(to_all, [&send[..], &[1, 0, 1, 9, 2, 0, 4, 0, 0, 0x07, 0xEA]]);
+    /// # Ok::<(), Refusal>(())
+    /// ```
+    pub fn come_back(&self) -> Result<[u8; Message::REQUEST_BYTES], Refusal> {
+        let back = ffi::come_back(&self.0);
+        Refusal::of(back.answer)?;
+        Ok(back.request)
+    }
+
+    /// What this house sent of a kind on an entry, to be sent again: the same 36 bytes, or a plain none. Answers 1, 4.
+    ///
+    /// ```
+    /// use grassmunch::{Book, Declaration, Entry, Gate, Kind, Opening, Refusal, Sheet};
+    /// let sheet = Sheet { cap: 20, moisture: Gate::Open, conductivity: Gate::Open };
+    /// let mut book = Book::open(&Opening { n: 2, s: 1, f: 0, d: 1, season: 2026, sheet }, 0)?;
+    /// let send = book.publish(0, &Declaration::new(77, 40, 800, 17.5, 0.5))?.message;
+    /// assert_eq!(book.sent(Kind::Send, Entry { number: 0, sender: 0 }), Ok(send));
+    /// assert_eq!(book.sent(Kind::Echo, Entry { number: 0, sender: 0 }), Ok(None));
+    /// assert_eq!(book.sent(Kind::Echo, Entry { number: 0, sender: 2 }), Err(Refusal::NotInBook));
+    /// # Ok::<(), Refusal>(())
+    /// ```
+    pub fn sent(&self, kind: Kind, entry: Entry) -> Result<Option<[u8; Message::BYTES]>, Refusal> {
+        let sent = ffi::sent(
+            &self.0,
+            kind as u8,
+            entry.sender.into(),
+            entry.number.into(),
+        );
+        Refusal::of(sent.answer)?;
+        Ok(sent.gives.then_some(sent.message))
+    }
+
+    /// All that this house sent: lowest number first, then lowest sender, then SEND, ECHO, READY.
+    ///
+    /// On return each goes to all n houses, and for help to the asker alone.
+    ///
+    /// ```
+    /// use grassmunch::{Book, Declaration, Gate, Opening, Refusal, Sheet};
+    /// let sheet = Sheet { cap: 20, moisture: Gate::Open, conductivity: Gate::Open };
+    /// let mut book = Book::open(&Opening { n: 1, s: 2, f: 0, d: 1, season: 2026, sheet }, 0)?;
+    /// let mut sent = Vec::new();
+    /// for (number, lot) in [(0, 77), (1, 78)] {
+    ///     let mut gave = book.publish(number, &Declaration::new(lot, 40, 800, 17.5, 0.5))?;
+    ///     while let Some(message) = gave.message {
+    ///         sent.push(message);
+    ///         gave = book.receive(0, &message)?;
+    ///     }
+    /// }
+    /// assert_eq!(sent.len(), 6); // SEND, ECHO and READY of each
+    /// assert_eq!(book.all_sent().collect::<Vec<_>>(), sent);
+    /// # Ok::<(), Refusal>(())
+    /// ```
+    pub fn all_sent(&self) -> impl Iterator<Item = [u8; Message::BYTES]> {
+        let on = |entry| Kind::ALL.map(|kind| self.sent(kind, entry));
+        let entries = (0..self.numbers())
+            .flat_map(|number| (0..self.houses()).map(move |sender| Entry { number, sender }));
+        // the bytes are a legal book's and the entry is in it, so that each is answered 0
+        entries.flat_map(on).filter_map(|sent| sent.ok().flatten())
+    }
+
     /// The earliest waiting entry: "lowest number first and then lowest sender, with a SEND heard and nothing delivered; or a
     /// plain none; or answer 1".
     ///
     /// ```
-    /// use grassmunch::{Book, Declaration, Entry, Gate, Refusal, Sheet};
+    /// use grassmunch::{Book, Declaration, Entry, Gate, Opening, Refusal, Sheet};
     /// let sheet = Sheet { cap: 20, moisture: Gate::Open, conductivity: Gate::Open };
-    /// let mut book = Book::open(1, 1, 0, 2026, &sheet)?;
+    /// let mut book = Book::open(&Opening { n: 1, s: 1, f: 0, d: 1, season: 2026, sheet }, 0)?;
     /// assert_eq!(book.waiting(), Ok(None));
     /// let send = book.publish(0, &Declaration::new(77, 40, 800, 17.5, 0.5))?.message.unwrap();
     /// let _echo = book.receive(0, &send)?;

@@ -1,9 +1,10 @@
-//! The archive's eight calls and the structs that they hand back, as bindings/c/grassmunch.h has them: the one file with `unsafe`.
+//! The archive's ten calls and the structs that they hand back, as bindings/c/grassmunch.h has them: the one file with `unsafe`.
 //!
 //! The safe functions here take slices and arrays, so that pointers and lengths are right; and a book by `&mut`, so that it
 //! overlaps no other argument. The archive's contracts have no `requires`: every call is allowed with every input.
 #![allow(unsafe_code)]
 
+use crate::Opening;
 use std::mem::{offset_of, size_of};
 
 /// What [`length`] hands back.
@@ -21,6 +22,22 @@ pub struct Outcome {
     pub message: [u8; 36],
     pub delivers: bool,
     pub declaration: [u8; 20],
+    pub helps: bool,
+}
+
+/// What [`come_back`] hands back.
+#[repr(C)]
+pub struct ReturnAnswer {
+    pub answer: u8,
+    pub request: [u8; 11],
+}
+
+/// What [`sent`] hands back.
+#[repr(C)]
+pub struct SentAnswer {
+    pub answer: u8,
+    pub gives: bool,
+    pub message: [u8; 36],
 }
 
 /// What [`write`] hands back.
@@ -53,9 +70,12 @@ pub struct WaitingAnswer {
 const _: () = {
     assert!(size_of::<usize>() == 8);
     assert!(size_of::<LengthAnswer>() == 16 && offset_of!(LengthAnswer, length) == 8);
-    assert!(size_of::<Outcome>() == 59 && offset_of!(Outcome, gives) == 1);
+    assert!(size_of::<Outcome>() == 60 && offset_of!(Outcome, gives) == 1);
     assert!(offset_of!(Outcome, message) == 2 && offset_of!(Outcome, delivers) == 38);
-    assert!(offset_of!(Outcome, declaration) == 39);
+    assert!(offset_of!(Outcome, declaration) == 39 && offset_of!(Outcome, helps) == 59);
+    assert!(size_of::<ReturnAnswer>() == 12 && offset_of!(ReturnAnswer, request) == 1);
+    assert!(size_of::<SentAnswer>() == 38 && offset_of!(SentAnswer, gives) == 1);
+    assert!(offset_of!(SentAnswer, message) == 2);
     assert!(size_of::<Written>() == 37 && offset_of!(Written, message) == 1);
     assert!(size_of::<ReadAnswer>() == 32 && offset_of!(ReadAnswer, kind) == 1);
     assert!(offset_of!(ReadAnswer, season) == 4 && offset_of!(ReadAnswer, sender) == 8);
@@ -73,6 +93,8 @@ unsafe extern "C" {
         n: u32,
         s: u32,
         own: u32,
+        f: u32,
+        d: u32,
         season: u32,
         sheet: *const u8,
         sheet_len: usize,
@@ -92,6 +114,8 @@ unsafe extern "C" {
         message: *const u8,
         message_len: usize,
     ) -> Outcome;
+    fn gm_return(book: *const u8, len: usize) -> ReturnAnswer;
+    fn gm_sent(book: *const u8, len: usize, kind: u8, sender: u32, number: u32) -> SentAnswer;
     fn gm_waiting(book: *const u8, len: usize) -> WaitingAnswer;
     fn gm_judge(sheet: *const u8, sheet_len: usize, declaration: &[u8; 20]) -> u8;
     fn gm_read(message: *const u8, message_len: usize) -> ReadAnswer;
@@ -103,10 +127,15 @@ pub fn length(n: u32, s: u32) -> LengthAnswer {
 }
 
 /// Opening: 9, 10, 11.
-pub fn open(book: &mut [u8], n: u32, s: u32, own: u32, season: u32, sheet: &[u8]) -> u8 {
+pub fn open(book: &mut [u8], own: u32, opening: &Opening) -> u8 {
+    let &Opening {
+        n, s, f, d, season, ..
+    } = opening;
+    let sheet = opening.sheet.to_bytes();
     let (at, len) = (book.as_mut_ptr(), book.len());
+    let (sheet_at, sheet_len) = (sheet.as_ptr(), sheet.len());
     // SAFETY: `book` is valid for reads and writes of `len` bytes and lent to nobody else, `sheet` for reads of its length.
-    unsafe { gm_open(at, len, n, s, own, season, sheet.as_ptr(), sheet.len()) }
+    unsafe { gm_open(at, len, n, s, own, f, d, season, sheet_at, sheet_len) }
 }
 
 /// Publishing: 1, 4, 5, 8.
@@ -115,11 +144,23 @@ pub fn publish(book: &mut [u8], number: u32, declaration: &[u8; 20]) -> Outcome 
     unsafe { gm_publish(book.as_mut_ptr(), book.len(), number, declaration) }
 }
 
-/// Receiving: 1 to 7 in order.
+/// Receiving: 1 to 7 in order; a request 1 to 4, then 14.
 pub fn receive(book: &mut [u8], house: u32, message: &[u8]) -> Outcome {
     let (at, len) = (book.as_mut_ptr(), book.len());
     // SAFETY: `book` is valid for reads and writes of `len` bytes and lent to nobody else, `message` for reads of its length.
     unsafe { gm_receive(at, len, house, message.as_ptr(), message.len()) }
+}
+
+/// A return: 1, else 0 and the request to all.
+pub fn come_back(book: &[u8]) -> ReturnAnswer {
+    // SAFETY: `book` is valid for reads of its length.
+    unsafe { gm_return(book.as_ptr(), book.len()) }
+}
+
+/// What was sent: 1, 2 for a kind that is not 1 to 3, 4; else the message, or a plain none.
+pub fn sent(book: &[u8], kind: u8, sender: u32, number: u32) -> SentAnswer {
+    // SAFETY: `book` is valid for reads of its length.
+    unsafe { gm_sent(book.as_ptr(), book.len(), kind, sender, number) }
 }
 
 /// The earliest waiting entry, or a plain none, or answer 1.
@@ -139,7 +180,7 @@ pub fn write(kind: u8, season: u32, sender: u8, number: u8, declaration: &[u8; 2
     gm_write(kind, season, sender, number, declaration)
 }
 
-/// The five things of a message, or answer 2.
+/// The five things of a message, kind 9 and the season of a request, or answer 2.
 pub fn read(message: &[u8]) -> ReadAnswer {
     // SAFETY: `message` is valid for reads of its length.
     unsafe { gm_read(message.as_ptr(), message.len()) }

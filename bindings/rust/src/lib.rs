@@ -1,8 +1,9 @@
 //! The house book, safe to use from Rust: a [`Book`] that owns its bytes, over the proved archive.
 //!
 //! Each call answers `Ok`, which is document 01's answer 0, or a [`Refusal`] with the answer's number and sentence. Sentences in
-//! quotes are document 01's. `GRASSMUNCH_LIB` names the folder with libgrassmunch.a; docs/HOUSE.md says how to make it, which
-//! call when, and why a book is stored before its message leaves.
+//! quotes are document 01's, or request 2026-10's where they speak of f and d, a return, a request or help. `GRASSMUNCH_LIB` names
+//! the folder with libgrassmunch.a; docs/HOUSE.md says how to make it, which call when, and why a book is stored before its
+//! message leaves.
 #![deny(missing_docs)]
 #![deny(unsafe_code)]
 
@@ -13,8 +14,8 @@ mod message;
 mod refusal;
 mod sheet;
 
-pub use book::{Book, Entry, Outcome};
+pub use book::{Book, Entry, Opening, Outcome};
 pub use declaration::Declaration;
-pub use message::{Kind, Message};
+pub use message::{Heard, Kind, Message};
 pub use refusal::Refusal;
 pub use sheet::{Gate, Sheet};

@@ -1,4 +1,4 @@
-//! One message: 36 bytes, and the five things that they say.
+//! One message: 36 bytes, and the five things that they say; and a request for help, 11 bytes.
 
 use crate::{Declaration, Refusal, ffi};
 
@@ -14,17 +14,33 @@ pub enum Kind {
 }
 
 impl Kind {
+    /// The three kinds of message, in order.
+    pub const ALL: [Kind; 3] = [Kind::Send, Kind::Echo, Kind::Ready];
+
     fn of(number: u8) -> Option<Kind> {
-        [Kind::Send, Kind::Echo, Kind::Ready]
-            .into_iter()
-            .find(|kind| *kind as u8 == number)
+        Kind::ALL.into_iter().find(|kind| *kind as u8 == number)
     }
 }
+
+/// What a house hears, as [`Message::read`] tells it apart.
+#[derive(Clone, Copy, Debug, PartialEq, Eq, Hash)]
+pub enum Heard {
+    /// A message on an entry.
+    Message(Message),
+    /// A request for help: "kind 9, tag 1 and then tag 2 with the season alone".
+    Request {
+        /// The season.
+        season: u32,
+    },
+}
+
+/// The number of a request among the kinds.
+const REQUEST: u8 = 9;
 
 /// The five things of a message.
 ///
 /// ```
-/// use grassmunch::{Declaration, Kind, Message};
+/// use grassmunch::{Declaration, Heard, Kind, Message};
 /// let message = Message {
 ///     kind: Kind::Send,
 ///     season: 2026,
@@ -34,7 +50,7 @@ impl Kind {
 /// };
 /// let bytes = message.to_bytes();
 /// assert_eq!(bytes[..13], [1, 0, 1, 1, 2, 0, 6, 0, 0, 0x07, 0xEA, 2, 1]);
-/// assert_eq!(Message::read(&bytes), Ok(message));
+/// assert_eq!(Message::read(&bytes), Ok(Heard::Message(message)));
 /// ```
 #[derive(Clone, Copy, Debug, PartialEq, Eq, Hash)]
 pub struct Message {
@@ -54,22 +70,31 @@ impl Message {
     /// Bytes of a message.
     pub const BYTES: usize = 36;
 
-    /// "Reading alone answers 2 or gives the same five things."
+    /// Bytes of a request.
+    pub const REQUEST_BYTES: usize = 11;
+
+    /// "Reading alone answers 2 or gives the same five things"; of a request it gives the season.
     ///
     /// ```
-    /// use grassmunch::{Message, Refusal};
-    /// assert_eq!(Message::read(&[]), Err(Refusal::Malformed));
+    /// use grassmunch::{Heard, Message, Refusal};
+    /// let request = [1, 0, 1, 9, 2, 0, 4, 0, 0, 0x07, 0xEA];
+    /// assert_eq!(Message::read(&request), Ok(Heard::Request { season: 2026 }));
+    /// assert_eq!(Message::read(&request[1..]), Err(Refusal::Malformed));
     /// ```
-    pub fn read(bytes: &[u8]) -> Result<Message, Refusal> {
+    pub fn read(bytes: &[u8]) -> Result<Heard, Refusal> {
         let read = ffi::read(bytes);
         Refusal::of(read.answer)?;
-        Ok(Message {
+        let season = read.season;
+        if read.kind == REQUEST {
+            return Ok(Heard::Request { season });
+        }
+        Ok(Heard::Message(Message {
             kind: Kind::of(read.kind).ok_or(Refusal::Malformed)?,
-            season: read.season,
+            season,
             sender: read.sender,
             number: read.number,
             declaration: Declaration::from_bytes(read.declaration),
-        })
+        }))
     }
 
     /// The writer's 36 bytes. It refuses other kinds only, and a [`Kind`] is none of those.

@@ -1,4 +1,4 @@
-//! The answers other than 0, with document 01's number and sentence.
+//! The answers other than 0, with their number and sentence: document 01's, and request 2026-10's 14.
 
 use std::fmt;
 
@@ -28,12 +28,14 @@ pub enum Refusal {
     AlreadyAccepted,
     /// 8: already published at this number.
     AlreadyPublished,
-    /// 9: n, S or own number not allowed.
+    /// 9: n, S, own number, f or d not allowed.
     NotAllowed,
     /// 10: sheet not legal.
     SheetNotLegal,
     /// 11: buffer length is not the book's length. A [`Book`](crate::Book) has its length, so no call here gives it.
     WrongLength,
+    /// 14: this asker was helped d times already.
+    HelpedEnough,
     /// A number that this crate does not know: the archive is of another version.
     Unknown(u8),
 }
@@ -41,8 +43,14 @@ pub enum Refusal {
 use Refusal::*;
 
 impl Refusal {
-    /// Document 01's refusals, 1 to 11 in order.
-    pub const ALL: [Refusal; 11] = [
+    /// All refusals: 1 to 11 in order, then 14.
+    ///
+    /// ```
+    /// use grassmunch::Refusal;
+    /// let numbers = Refusal::ALL.map(Refusal::number);
+    /// assert_eq!(numbers, [1, 2, 3, 4, 5, 6, 7, 8, 9, 10, 11, 14]);
+    /// ```
+    pub const ALL: [Refusal; 12] = [
         NoLegalBook,
         Malformed,
         OtherSeason,
@@ -54,9 +62,10 @@ impl Refusal {
         NotAllowed,
         SheetNotLegal,
         WrongLength,
+        HelpedEnough,
     ];
 
-    /// Document 01's number.
+    /// Its number.
     pub fn number(self) -> u8 {
         match self {
             NoLegalBook => 1,
@@ -70,11 +79,12 @@ impl Refusal {
             NotAllowed => 9,
             SheetNotLegal => 10,
             WrongLength => 11,
+            HelpedEnough => 14,
             Unknown(number) => number,
         }
     }
 
-    /// Document 01's sentence.
+    /// Its sentence.
     pub fn sentence(self) -> &'static str {
         match self {
             NoLegalBook => "the lent bytes are no legal book",
@@ -87,10 +97,11 @@ impl Refusal {
                 "this kind was already accepted from this house on this entry, same declaration or not"
             }
             AlreadyPublished => "already published at this number",
-            NotAllowed => "n, S or own number not allowed",
+            NotAllowed => "n, S, own number, f or d not allowed",
             SheetNotLegal => "sheet not legal",
             WrongLength => "buffer length is not the book's length",
-            Unknown(_) => "no answer of document 01",
+            HelpedEnough => "this asker was helped d times already",
+            Unknown(_) => "no answer of this library",
         }
     }
 

@@ -1,8 +1,9 @@
-//! The eight calls of the archive, answered by reference/: nothing here is proved, and no house links it.
+//! The ten calls of the archive, answered by reference/: nothing here is proved, and no house links it.
 //!
 //! The archive is for x86-64. On another processor the tests link this in its place, so that the Rust crate's own code
 //! (declarations, sheets, refusals, the example) runs there too. That crate lends slices, so no pointer here is null.
 
+use reference::Form;
 use std::slice::{from_raw_parts, from_raw_parts_mut};
 
 #[repr(C)]
@@ -18,6 +19,20 @@ pub struct Outcome {
     message: [u8; 36],
     delivers: bool,
     declaration: [u8; 20],
+    helps: bool,
+}
+
+#[repr(C)]
+pub struct ReturnAnswer {
+    answer: u8,
+    request: [u8; 11],
+}
+
+#[repr(C)]
+pub struct SentAnswer {
+    answer: u8,
+    gives: bool,
+    message: [u8; 36],
 }
 
 #[repr(C)]
@@ -51,6 +66,7 @@ fn outcome(got: reference::Outcome) -> Outcome {
         message: got.message.unwrap_or([0; 36]),
         delivers: got.delivery.is_some(),
         declaration: got.delivery.unwrap_or([0; 20]),
+        helps: got.helps,
     }
 }
 
@@ -70,6 +86,8 @@ unsafe extern "C" fn gm_open(
     n: u32,
     s: u32,
     own: u32,
+    f: u32,
+    d: u32,
     season: u32,
     sheet: *const u8,
     sheet_len: usize,
@@ -80,7 +98,7 @@ unsafe extern "C" fn gm_open(
             from_raw_parts(sheet, sheet_len),
         )
     };
-    reference::open(book, n, s, own, season, sheet)
+    reference::open(book, n, s, own, f, d, season, sheet)
 }
 
 #[unsafe(no_mangle)]
@@ -112,6 +130,31 @@ unsafe extern "C" fn gm_receive(
         )
     };
     outcome(reference::receive(book, house, message))
+}
+
+#[unsafe(no_mangle)]
+unsafe extern "C" fn gm_return(book: *const u8, len: usize) -> ReturnAnswer {
+    let got = reference::come_back(unsafe { from_raw_parts(book, len) });
+    ReturnAnswer {
+        answer: got.answer,
+        request: got.request.unwrap_or([0; 11]),
+    }
+}
+
+#[unsafe(no_mangle)]
+unsafe extern "C" fn gm_sent(
+    book: *const u8,
+    len: usize,
+    kind: u8,
+    sender: u32,
+    number: u32,
+) -> SentAnswer {
+    let got = reference::sent(unsafe { from_raw_parts(book, len) }, kind, sender, number);
+    SentAnswer {
+        answer: got.answer,
+        gives: got.message.is_some(),
+        message: got.message.unwrap_or([0; 36]),
+    }
 }
 
 #[unsafe(no_mangle)]
@@ -151,16 +194,22 @@ extern "C" fn gm_write(
 #[unsafe(no_mangle)]
 unsafe extern "C" fn gm_read(message: *const u8, message_len: usize) -> ReadAnswer {
     let got = reference::read(unsafe { from_raw_parts(message, message_len) });
-    got.message.map_or(
-        ReadAnswer {
-            answer: got.answer,
-            kind: 0,
-            season: 0,
-            sender: 0,
-            number: 0,
-            declaration: [0; 20],
+    let zeros = ReadAnswer {
+        answer: got.answer,
+        kind: 0,
+        season: 0,
+        sender: 0,
+        number: 0,
+        declaration: [0; 20],
+    };
+    match got.form {
+        None => zeros,
+        Some(Form::Request(season)) => ReadAnswer {
+            kind: 9,
+            season,
+            ..zeros
         },
-        |read| ReadAnswer {
+        Some(Form::Message(read)) => ReadAnswer {
             answer: got.answer,
             kind: read.kind as u8,
             season: read.season,
@@ -168,5 +217,5 @@ unsafe extern "C" fn gm_read(message: *const u8, message_len: usize) -> ReadAnsw
             number: read.number,
             declaration: read.declaration,
         },
-    )
+    }
 }
