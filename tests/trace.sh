@@ -7,7 +7,7 @@
 # docs/AMENDMENTS.md is applied first, row by row, to the sentences of document 01 and of the requests that have landed (docs/changes has
 # a page for each). As they then stand, each sentence of document 01 is the first cell of a row, and these rows have nothing else; the
 # first cells of a request's part, read one after the other, have each of its sentences; and what was replaced has no row. The documents
-# are asked for only where they stand beside the repository.
+# are asked for only where they stand beside the repository, or where DOCUMENTS says.
 set -uo pipefail
 cd "$(dirname "${BASH_SOURCE[0]}")/.."
 export LC_ALL=C.UTF-8
