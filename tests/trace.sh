@@ -9,7 +9,7 @@
 # first cells of a request's part, read one after the other, have each of its sentences; and what was replaced has no row. The documents
 # are asked for only where they stand beside the repository, or where DOCUMENTS says.
 set -uo pipefail
-cd "$(dirname "${BASH_SOURCE[0]}")/.."
+cd "$(dirname "${BASH_SOURCE[0]}")/.." || exit 1
 export LC_ALL=C.UTF-8
 documents=${DOCUMENTS:-../shared/documents}
 room=$(mktemp -d)
@@ -33,9 +33,10 @@ for page in docs/TRACE.md docs/SEASON.md docs/RULES.md docs/AMENDMENTS.md docs/B
     while IFS= read -r line; do
         number=$((number + 1))
         case $line in
-        '|'*) row=yes tokens=$(sed 's/.*|\([^|]*\)|[[:space:]]*$/\1/' <<<"$line") ;;
+        '|'*) row=yes last=${line%|*} tokens=${last##*|} ;;
         *) row=no tokens=$line ;;
         esac
+        case $tokens in *'`'*) ;; *) continue ;; esac
         file=''
         while IFS= read -r token; do
             case $token in
@@ -67,7 +68,7 @@ done
 
 # The first cell of each row on standard input, with marks taken off; a table's head is left out.
 firsts() {
-    grep -E '^\|' | grep -vE '^\|(-| sentence \|| answer \|| clause \|)' | sed 's/`//g; s/\*\*//g' | cut -d'|' -f2 | sed -E 's/^ +//; s/ +$//'
+    grep -E '^\|' | grep -vE '^\|(-| sentence \|| answer \|| clause \|)' | cut -d'|' -f2 | sed -E 's/`|\*\*//g; s/^ +//; s/ +$//'
 }
 
 # A request's part of docs/TRACE.md, its first cells read one after the other.
