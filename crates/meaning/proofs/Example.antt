@@ -25,7 +25,7 @@ sheet =
     ∷ 1 ∷ 0 ∷ 0 ∷ 0 ∷ 0 ∷ 0x41 ∷ 0xA0 ∷ 0 ∷ 0
     ∷ 0 ∷ 0 ∷ 0 ∷ 0 ∷ 0 ∷ 0 ∷ 0 ∷ 0 ∷ 0 ∷ []
 
--- n 1, S 1, own number 0, season 2026, the sheet; then six slots
+-- n 1, S 1, own number 0, season 2026, the sheet, f 0, d 8, house 0 helped 0 times; then six slots
 abbrev header : List ℕ
 header = 1 ∷ 1 ∷ 0 ∷ 0 ∷ 0 ∷ 0x07 ∷ 0xEA ∷ sheet ++ (0 ∷ 8 ∷ 0 ∷ [])
 

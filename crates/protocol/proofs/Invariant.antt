@@ -417,18 +417,27 @@ module _ (B : Wall) (j c : ℕ) where
         tally-at (λ y. onIt j c y && not (true-to (s .house) y)) (s .mail) i m e (and-mk (onIt j c m) _ t (not-of (true-to (s .house) m) x)),
       )))
 
+  -- the same books, with another mail and other power
+  abbrev pub reset : View → List Copy → Power → View
+  reset u l w =
+      record { house = u .house; deliveries = u .deliveries; publications = u .publications; mail = l; power = w }
+
+  pub books-stay : (u : View) (l : List Copy) (w : Power) → Books u → Books (reset u l w)
+  books-stay u l w Y =
+      record {
+        local = Y .local;
+        owner = Y .owner;
+        given = Y .given;
+        delivered = Y .delivered;
+        published = Y .published;
+      }
+
   -- a call on another entry: it leaves this one, and the count of its copies by any test
   pub else-inv : (s : View) (mail : List Copy) → ((P : Copy → Bool) → copiesOf j c P mail ≡ copiesOf j c P (s .mail)) → Inv s
-      → Inv (record { house = s .house; deliveries = s .deliveries; publications = s .publications; mail = mail; power = s .power })
+      → Inv (reset s mail (s .power))
   else-inv s mail f I =
       record {
-        books = record {
-          local = I .books .local;
-          owner = I .books .owner;
-          given = I .books .given;
-          delivered = I .books .delivered;
-          published = I .books .published;
-        };
+        books = books-stay s mail (s .power) (I .books);
         post = record {
           truthful = f _ ∙ I .post .truthful;
           at-least = λ k F Q. omega (arith, f (way k F Q), I .post .at-least k F Q);

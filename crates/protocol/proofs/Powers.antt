@@ -21,6 +21,7 @@ use Rattle.protocol.proofs.Mail.{tally-append, tally-change}
 use Rattle.protocol.proofs.Sums.{total-mono, total-more}
 use Rattle.protocol.proofs.Again.{way, true-to, again-none, on-way, again-le, again-ge}
 use Rattle.protocol.proofs.Invariant.{View, Books, Inv, Helping, unread, came, asking, excuse, load, burden, cond-mono, bit-le}
+use Rattle.protocol.proofs.Invariant.{reset, books-stay}
 use Rattle.protocol.proofs.Views.{view}
 
 -- ---- requests
@@ -145,25 +146,14 @@ module _ (B : Wall) (j c : ℕ) where
   below : (p : ℕ) → T (right B p) → p < n B
   below p g = ltb→lt p (n B) (and-l (ltb p (n B)) (B .honest p) g)
 
-  -- the same books
-  abbrev pub reset : View → List Copy → Power → View
-  reset u l w =
-      record { house = u .house; deliveries = u .deliveries; publications = u .publications; mail = l; power = w }
-
   abbrev Reached : View → Kind → ℕ → ℕ → Type 0
   Reached u k p q = 0 < bit (isSome (heard k p (u .house q))) + (unread j c k p q (u .mail) + excuse (u .power) q p)
 
   pub lost-inv : (u : View) (i : ℕ) (m : Copy) → at (u .mail) i ≡ some m → u .power .down (m .to) ≡ true → Inv B j c u
-      → Inv B j c (reset u (consumeAt (u .mail) i) (u .power))
+      → Inv B j c (reset B j c u (consumeAt (u .mail) i) (u .power))
   lost-inv u i m e d I =
       record {
-        books = record {
-          local = I .books .local;
-          owner = I .books .owner;
-          given = I .books .given;
-          delivered = I .books .delivered;
-          published = I .books .published;
-        };
+        books = books-stay B j c u (consumeAt (u .mail) i) (u .power) (I .books);
         post = record {
           truthful = same (λ m. not (true-to (u .house) m)) (λ m. refl) ∙ I .post .truthful;
           at-least = λ k F Q. omega (arith, same (way k F Q) (λ m. refl), I .post .at-least k F Q);
@@ -191,7 +181,7 @@ module _ (B : Wall) (j c : ℕ) where
           )
 
       go : (k : Kind) (p q : ℕ) → Reached u k p q → (b : Bool) → way k (eqb p) (eqb q) m ≡ b
-          → Reached (reset u (consumeAt (u .mail) i) (u .power)) k p q
+          → Reached (reset B j c u (consumeAt (u .mail) i) (u .power)) k p q
       go k p q l true t =
           let y : T (eqb p (m .from) && eqb q (m .to)) = and-r (isKind k (m .kind)) _ (T-of t) in
           let z : q ≡ m .to = eqb→eq q (m .to) (and-r (eqb p (m .from)) _ y) in
@@ -205,16 +195,10 @@ module _ (B : Wall) (j c : ℕ) where
             ap bit (and-false (onIt j c m) (way k (eqb p) (eqb q) m && not (m .consumed)) (rw t)),
           )
 
-  pub crash-inv : (u : View) (r : ℕ) → Inv B j c u → Inv B j c (reset u (u .mail) (setDown (u .power) r true))
+  pub crash-inv : (u : View) (r : ℕ) → Inv B j c u → Inv B j c (reset B j c u (u .mail) (setDown (u .power) r true))
   crash-inv u r I =
       record {
-        books = record {
-          local = I .books .local;
-          owner = I .books .owner;
-          given = I .books .given;
-          delivered = I .books .delivered;
-          published = I .books .published;
-        };
+        books = books-stay B j c u (u .mail) (setDown (u .power) r true) (I .books);
         post = record {
           truthful = I .post .truthful;
           at-least = I .post .at-least;
@@ -276,13 +260,7 @@ module _ (B : Wall) (j c : ℕ) where
   unfolding comes
   comes-inv s r g₀ I =
       record {
-        books = record {
-          local = I .books .local;
-          owner = I .books .owner;
-          given = I .books .given;
-          delivered = I .books .delivered;
-          published = I .books .published;
-        };
+        books = books-stay B j c (view j c s) _ _ (I .books);
         post = record {
           truthful = omega (
             arith,
@@ -411,13 +389,7 @@ module _ (B : Wall) (j c : ℕ) where
     unfolding w aided
     aid-inv l low =
         record {
-          books = record {
-            local = N .books .local;
-            owner = N .books .owner;
-            given = N .books .given;
-            delivered = N .books .delivered;
-            published = N .books .published;
-          };
+          books = books-stay B j c u _ _ (N .books);
           post = record {
             truthful = omega (
               arith,
@@ -532,13 +504,7 @@ module _ (B : Wall) (j c : ℕ) where
     pub taken-nearly : m .consumed ≡ false → Nearly (taken i s) (m .to) (m .from)
     taken-nearly un =
         record {
-          books = record {
-            local = I .books .local;
-            owner = I .books .owner;
-            given = I .books .given;
-            delivered = I .books .delivered;
-            published = I .books .published;
-          };
+          books = books-stay B j c (view j c s) _ _ (I .books);
           truthful = I .post .truthful;
           at-least = I .post .at-least;
           at-most = I .post .at-most;
@@ -556,13 +522,7 @@ module _ (B : Wall) (j c : ℕ) where
     pub taken-inv : s .power .down (m .to) ≡ true → Inv B j c (view j c (taken i s))
     taken-inv d =
         record {
-          books = record {
-            local = I .books .local;
-            owner = I .books .owner;
-            given = I .books .given;
-            delivered = I .books .delivered;
-            published = I .books .published;
-          };
+          books = books-stay B j c (view j c s) _ _ (I .books);
           post = record {
             truthful = I .post .truthful;
             at-least = I .post .at-least;

@@ -116,7 +116,7 @@ takesEcho R p v e =
     record { answer = 0; entry = marked b false v now; message = given b (say READY v); delivery = none }
 
 -- An accepted READY of v is recorded. If READYs of v now number at least t+1 and no READY was sent, mark and give READY of v. If they
--- number at least 2t+1 and nothing is delivered, mark and deliver v. Both may come of one call.
+-- number at least 2t+f+1 and nothing is delivered, mark and deliver v. Both may come of one call.
 unfoldable pub takesReady : Rules → ℕ → Decl → Entry → Out
 takesReady R p v e =
     let now : Entry = recorded READY p v e in
