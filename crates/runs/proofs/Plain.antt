@@ -2,13 +2,10 @@
 -- Assumes nothing.
 use mathlib.Core.Path.{_≡_, refl, sym, ap, subst}
 use Prim.Native.Nat.{ℕ, _≤_}
-use lib.Dec.{T, ltb, lit<, lit≤}
-use lib.ListN.{replicate}
+use lib.Dec.{ltb, lit<, lit≤}
 use lib.Ieee.{ofBits, le}
 use Rattle.card.specs.Card.{tolerated, fitting, downOk, mostDown, quorum, amplify, deliver}
 use Rattle.card.specs.Card as card
-use Rattle.words.specs.Words.{be32}
-use Rattle.words.proofs.Bytes.{bytes-append, bytes-zeros, be-bytes}
 use Rattle.lot.specs.Declaration.{declarationAt, bytesOf}
 use Rattle.lot.specs.Sheet.{plausible}
 use Rattle.sheet.specs.Kept.{sheetBytes, sheetAt, isSheet}
@@ -17,7 +14,6 @@ use Rattle.protocol.specs.Entry.{same}
 use Rattle.protocol.specs.Steps.{publishes, takesSend, takesEcho, takesReady, recording, receive, publish}
 use Rattle.protocol.specs.Book.{outcome}
 use Rattle.protocol.specs.Run.{helpAnswer}
-use Rattle.protocol.proofs.Basics.{true-of, and-l}
 use Rattle.protocol.specs.Thresholds.{rulesOf}
 use Rattle.meaning.specs.Slot.{slotAt}
 use Rattle.meaning.specs.Layout.{numbersOk, mostLimit, lengthOf, entrySlot}
@@ -26,11 +22,12 @@ use Rattle.meaning.specs.Legal.{legal}
 use Rattle.meaning.specs.Opening.{opened}
 use Rattle.counter.specs.Call.{published, received}
 use Rattle.counter.specs.Again.{returned, sentOf}
-use Rattle.season.specs.Run.{isHonest, opens, run, copies, readies}
+use Rattle.season.specs.Run.{run, copies, readies}
 use Rattle.runs.specs.Plain.{houses, steps, end, Seen, seen, met, Met}
-use Rattle.runs.specs.PowerCut.{lot}
+use Rattle.runs.specs.Sample.{sample, lot}
 use Rattle.season.specs.Claims.{Exact}
 use Rattle.season.proofs.Season.{claims}
+use Rattle.runs.proofs.Sample.{sample-open}
 
 computed : seen end ≡ met
 unfolding end seen run published received opened card.houses numbersOk mostLimit downOk mostDown legal meant write sheetAt sheetBytes
@@ -39,21 +36,12 @@ unfolding end seen run published received opened card.houses numbersOk mostLimit
     amplify deliver same le ofBits isKind
 computed = refl
 
--- opening answers 0 at each house below n
-opened-zero : (r : ℕ) → T (isHonest houses r) → opens houses r .answer ≡ 0
-unfolding houses opened card.houses downOk mostDown numbersOk mostLimit isSheet
-opened-zero r t = rw (true-of (ltb r 4) (and-l (ltb r 4) (ltb r 3) t))
-
 pub plain : Met
-unfolding houses seen fitting tolerated
+unfolding houses sample seen fitting tolerated card.houses downOk mostDown mostLimit
 plain =
     record {
       computed = computed;
-      opened = record {
-        answer = opened-zero;
-        season = lit< tt;
-        sheet = bytes-append (be32 20) (replicate 18 0) (be-bytes 20 (lit< tt)) (bytes-zeros 18);
-      };
+      opened = sample-open 4 0 0 (λ p. ltb p 3) refl refl refl;
       few = lit≤ tt;
       still = refl;
       limited = λ r t. subst (λ (f : ℕ → ℕ). f r ≤ 0) (sym (ap (λ (x : Seen). x .returned) computed)) (lit≤ tt);

@@ -4,13 +4,10 @@ use mathlib.Core.Path.{_≡_, refl, sym, ap, subst}
 use mathlib.Core.Bool.{Bool, true, false, cond}
 use Prim.Native.Nat.{ℕ, _≤_}
 use native.Mathlib.Omega.{arith}
-use lib.Dec.{T, eqb, ltb, lit<, lit≤}
-use lib.ListN.{replicate}
+use lib.Dec.{eqb, lit<, lit≤}
 use lib.Ieee.{ofBits, le}
 use Rattle.card.specs.Card.{tolerated, fitting, downOk, mostDown, quorum, amplify, deliver}
 use Rattle.card.specs.Card as card
-use Rattle.words.specs.Words.{be32}
-use Rattle.words.proofs.Bytes.{bytes-append, bytes-zeros, be-bytes}
 use Rattle.lot.specs.Declaration.{declarationAt, bytesOf}
 use Rattle.lot.specs.Sheet.{plausible}
 use Rattle.sheet.specs.Kept.{sheetBytes, sheetAt, isSheet}
@@ -19,7 +16,6 @@ use Rattle.protocol.specs.Entry.{same}
 use Rattle.protocol.specs.Steps.{publishes, takesSend, takesEcho, takesReady, recording, receive, publish}
 use Rattle.protocol.specs.Book.{outcome}
 use Rattle.protocol.specs.Run.{helpAnswer}
-use Rattle.protocol.proofs.Basics.{true-of, and-l}
 use Rattle.protocol.specs.Thresholds.{rulesOf}
 use Rattle.meaning.specs.Slot.{slotAt}
 use Rattle.meaning.specs.Layout.{numbersOk, mostLimit, lengthOf, entrySlot}
@@ -28,10 +24,12 @@ use Rattle.meaning.specs.Legal.{legal}
 use Rattle.meaning.specs.Opening.{opened}
 use Rattle.counter.specs.Call.{published, received}
 use Rattle.counter.specs.Again.{returned, sentOf}
-use Rattle.season.specs.Run.{isHonest, opens, run}
-use Rattle.runs.specs.PowerCut.{houses, lot, steps, end, Seen, seen, met, Met}
+use Rattle.season.specs.Run.{run}
+use Rattle.runs.specs.Sample.{sample, lot}
+use Rattle.runs.specs.PowerCut.{houses, steps, end, Seen, seen, met, Met}
 use Rattle.season.specs.Claims.{Everywhere}
 use Rattle.season.proofs.Season.{claims}
+use Rattle.runs.proofs.Sample.{sample-open}
 
 computed : seen end ≡ met
 unfolding end seen run published received opened card.houses numbersOk mostLimit downOk mostDown legal meant write sheetAt sheetBytes
@@ -40,25 +38,16 @@ unfolding end seen run published received opened card.houses numbersOk mostLimit
     amplify deliver same le ofBits isKind
 computed = refl
 
--- opening answers 0 at each house below n
-opened-zero : (r : ℕ) → T (isHonest houses r) → opens houses r .answer ≡ 0
-unfolding houses opened card.houses downOk mostDown numbersOk mostLimit isSheet
-opened-zero r t = rw (true-of (ltb r 3) (and-l (ltb r 3) true t))
-
 at-one : (b : Bool) → cond b 1 0 ≤ 1
 at-one true = omega arith
 at-one false = omega arith
 
 pub example : Met
-unfolding houses seen fitting tolerated
+unfolding houses sample seen fitting tolerated card.houses downOk mostDown mostLimit
 example =
     record {
       computed = computed;
-      opened = record {
-        answer = opened-zero;
-        season = lit< tt;
-        sheet = bytes-append (be32 20) (replicate 18 0) (be-bytes 20 (lit< tt)) (bytes-zeros 18);
-      };
+      opened = sample-open 3 1 1 (λ p. true) refl refl refl;
       few = lit≤ tt;
       limited = λ r t. subst (λ (f : ℕ → ℕ). f r ≤ 1) (sym (ap (λ (x : Seen). x .returned) computed)) (at-one (eqb r 2));
       low = subst (λ (x : ℕ). x ≤ 1) (sym (ap (λ (x : Seen). x .down) computed)) (lit≤ tt);

@@ -1,3 +1,4 @@
+pub mod Sample
 pub mod PowerCut
 pub mod Liar
 pub mod Plain

@@ -7,35 +7,17 @@ use mathlib.Core.Bool.{not, _&&_}
 use mathlib.Core.List.{List, [], _∷_}
 use mathlib.Core.Option.{Option, some}
 use lib.Dec.{ltb}
-use lib.ListN.{replicate}
-use Rattle.lot.specs.Declaration.{declarationAt}
-use Rattle.meaning.specs.Layout.{lengthOf, echoSlot, readySlot}
+use Rattle.meaning.specs.Layout.{echoSlot, readySlot}
 use Rattle.meaning.specs.Book.{slotIn}
-use Rattle.entry.specs.Entered.{wired}
 use Rattle.season.specs.Run.{Houses, Open, State, Step, publish, consume, wrong, start, run, copiesOf, copies, between, isBetween}
 use Rattle.season.specs.Run.{Limited, downs}
 use Rattle.season.specs.Claims.{Few, Delivered, Published}
-use Rattle.runs.specs.PowerCut.{lot, consumeFrom}
-use Rattle.runs.specs.Liar.{lie}
+use Rattle.runs.specs.Sample.{sample, lot, lie, says, consumeFrom}
 
--- n = 4, S = 1, f = 0, d = 0, season 2026, cap 20 and open gates, houses 0 to 2 honest; each lends zeros
+-- n = 4, f = 0, d = 0, houses 0 to 2 honest
 unfoldable pub houses : Houses
-unfolding lengthOf
-houses =
-    record {
-      n = 4;
-      numbers = 1;
-      down = 0;
-      limit = 0;
-      season = 2026;
-      sheet = 0 ∷ 0 ∷ 0 ∷ 20 ∷ replicate 18 0;
-      honest = λ p. ltb p 3;
-      lent = λ r. replicate (lengthOf 4 1) 0;
-    }
-
--- a message of the kind on house 0's entry
-abbrev says : ℕ → List ℕ → List ℕ
-says kind v = wired kind 2026 0 0 (declarationAt v 0)
+unfolding sample
+houses = sample 4 0 0 (λ p. ltb p 3)
 
 -- The liar sends house 1 a SEND on house 0's entry, house 2 an ECHO before the SEND is heard, and two bytes under a number not below n.
 -- When house 1 has two ECHOes of the lot, the liar sends it an ECHO of the lie and then of the lot, and house 2 a READY of the lie. A READY

@@ -1,45 +1,23 @@
 -- One run at the bytes with f = 1 and d = 1: three honest houses, one number, house 0 publishing, house 2 down when the SEND comes and
 -- back later, house 1 down at the end; and bytes under a number not below n, a request among them.
 -- Assumes nothing.
-use Prim.Native.Nat.{ℕ, zero, suc, _≤_}
+use Prim.Native.Nat.{ℕ, _≤_}
 use mathlib.Core.Path.{_≡_}
 use mathlib.Core.Bool.{true, not, cond, _&&_}
 use mathlib.Core.List.{List, [], _∷_}
 use lib.Dec.{eqb}
-use lib.ListN.{replicate}
 use Rattle.message.specs.Message.{requestWire}
 use Rattle.protocol.specs.Run.{tally}
-use Rattle.meaning.specs.Layout.{lengthOf}
 use Rattle.meaning.specs.Book.{helpedOf}
 use Rattle.season.specs.Run.{Houses, Open, State, Step, publish, consume, wrong, crash, comeback, help, start, run, copiesOf, copies}
 use Rattle.season.specs.Run.{upBetween, Drained, Limited, downs}
 use Rattle.season.specs.Claims.{Few, Delivered, Published}
+use Rattle.runs.specs.Sample.{sample, lot, consumeFrom}
 
--- n = 3, S = 1, f = 1, d = 1, season 2026, cap 20 and open gates, all honest; each lends zeros
+-- n = 3, f = 1, d = 1, all honest
 unfoldable pub houses : Houses
-unfolding lengthOf
-houses =
-    record {
-      n = 3;
-      numbers = 1;
-      down = 1;
-      limit = 1;
-      season = 2026;
-      sheet = 0 ∷ 0 ∷ 0 ∷ 20 ∷ replicate 18 0;
-      honest = λ p. true;
-      lent = λ r. replicate (lengthOf 3 1) 0;
-    }
-
--- lot 77, 40 colonies, 800 kilograms, 17.5, 0.5
-abbrev pub lot : List ℕ
-lot =
-    0x00 ∷ 0x00 ∷ 0x00 ∷ 0x4D ∷ 0x00 ∷ 0x00 ∷ 0x00 ∷ 0x28 ∷ 0x00 ∷ 0x00 ∷ 0x03 ∷ 0x20
-    ∷ 0x41 ∷ 0x8C ∷ 0x00 ∷ 0x00 ∷ 0x3F ∷ 0x00 ∷ 0x00 ∷ 0x00 ∷ []
-
--- the copies from the first on, each consumed in its turn
-unfoldable pub consumeFrom : (first count : ℕ) → List Step
-consumeFrom i zero = []
-consumeFrom i (suc k) = consume i ∷ consumeFrom (suc i) k
+unfolding sample
+houses = sample 3 1 1 (λ p. true)
 
 -- House 2 is down as the SEND and an ECHO come. It returns with nothing to send again, and asks all: house 0 sends it its SEND and its
 -- ECHO again, house 1 is down when the request comes, and house 2 itself has sent nothing. Then every copy comes.
