@@ -16,27 +16,32 @@ use lot::Gate;
 use lot::Sheet;
 use message::Reading;
 
-fn say_column(n: u32, counts: Counts) {
+fn say_column(n: u32, f: u32, counts: Counts) {
     say_with(b"  ", n as u64);
-    say_with(b" houses: t ", counts.t as u64);
+    say_with(b" houses, f ", f as u64);
+    say_with(b": t ", counts.t as u64);
     say_with(b", echo quorum ", counts.quorum as u64);
+    say_with(b", READY at ", counts.amplify as u64);
+    say_with(b", delivery at ", counts.deliver as u64);
     say(b"\n");
 }
 
-// A column of the wall card.
-fn show_column(n: u32) {
+// The counts for n houses of which f may be down.
+pub fn show_column(n: u32, f: u32) {
     if card::is_houses(n) {
-        if card::is_down(n, 0) {
-            say_column(n, card::counts_of(n as usize, 0));
+        if card::is_down(n, f) {
+            say_column(n, f, card::counts_of(n as usize, f as usize));
         }
     }
 }
 
 pub fn show_card() {
     say(b"The wall card\n");
-    show_column(4);
-    show_column(5);
-    show_column(16);
+    show_column(4, 0);
+    show_column(5, 0);
+    show_column(16, 0);
+    show_column(6, 1);
+    show_column(16, 4);
 }
 
 // The length of a book of n houses and S numbers.
@@ -247,6 +252,6 @@ pub fn show_bytes(bytes: &mut [u8], book: &mut [u8]) {
     open(book, 4, 1, 0, 20);
     let written = message::write_message(SEND, 2026, 2, 0, sample());
     let message = written.message;
-    copy(bytes, 0, message);
+    copy(bytes, 0, &message);
     show_malformed(bytes, book);
 }

@@ -1,7 +1,9 @@
 // Shows the software at work: document 01's cases run, call by call, with each answer, what was given and what was delivered.
 mod errors;
+mod houses;
 mod lots;
-mod power;
+mod post;
+mod run;
 mod scenes;
 mod season;
 mod tell;
@@ -39,9 +41,15 @@ fn more_scenes() {
     scenes::show_waiting(&mut waiting);
 }
 
-fn returning() {
-    let mut book: [u8; 622] = [0; 622];
-    power::show_return(&mut book);
+fn seasons() {
+    season::show_honest();
+    season::show_lied();
+    season::show_sender();
+    season::show_cut();
+    season::show_liar();
+    season::show_alone();
+    season::show_late();
+    season::show_gone();
 }
 
 fn pairs() {
@@ -64,8 +72,6 @@ fn main() {
     complaint();
     rows();
     more_scenes();
-    season::show_honest();
-    season::show_lied();
-    returning();
+    seasons();
     pairs();
 }
