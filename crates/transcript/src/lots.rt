@@ -5,6 +5,7 @@ use crate::tell::copy;
 use crate::tell::end_answer;
 use crate::tell::lot_77;
 use crate::tell::open;
+use crate::tell::open_sheet;
 use crate::tell::put_byte;
 use crate::tell::sample;
 use crate::tell::say;
@@ -63,6 +64,31 @@ pub fn show_lengths() {
     show_length_of(16, 4);
     show_length_of(17, 1);
     show_length_of(16, 5);
+}
+
+// A book opened with f and d, on bytes of its length.
+fn show_opened(buffer: &mut [u8], n: u32, f: u32, d: u32) {
+    say_with(b"  ", n as u64);
+    say_with(b" houses, f ", f as u64);
+    say_with(b", d ", d as u64);
+    let found = book::length_of(n, 1);
+    let first = 0;
+    let end = found.length as usize;
+    let sheet = open_sheet(20);
+    if end <= buffer.len() {
+        end_answer(book::open_book(&mut buffer[first..end], n, 1, 0, f, d, 2026, &sheet));
+    }
+}
+
+pub fn show_openings(buffer: &mut [u8]) {
+    say(b"\nOpening with f, at most 4 and less than half of n, and d, at most 8\n");
+    show_opened(buffer, 11, 4, 8);
+    show_opened(buffer, 11, 5, 8);
+    show_opened(buffer, 11, 4, 9);
+    show_opened(buffer, 9, 4, 8);
+    show_opened(buffer, 8, 4, 8);
+    show_opened(buffer, 3, 1, 0);
+    show_opened(buffer, 2, 1, 0);
 }
 
 fn say_verdict(answer: u8) {

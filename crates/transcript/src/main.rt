@@ -16,6 +16,11 @@ fn malformed() {
     lots::show_bytes(&mut bytes, &mut book);
 }
 
+fn openings() {
+    let mut buffer: [u8; 5838] = [0; 5838];
+    lots::show_openings(&mut buffer);
+}
+
 fn complaint() {
     let mut small: [u8; 980] = [0; 980];
     let mut other: [u8; 980] = [0; 980];
@@ -65,6 +70,7 @@ fn main() {
     tell::say(b"A message is told by its kind and its moisture reading.\n\n");
     lots::show_card();
     lots::show_lengths();
+    openings();
     lots::show_lots();
     lots::show_gates();
     lots::show_sample();
