@@ -6,6 +6,7 @@ use crate::tell::end_answer;
 use crate::tell::lot_77;
 use crate::tell::open;
 use crate::tell::open_sheet;
+use crate::tell::open_with;
 use crate::tell::put_byte;
 use crate::tell::sample;
 use crate::tell::say;
@@ -212,6 +213,9 @@ pub fn show_sample() {
 // ---- malformed messages
 
 fn reader_answer(bytes: &[u8]) -> u8 {
+    if message::is_request(bytes) {
+        return 0;
+    }
     let Reading::Message {
         kind,
         season,
@@ -262,12 +266,13 @@ fn show_kind(bytes: &mut [u8], kind: u8, book: &mut [u8]) {
     show_cut(bytes, 36, book);
 }
 
-// 35 and 37 bytes, kinds 0 and 4; then the message as it should be.
+// 35 and 37 bytes, kinds 0, 4 and 9; then the message as it should be.
 fn show_malformed(bytes: &mut [u8], book: &mut [u8]) {
     show_length(bytes, 35, book);
     show_length(bytes, 37, book);
     show_kind(bytes, 0, book);
     show_kind(bytes, 4, book);
+    show_kind(bytes, 9, book);
     show_kind(bytes, 1, book);
 }
 
@@ -280,4 +285,38 @@ pub fn show_bytes(bytes: &mut [u8], book: &mut [u8]) {
     let message = written.message;
     copy(bytes, 0, &message);
     show_malformed(bytes, book);
+}
+
+// ---- a request for help
+
+// What reading a request gives: its kind and its season.
+fn show_request_read(bytes: &[u8]) {
+    if message::is_request(bytes) {
+        if 11 <= bytes.len() {
+            let season = words::word_at(bytes, 7);
+            say_with(b"  reads: answer 0, kind 9, season ", season as u64);
+            say(b"\n");
+        }
+    }
+}
+
+// 10, 11 and 12 bytes; then 11 bytes with kind 1.
+fn show_cut_requests(bytes: &mut [u8], book: &mut [u8]) {
+    show_length(bytes, 10, book);
+    show_length(bytes, 11, book);
+    show_length(bytes, 12, book);
+    put_byte(bytes, 3, SEND);
+    say(b"  kind 1 in 11 bytes,");
+    show_cut(bytes, 11, book);
+}
+
+pub fn show_request(bytes: &mut [u8], book: &mut [u8]) {
+    say(b"\nA request for help: as it should be, cut, lengthened, and with another kind\n");
+    let request = message::write_request(2026);
+    say(b"  written:");
+    say_bytes(&request);
+    show_request_read(&request);
+    open_with(book, 4, 0, 0, 1);
+    copy(bytes, 0, &request);
+    show_cut_requests(bytes, book);
 }

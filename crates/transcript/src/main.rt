@@ -16,6 +16,12 @@ fn malformed() {
     lots::show_bytes(&mut bytes, &mut book);
 }
 
+fn request() {
+    let mut book: [u8; 980] = [0; 980];
+    let mut bytes: [u8; 36] = [0; 36];
+    lots::show_request(&mut bytes, &mut book);
+}
+
 fn openings() {
     let mut buffer: [u8; 5838] = [0; 5838];
     lots::show_openings(&mut buffer);
@@ -61,13 +67,17 @@ fn pairs() {
     let mut book: [u8; 980] = [0; 980];
     let mut buffer: [u8; 980] = [0; 980];
     errors::show_calls(&mut book);
+    errors::show_requests(&mut book);
     errors::show_opening(&mut buffer);
     errors::show_judging();
 }
 
 fn main() {
     tell::say(b"Season 2026. The lot is 77: 40 colonies, 800 kg, conductivity 0.5.\n");
-    tell::say(b"A message is told by its kind and its moisture reading.\n\n");
+    tell::say(b"A message is told by its kind and its moisture reading.\n");
+    tell::say(
+        b"Of n houses h are honest; t may be wrong and f honest ones down; each asker is helped at most d times.\n\n",
+    );
     lots::show_card();
     lots::show_lengths();
     openings();
@@ -75,6 +85,7 @@ fn main() {
     lots::show_gates();
     lots::show_sample();
     malformed();
+    request();
     complaint();
     rows();
     more_scenes();
