@@ -5,7 +5,7 @@ use Prim.Native.Nat.{ℕ, _+_, _*_, _-_, _≤_, _<_}
 use mathlib.Core.Bool.{Bool, not, _&&_}
 use native.Mathlib.Omega.{arith}
 use lib.Dec.{T}
-use Rattle.card.specs.Card.{tolerated, fitting, quorum, amplify, deliver}
+use Rattle.card.specs.Card.{tolerated, Largest, fitting, quorum, amplify, deliver}
 use Rattle.card.specs.Count.{count}
 use Rattle.card.proofs.Counting.{count-and, count-find}
 
@@ -45,13 +45,9 @@ unfolding tolerated
 tolerated-third n h = omega arith
 
 -- t fits, and no larger one does
-pub fitting-fits : (n f : ℕ) → 2 * f < n → 3 * fitting n f + 2 * f < n
+pub fitting-largest : (n f : ℕ) → 2 * f < n → Largest n f (fitting n f)
 unfolding fitting tolerated
-fitting-fits n f h = omega arith
-
-pub fitting-largest : (n f t : ℕ) → 3 * t + 2 * f < n → t ≤ fitting n f
-unfolding fitting tolerated
-fitting-largest n f t h = omega arith
+fitting-largest n f h = record { fits = omega arith; most = λ u l. omega arith }
 
 -- two houses more for each that may be down: the quorum grows by one
 pub quorum-down : (n t f : ℕ) → 2 * f < n → quorum n t ≡ quorum (n - 2 * f) t + f

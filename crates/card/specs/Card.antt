@@ -1,6 +1,6 @@
 -- Numbers on the wall: how many houses there may be, the tolerated t, the echo quorum, and the counts that the steps compare with.
 -- Assumes nothing.
-use Prim.Native.Nat.{ℕ, _+_, _*_, _-_, _/_}
+use Prim.Native.Nat.{ℕ, _+_, _*_, _-_, _/_, _≤_, _<_}
 use mathlib.Core.Bool.{Bool, _&&_}
 use lib.Dec.{leb, ltb}
 use Rattle.card.specs.declared.Column.{Column}
@@ -49,7 +49,12 @@ unfoldable pub downOk : (n f : ℕ) → Bool
 unfolding mostDown
 downOk n f = leb f mostDown && ltb (2 * f) n
 
--- n > 3t + 2f: t is the largest that fits
+-- t is the largest with n > 3t + 2f
+pub record Largest (n f t : ℕ) : Type 0 where
+  pub fits : 3 * t + 2 * f < n
+  pub most : (u : ℕ) → 3 * u + 2 * f < n → u ≤ t
+
+-- the card's t for n - 2f houses, which is the largest (`fitting-largest`)
 unfoldable pub fitting : (n f : ℕ) → ℕ
 unfolding tolerated
 fitting n f = tolerated (n - 2 * f)

@@ -47,7 +47,7 @@ module _ (b : List ℕ) where
 
 -- ---- what was sent
 
-kind-number : (kind : ℕ) → isKind kind ≡ true → kindNumber (kindOf kind) ≡ kind
+pub kind-number : (kind : ℕ) → isKind kind ≡ true → kindNumber (kindOf kind) ≡ kind
 unfolding isKind
 kind-number kind h = go (ℕ-discrete kind 1) (ℕ-discrete kind 2)
   where

@@ -15,9 +15,8 @@ use Rattle.protocol.specs.Entry.{Decl, Kind, SEND, ECHO, READY, isNone, holds}
 use Rattle.meaning.specs.Slot.{slotAt}
 use Rattle.meaning.specs.Book.{nOf, downOf}
 use Rattle.meaning.specs.Layout.{heardSlot}
-use Rattle.entry.specs.declared.Marks.{Marks}
 use Rattle.entry.specs.Entered.{kindNumber, kindOf}
-use Rattle.entry.specs.Places.{votesFrom, marksAt}
+use Rattle.entry.specs.Places.{marksAt}
 
 pub kind-echo : (kind : ℕ) → (kind ≡ 1 → ⊥) → kind ≡ 2 → kindOf kind ≡ ECHO
 kind-echo kind f e = rw (ne-eqb _ _ f, eq-eqb _ _ e)

@@ -1,17 +1,17 @@
 -- A legal book has room for its header, and for each of its entries.
 -- Assumes nothing.
 use Prim.Native.Nat.{ℕ, _+_, _*_, _-_, _<_, _≤_}
-use mathlib.Core.Path.{_≡_, sym, ap, ap₂, _∙_}
+use mathlib.Core.Path.{_≡_, _∙_}
 use mathlib.Core.Bool.{true}
 use mathlib.Core.List.{List}
 use native.Mathlib.Omega.{arith}
 use lib.ListN.{length}
-use Rattle.meaning.specs.Layout.{perEntry, slotPlace, entrySlot, lengthOf}
+use Rattle.meaning.specs.Layout.{perEntry, slotPlace, entrySlot}
 use Rattle.meaning.specs.Book.{nOf, numbersOf, ownOf}
-use Rattle.meaning.specs.Legal.{legal, Legal}
+use Rattle.meaning.specs.Legal.{legal}
 use Rattle.meaning.proofs.Legality.{legal-facts}
 use Rattle.meaning.proofs.Places.{numbers-byte, length-header, slot-within, entry-slot-below, published-slot-below}
-use Rattle.entry.specs.Places.{placeIn, Has, Within, Begins}
+use Rattle.entry.specs.Places.{placeIn, Has, Begins}
 
 pub header-room : (b : List ℕ) → legal b ≡ true → 31 + nOf b ≤ length b
 header-room b h = omega (arith, legal-facts b h .long, length-header (nOf b) (numbersOf b))

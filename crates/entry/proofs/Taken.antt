@@ -1,23 +1,22 @@
 -- An accepted message at the bytes: what the code stores, gives and delivers is the protocol's step on the entry.
 -- Assumes nothing.
 use Prim.Native.Nat.{ℕ, _+_, _*_, _<_}
-use mathlib.Core.Path.{_≡_, refl, sym, ap, ap₂, _∙_}
-use mathlib.Core.Bool.{Bool, true, false, cond, _&&_}
+use mathlib.Core.Path.{_≡_, refl, sym, ap, _∙_}
+use mathlib.Core.Bool.{true, false, _&&_}
 use mathlib.Core.List.{List}
-use mathlib.Core.Option.{Option, none, some}
 use native.Mathlib.Omega.{arith}
 use lib.Dec.{leb}
-use Rattle.card.specs.Card.{tolerated, quorum, amplify, deliver, countsOf}
+use Rattle.card.specs.Card.{quorum, amplify, deliver, countsOf}
 use Rattle.card.specs.Count.{count}
 use Rattle.words.specs.Words.{Bytes}
-use Rattle.protocol.specs.Entry.{Decl, Kind, SEND, ECHO, READY, Entry, Rules, isNone, holds, votes}
-use Rattle.protocol.specs.Steps.{Out, Say, say, given, recorded, marked, reached, takesSend, takesEcho, takesReady, takes}
+use Rattle.protocol.specs.Entry.{Decl, Kind, ECHO, READY, Rules, isNone, holds, votes}
+use Rattle.protocol.specs.Steps.{Out, say, given, recorded, marked, reached, takesEcho, takesReady, takes}
 use Rattle.protocol.specs.Thresholds.{rulesOf}
 use Rattle.meaning.specs.Slot.{slotAt, putSlot}
 use Rattle.meaning.specs.Layout.{heardSlot, slotPlace, entrySlot, echoSlot, readySlot, readySentSlot, deliveredSlot}
 use Rattle.meaning.specs.Book.{Care, downOf, careOf, nOf, numbersOf, look, meant}
 use Rattle.meaning.specs.Legal.{legal, IsDecl}
-use Rattle.meaning.proofs.Stores.{Stored, stored-entry, stored-heard, stored-taken}
+use Rattle.meaning.proofs.Stores.{Stored, stored-entry, stored-heard}
 use Rattle.entry.specs.declared.Marks.{Marks}
 use Rattle.entry.specs.Entered.{rulesBy}
 use Rattle.entry.specs.Places.{placeIn, Has, slotFrom, votesFrom, marksAt}

@@ -13,10 +13,9 @@ use borrow.Author.Tests.{eqb-true}
 use Rattle.words.specs.Words.{Bytes}
 use Rattle.words.proofs.Laws.{word-be, be-wordAt}
 use Rattle.words.proofs.Listed.{listed-is}
-use Rattle.lot.specs.declared.Declaration.{Declaration}
 use Rattle.lot.specs.Declaration.{declarationAt, bytesOf}
 use Rattle.lot.proofs.Declared.{numbers-of-bytes}
-use Rattle.message.specs.Message.{Five, Told, isKind, wire, fieldAt, tagged, wellFormed, fiveAt, gives, malformed, readOf, writtenOf}
+use Rattle.message.specs.Message.{Five, Told, isKind, wire, fieldAt, tagged, wellFormed, fiveAt, gives, malformed, readOf}
 use Rattle.message.proofs.Form.{sized, known-kind, tags}
 
 -- ---- reading undoes writing

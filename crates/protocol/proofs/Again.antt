@@ -1,11 +1,11 @@
 -- What a house sends again of an entry, counted.
 -- Assumes nothing.
 use mathlib.Core.Path.{_≡_, refl, sym, ap, _∙_}
-use mathlib.Core.Bool.{Bool, true, false, not, cond, _&&_}
+use mathlib.Core.Bool.{Bool, true, false, cond, _&&_}
 use mathlib.Core.Logic.{_≢_}
 use mathlib.Core.Option.{Option, none, some}
 use mathlib.Core.List.{List, [], _∷_, _++_}
-use Prim.Native.Nat.{ℕ, zero, suc, _+_, _*_, _≤_, _<_}
+use Prim.Native.Nat.{ℕ, zero, suc, _+_, _≤_}
 use native.Mathlib.Omega.{arith}
 use lib.Dec.{T, eqb, ltb, eqb→eq, eqb-refl, ltb→lt}
 use Rattle.card.specs.Count.{bit, count}
@@ -13,9 +13,9 @@ use Rattle.card.proofs.Counting.{count-same, count-none}
 use Rattle.protocol.specs.Entry.{Decl, Kind, SEND, ECHO, READY, Entry, own, isKind, isSome, holds}
 use Rattle.protocol.specs.Book.{sameEntry, Book}
 use Rattle.protocol.specs.Run.{Copy, copyTo, each, toThose, againKind, againOn, again, tally, onIt, copiesOf}
-use Rattle.protocol.proofs.Basics.{bcase, T-of, T-not-of, true-of, and-l, and-r, and-mk, and-false, eq-holds}
+use Rattle.protocol.proofs.Basics.{bcase, T-of, and-l, and-r, and-mk, and-false}
 use Rattle.protocol.proofs.Mail.{tally-append}
-use Rattle.protocol.proofs.Sums.{total, total-mono, total-only, total-has, tally-each}
+use Rattle.protocol.proofs.Sums.{total, total-only, total-has, tally-each}
 
 pub entry-refl : (j c : ℕ) → T (sameEntry j c j c)
 entry-refl j c = and-mk (eqb j j) (eqb c c) (eqb-refl j) (eqb-refl c)

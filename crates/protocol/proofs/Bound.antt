@@ -2,29 +2,29 @@
 -- copy of an honest house accepted.
 -- Assumes nothing.
 use mathlib.Core.Path.{_≡_, refl, sym, ap, subst, _∙_}
-use mathlib.Core.Bool.{Bool, true, false, cond, _&&_, and-true}
+use mathlib.Core.Bool.{Bool, true, false, not, cond, _&&_, and-true}
 use mathlib.Core.Logic.{inl, inr, ⊎-elim}
 use mathlib.Core.Option.{Option, none, some}
 use mathlib.Core.List.{List, [], _∷_}
 use Prim.Native.Nat.{ℕ, suc, _+_, _*_, _≤_}
 use native.Mathlib.Nat.{mul-le-mul-left}
 use native.Mathlib.Omega.{arith}
-use lib.Dec.{T, eqb, eqb→eq}
+use lib.Dec.{T, eqb, eqb→eq, eqb-refl}
 use lib.ListN.{length}
 use Rattle.card.specs.Count.{bit, count}
 use Rattle.card.proofs.Counting.{count-mono, count-not, count-none, count-one}
-use Rattle.protocol.specs.Entry.{Decl, Kind, SEND, ECHO, READY, own, isKind, isSome}
-use Rattle.protocol.specs.Run.{n, Wall, Copy, State, Limited, right, h, onIt, copiesOf}
-use Rattle.protocol.specs.Claims.{Safe, Bounded}
-use Rattle.protocol.proofs.Basics.{and-l, and-r, some-of}
+use Rattle.protocol.specs.Entry.{Decl, Kind, SEND, ECHO, READY, heard, own, isKind, isSome}
+use Rattle.protocol.specs.Run.{n, Wall, Copy, State, Limited, right, h, at, onIt, copiesOf}
+use Rattle.protocol.specs.Claims.{Safe, Bounded, Single}
+use Rattle.protocol.proofs.Basics.{not-of, and-l, and-r, and-mk, isKind-refl, some-of}
 use Rattle.protocol.proofs.Moves.{listOf}
 use Rattle.protocol.proofs.Slots.{run-fills}
-use Rattle.protocol.proofs.Mail.{copies-kinds, tally-same}
+use Rattle.protocol.proofs.Mail.{copies-kinds, copies-split, tally-at, tally-same}
 use Rattle.protocol.proofs.Sums.{total-most}
-use Rattle.protocol.proofs.Again.{way}
+use Rattle.protocol.proofs.Again.{entry-refl, way}
 use Rattle.protocol.proofs.Invariant.{View, Inv, load}
 use Rattle.protocol.proofs.Views.{view}
-use Rattle.protocol.proofs.Consuming.{answers}
+use Rattle.protocol.proofs.Consuming.{answers, sent-by}
 
 pub count-all : (n : ℕ) → count (λ i. true) n ≡ n
 count-all n = omega (arith, count-not (λ i. true) n, count-none (λ i. false) n (λ i l. refl))
@@ -185,6 +185,50 @@ safe B j c s I =
           (subst (λ (x : ℕ). Inv B j x (view j x s)) z₂ I)));
       fills = λ l r. run-fills B l s r j c;
     }
+
+-- with d = 0 each message goes once to each house, so a copy that is not consumed is not heard yet
+pub single : (B : Wall) (j c : ℕ) (s : State) → Inv B j c (view j c s) → B .limit ≡ 0 → Limited B (s .power) → Single B j c s
+single B j c s I still L =
+    record {
+      bound = omega (arith, rw (count-all (n B)) at (sent-le B j c (view j c s) I (λ p. true) (λ q. true) still L));
+      bound-between = sent-le B j c (view j c s) I (right B) (right B) still L;
+      accepted = λ i m e t g u.
+          let z : j ≡ m .sender = eqb→eq j (m .sender) (and-l (eqb j (m .sender)) _ t) in
+          let z₂ : c ≡ m .number = eqb→eq c (m .number) (and-r (eqb j (m .sender)) _ t) in
+          let J : Inv B (m .sender) (m .number) (view (m .sender) (m .number) s) =
+          subst (λ (x : ℕ). Inv B x (m .number) (view x (m .number) s)) z (subst (λ (x : ℕ). Inv B j x (view j x s)) z₂ I) in
+          ⊎-elim (λ y. y .0) (λ y. absurd (once i m e g u J (y .1))) (answers B s i m e g J);
+    }
+  where
+    once : (i : ℕ) (m : Copy) → at (s .mail) i ≡ some m → T (right B (m .to)) → m .consumed ≡ false
+        → Inv B (m .sender) (m .number) (view (m .sender) (m .number) s)
+        → heard (m .kind) (m .from) (s .gave .books (m .to) (m .sender) (m .number)) ≡ some (m .decl) → ⊥
+    once i m e g u J y =
+        let k : Kind = m .kind in
+        let F : ℕ → Bool = eqb (m .from) in
+        let Q : ℕ → Bool = eqb (m .to) in
+        let u₀ : View = view (m .sender) (m .number) s in
+        let o = J .books .owner (m .from) k (m .decl) (sent-by B s i m e g J) in
+        let heard-it : bit (isSome (heard k (m .from) (u₀ .house (m .to)))) ≡ 1 = rw y in
+        omega (
+          arith,
+          J .post .brought k (m .from) (m .to) (o .2) (o .0),
+          tally-at (λ x. onIt (m .sender) (m .number) x && (way k F Q x && not (x .consumed))) (s .mail) i m e
+              (and-mk (onIt (m .sender) (m .number) m) _ (entry-refl (m .sender) (m .number))
+              (and-mk (way k F Q m) _ (way-refl m) (not-of (m .consumed) u))),
+          copies-split (m .sender) (m .number) (way k F Q) (λ x. x .consumed) (s .mail),
+          way-le B (m .sender) (m .number) u₀ J k F Q 1
+              (λ p x. omega (arith, no-more B (m .sender) (m .number) u₀ J Q still L p x, at-one Q (m .to) (λ q t. sym (eqb→eq (m .to) q t)))),
+          at-one (λ p. F p && isSome (own k (u₀ .house p))) (m .from) (λ p t. sym (eqb→eq (m .from) p (and-l (F p) _ t))),
+        )
+      where
+        at-one : (P : ℕ → Bool) (x : ℕ) → ((p : ℕ) → T (P p) → p ≡ x) → count P (n B) ≤ 1
+        at-one P x f = count-one P (n B) x f
+
+        way-refl : (m : Copy) → T (way (m .kind) (eqb (m .from)) (eqb (m .to)) m)
+        way-refl m =
+            and-mk (isKind (m .kind) (m .kind)) _ (isKind-refl (m .kind))
+            (and-mk (eqb (m .from) (m .from)) _ (eqb-refl (m .from)) (eqb-refl (m .to)))
 
 pub bounded : (B : Wall) (j c : ℕ) (s : State) → Inv B j c (view j c s) → Limited B (s .power) → Bounded B j c s
 bounded B j c s I L =

@@ -6,19 +6,19 @@ use mathlib.Core.Logic.{_⊎_, inl, inr, ⊎-elim}
 use mathlib.Core.Option.{Option, none, some}
 use Prim.Native.Nat.{ℕ, _+_, _≤_, _<_}
 use native.Mathlib.Omega.{arith}
-use lib.Dec.{T, eqb, ltb, eqb→eq}
+use lib.Dec.{T, eqb, ltb, eqb→eq, eqb-refl}
 use Rattle.card.specs.Count.{bit}
 use Rattle.protocol.specs.Entry.{Decl, Kind, Entry, Rules, heard, own, isKind, isSome, upd}
 use Rattle.protocol.specs.Steps.{Out, may}
 use Rattle.protocol.specs.Book.{Call, inBook, outcome}
-use Rattle.protocol.specs.Run.{n, Wall, Copy, State, right, at, consumedCopy, consumeAt, opens, onIt, copiesOf}
-use Rattle.protocol.proofs.Basics.{bcase, T-of, T-not-of, true-of, not-of, and-l, and-r, and-mk, and-false, both, isKind-eq}
-use Rattle.protocol.proofs.Basics.{isKind-refl, some-of, isSome-of, holds-eq, upd-all, upd-same}
+use Rattle.protocol.specs.Run.{n, Wall, Copy, State, right, at, consumedCopy, consumeAt, opens, onIt}
+use Rattle.protocol.proofs.Basics.{bcase, T-of, true-of, and-l, and-r, and-mk, and-false, isKind-eq}
+use Rattle.protocol.proofs.Basics.{isKind-refl, some-of, isSome-of, upd-all, upd-same}
 use Rattle.protocol.proofs.Moves.{filled-heard}
 use Rattle.protocol.proofs.Calls.{Brings, Done, outcome-done, outcome-booked, receive-taken, receive-repeat}
 use Rattle.protocol.proofs.Mail.{tally-at, tally-change}
-use Rattle.protocol.proofs.Invariant.{Inv, Act, unread, bit-le}
-use Rattle.protocol.proofs.Again.{way, true-to, entry-refl}
+use Rattle.protocol.proofs.Invariant.{Inv, Act, unread, came, bit-le, true-copy}
+use Rattle.protocol.proofs.Again.{way, entry-refl}
 use Rattle.protocol.proofs.Views.{view, out, Named}
 
 -- what is heard stays heard
@@ -46,6 +46,8 @@ plain-act B r a s g f j c N I =
         l,
         heard-more (B .rules) j r a (λ q. s .gave .books q j c) (out B r a s) (N .done) k p q,
       );
+      marked = λ k p q. omega arith;
+      carried = λ k p v b g. absurd (f k p v b g);
     }
 
 -- the consumption of a copy in the mail that is not consumed, to an honest house
@@ -79,27 +81,22 @@ module _ (B : Wall) (s : State) (i : ℕ) (m : Copy)
   done = outcome-done (B .rules) (B .numbers) r (opens m) (s .gave .books r)
 
   module _ (I : Inv B j c (view j c s)) where
-    gave : own k (H p) ≡ some (m .decl)
-    gave =
-        bcase (true-to H m) (λ t. holds-eq _ (m .decl) (T-of t))
-        (λ t. absurd (omega (
-          arith,
-          I .post .truthful,
-          tally-at (λ x. onIt j c x && not (true-to H x)) (s .mail) i m at-i (and-mk (onIt j c m) _ it (not-of (true-to H m) t)),
-        )))
+    -- its sender gave it
+    pub sent-by : own k (H p) ≡ some (m .decl)
+    sent-by = true-copy B j c (view j c s) I i m at-i it
 
     -- it was not heard, or this very declaration was
     before : (x : Option Decl) → heard k p (H r) ≡ x → (heard k p (H r) ≡ none) ⊎ (heard k p (H r) ≡ some (m .decl))
     before none e = inl e
     before (some w) e =
-        let y = I .books .owner p k (m .decl) gave in
-        inr (e ∙ sym (I .books .given r k p w e (y .2) (y .0)) ∙ gave)
+        let y = I .books .owner p k (m .decl) sent-by in
+        inr (e ∙ sym (I .books .given r k p w e (y .2) (y .0)) ∙ sent-by)
 
     pub answers : ((o .answer ≡ 0) × (heard k p (o .entry) ≡ some (m .decl)))
         ⊎ ((o .answer ≡ 7) × (heard k p (H r) ≡ some (m .decl)) × (o .entry ≡ H r))
     unfolding outcome
     answers =
-        let w = I .books .owner p k (m .decl) gave in
+        let w = I .books .owner p k (m .decl) sent-by in
         rw (true-of (inBook (B .rules) (B .numbers) j c) (w .3))
         (⊎-elim
         (λ e. inl (receive-taken (B .rules) j p k (m .decl) (H r) (and-l (ltb p (n B)) _ (w .0)) (w .1) (w .2) e))
@@ -117,11 +114,48 @@ module _ (B : Wall) (s : State) (i : ℕ) (m : Copy)
           here = right-to;
           done = done;
           booked = outcome-booked (B .rules) (B .numbers) r (opens m) (s .gave .books r);
-          honest = λ l q w b g. rw (b .0, b .1, ← b .2) gave;
+          honest = λ l q w b g. rw (b .0, b .1, ← b .2) sent-by;
           unmarked = λ P x. omega (arith, tally-change P consumedCopy (s .mail) i m at-i, ap bit (x m));
           kept = kept′;
+          marked = marked′;
+          carried = λ l q w b g. rw (b .0, b .1) carried′;
         }
       where
+        -- consumed, it is among those that came, whether or not it was before
+        marks : (l : Kind) (q u : ℕ)
+            → came j c l q u (consumeAt (s .mail) i) + bit (onIt j c m && (way l (eqb q) (eqb u) m && m .consumed))
+            ≡ came j c l q u (s .mail) + bit (onIt j c m && (way l (eqb q) (eqb u) m && true))
+        marks l q u = tally-change (λ x. onIt j c x && (way l (eqb q) (eqb u) x && x .consumed)) consumedCopy (s .mail) i m at-i
+
+        marked′ : (l : Kind) (q u : ℕ) → came j c l q u (s .mail) ≤ came j c l q u (consumeAt (s .mail) i)
+        marked′ l q u =
+            omega (
+              arith,
+              marks l q u,
+              bit-le (onIt j c m && (way l (eqb q) (eqb u) m && m .consumed)) (onIt j c m && (way l (eqb q) (eqb u) m && true))
+                  (λ t. let y = and-r (onIt j c m) _ t in
+                  and-mk (onIt j c m) _ it (and-mk (way l (eqb q) (eqb u) m) true (and-l (way l (eqb q) (eqb u) m) _ y) tt)),
+            )
+
+        its-way : T (way k (eqb p) (eqb r) m)
+        its-way = and-mk (isKind k k) _ (isKind-refl k) (and-mk (eqb p p) _ (eqb-refl p) (eqb-refl r))
+
+        carried′ : 0 < came j c k p r (consumeAt (s .mail) i)
+        carried′ =
+            bcase (m .consumed)
+            (λ t. omega (
+              arith,
+              marked′ k p r,
+              tally-at (λ x. onIt j c x && (way k (eqb p) (eqb r) x && x .consumed)) (s .mail) i m at-i
+                  (and-mk (onIt j c m) _ it (and-mk (way k (eqb p) (eqb r) m) _ its-way (T-of t))),
+            ))
+            (λ t. let one : bit (onIt j c m && (way k (eqb p) (eqb r) m && true)) ≡ 1 =
+            ap bit (true-of (onIt j c m && (way k (eqb p) (eqb r) m && true))
+            (and-mk (onIt j c m) _ it (and-mk (way k (eqb p) (eqb r) m) true its-way tt))) in
+            let zero : bit (onIt j c m && (way k (eqb p) (eqb r) m && m .consumed)) ≡ 0 =
+            ap bit (and-false (onIt j c m) (way k (eqb p) (eqb r) m && m .consumed) (and-false (way k (eqb p) (eqb r) m) (m .consumed) t)) in
+            omega (arith, marks k p r))
+
         kept′ : (l : Kind) (q u : ℕ) → T (may j l q) → (x : ℕ)
             → 0 < bit (isSome (heard l q (H u))) + (unread j c l q u (s .mail) + x)
             → 0 < bit (isSome (heard l q (upd H r (o .entry) u))) + (unread j c l q u (consumeAt (s .mail) i) + x)

@@ -1,15 +1,15 @@
 -- The run of six houses, computed: the premises of the claims can be met, and so what they claim comes of it.
 -- Assumes nothing.
-use mathlib.Core.Path.{_≡_, refl}
-use mathlib.Core.Bool.{Bool, true, false, cond, _&&_}
-use Prim.Native.Nat.{ℕ, zero, suc, _≤_}
+use mathlib.Core.Path.{refl}
+use mathlib.Core.Bool.{Bool, true, false, cond}
+use Prim.Native.Nat.{_≤_}
 use native.Mathlib.Omega.{arith}
-use lib.Dec.{T, eqb, ltb, lit<, lit≤}
+use lib.Dec.{eqb, ltb, lit<, lit≤}
 use Rattle.card.specs.Card.{quorum, amplify, deliver}
-use Rattle.protocol.specs.Entry.{same, upd}
+use Rattle.protocol.specs.Entry.{same}
 use Rattle.protocol.specs.Steps.{publishes, takesSend, takesEcho, takesReady, recording, receive, publish}
 use Rattle.protocol.specs.Book.{outcome, after}
-use Rattle.protocol.specs.Run.{right, called, arrives, consumes, comes, helpAnswer, helps, asked, step, run, copies}
+use Rattle.protocol.specs.Run.{called, arrives, consumes, comes, helpAnswer, helps, asked, step, run, copies}
 use Rattle.protocol.specs.Thresholds.{rulesOf, wallOf}
 use Rattle.protocol.specs.Claims.{Everywhere}
 use Rattle.protocol.specs.Example.{wall, lot, consumeFrom, before, steps, end, Met}

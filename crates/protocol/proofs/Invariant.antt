@@ -13,13 +13,13 @@ use Rattle.card.proofs.Counting.{count-same, count-set, count-none, count-pos}
 use Rattle.protocol.specs.Entry.{Decl, Kind, Entry, heard, own, isKind, isSome, holds, upd}
 use Rattle.protocol.specs.Steps.{Say, say, Out, may}
 use Rattle.protocol.specs.Book.{sameEntry, Call, inBook, publication}
-use Rattle.protocol.specs.Run.{n, Wall, Copy, Request, Power, Limited, right, consumedCopy, copyTo, toAll, posted, push, tally, onIt}
-use Rattle.protocol.specs.Run.{copiesOf}
-use Rattle.protocol.proofs.Basics.{T-of, T-not-of, true-of, and-l, and-r, and-mk, and-false, both, isKind-eq, isKind-refl, some-of}
-use Rattle.protocol.proofs.Basics.{isSome-of, holds-eq, eq-holds, upd-all, upd-same, upd-other}
+use Rattle.protocol.specs.Run.{n, Wall, Copy, Request, Power, Limited, right, at, consumedCopy, copyTo, toAll, posted, push}
+use Rattle.protocol.specs.Run.{tally, onIt, copiesOf}
+use Rattle.protocol.proofs.Basics.{bcase, T-of, T-not-of, true-of, not-of, and-l, and-r, and-mk, and-false, both, isKind-eq}
+use Rattle.protocol.proofs.Basics.{isKind-refl, some-of, isSome-of, holds-eq, eq-holds, upd-all, upd-same, upd-other}
 use Rattle.protocol.proofs.Moves.{Local, filled-own, no-message, listOf}
 use Rattle.protocol.proofs.Calls.{Brings, Done}
-use Rattle.protocol.proofs.Mail.{tally-mono, tally-append, tally-toAll}
+use Rattle.protocol.proofs.Mail.{tally-at, tally-mono, tally-append, tally-toAll}
 use Rattle.protocol.proofs.Sums.{total, total-mono, total-more}
 use Rattle.protocol.proofs.Again.{entry-refl, way, true-to}
 
@@ -34,6 +34,10 @@ pub record View : Type 0 where
 -- the copies of a kind from house p to house q that are not consumed
 abbrev pub unread : (sender number : ℕ) → Kind → (p q : ℕ) → List Copy → ℕ
 unread j c k p q l = copiesOf j c (λ m. way k (eqb p) (eqb q) m && not (m .consumed)) l
+
+-- those that are
+abbrev pub came : (sender number : ℕ) → Kind → (p q : ℕ) → List Copy → ℕ
+came j c k p q l = copiesOf j c (λ m. way k (eqb p) (eqb q) m && m .consumed) l
 
 -- the requests of house q to house p that are not consumed
 abbrev pub asking : (q p : ℕ) → List Request → ℕ
@@ -98,6 +102,9 @@ module _ (B : Wall) (j c : ℕ) where
     -- what house p gave, house q heard, or a copy of it is on its way, or there is an excuse
     pub reaches : Limited B (s .power) → (k : Kind) (p q : ℕ) (v : Decl) → own k (s .house p) ≡ some v → T (right B q)
         → 0 < bit (isSome (heard k p (s .house q))) + (unread j c k p q (s .mail) + excuse (s .power) q p)
+    -- what house q heard from honest house p, a copy brought
+    pub brought : (k : Kind) (p q : ℕ) → T (may j k p) → T (right B p)
+        → bit (isSome (heard k p (s .house q))) ≤ came j c k p q (s .mail)
 
   -- of help
   pub record Helping (w : Power) : Type 0 where
@@ -120,6 +127,8 @@ module _ (B : Wall) (j c : ℕ) where
     pub kept : (k : Kind) (p q : ℕ) → T (may j k p) → (x : ℕ)
         → 0 < bit (isSome (heard k p (s .house q))) + (unread j c k p q (s .mail) + x)
         → 0 < bit (isSome (heard k p (upd (s .house) r (o .entry) q))) + (unread j c k p q mail + x)
+    pub marked : (k : Kind) (p q : ℕ) → came j c k p q (s .mail) ≤ came j c k p q mail
+    pub carried : (k : Kind) (p : ℕ) (v : Decl) → Brings a k p v → T (right B p) → 0 < came j c k p r mail
 
   -- what the view sees of a call on this entry
   abbrev pub acted : View → ℕ → Call → Out → List Copy → View
@@ -346,6 +355,26 @@ module _ (B : Wall) (j c : ℕ) where
                   (and-mk (isKind k k) _ (isKind-refl k) (and-mk (eqb p r) _ (rw (x .0) (eqb-refl r)) (eqb-refl q))) tt)),
             )
 
+    act-brought : (k : Kind) (p q : ℕ) → T (may j k p) → T (right B p)
+        → bit (isSome (heard k p (H′ q))) ≤ came j c k p q (mail ++ posted j c r (o .message) (n B))
+    unfolding H′
+    act-brought k p q m g =
+        omega (
+          arith,
+          tally-append (λ x. onIt j c x && (way k (eqb p) (eqb q) x && x .consumed)) mail (posted j c r (o .message) (n B)),
+          upd-all (λ q x. bit (isSome (heard k p x)) ≤ came j c k p q mail) (s .house) r (o .entry)
+              (here (heard k p (o .entry)) refl) (λ q. old q) q,
+        )
+      where
+        old : (q : ℕ) → bit (isSome (heard k p (s .house q))) ≤ came j c k p q mail
+        old q = omega (arith, I .post .brought k p q m g, A .marked k p q)
+
+        here : (x : Option Decl) → heard k p (o .entry) ≡ x → bit (isSome x) ≤ came j c k p r mail
+        here none e = omega arith
+        here (some v) e =
+            ⊎-elim (λ h. let y : bit (isSome (heard k p (s .house r))) ≡ 1 = rw h in omega (arith, old r))
+            (λ b. omega (arith, A .carried k p v b g)) (A .done .hears k p v e m)
+
     act-list : (g : Entry → Option Decl) (f : ℕ → List Decl) (x : Option Decl) → ((q : ℕ) → f q ≡ listOf (g (s .house q)))
         → push x (listOf (g (s .house r))) ≡ listOf (g (o .entry)) → (q : ℕ) → upd f r (push x (f r)) q ≡ listOf (g (H′ q))
     unfolding H′
@@ -367,9 +396,26 @@ module _ (B : Wall) (j c : ℕ) where
             published = act-list (λ e. e .published) (s .publications) (publication a (o .answer)) (I .books .published)
                 (A .done .moves .publishes);
           };
-          post = record { truthful = act-truthful; at-least = act-at-least; at-most = act-at-most; reaches = act-reaches };
+          post = record {
+            truthful = act-truthful;
+            at-least = act-at-least;
+            at-most = act-at-most;
+            reaches = act-reaches;
+            brought = act-brought;
+          };
           helping = I .helping;
         }
+
+  -- what a copy says, its sender gave
+  pub true-copy : (s : View) → Inv s → (i : ℕ) (m : Copy) → at (s .mail) i ≡ some m → T (onIt j c m)
+      → own (m .kind) (s .house (m .from)) ≡ some (m .decl)
+  true-copy s I i m e t =
+      bcase (true-to (s .house) m) (λ x. holds-eq _ (m .decl) (T-of x))
+      (λ x. absurd (omega (
+        arith,
+        I .post .truthful,
+        tally-at (λ y. onIt j c y && not (true-to (s .house) y)) (s .mail) i m e (and-mk (onIt j c m) _ t (not-of (true-to (s .house) m) x)),
+      )))
 
   -- a call on another entry: it leaves this one, and the count of its copies by any test
   pub else-inv : (s : View) (mail : List Copy) → ((P : Copy → Bool) → copiesOf j c P mail ≡ copiesOf j c P (s .mail)) → Inv s
@@ -392,6 +438,7 @@ module _ (B : Wall) (j c : ℕ) where
             f (λ m. way k (eqb p) (eqb q) m && not (m .consumed)),
             I .post .reaches L k p q v e g,
           );
+          brought = λ k p q m g. omega (arith, f (λ m. way k (eqb p) (eqb q) m && m .consumed), I .post .brought k p q m g);
         };
         helping = I .helping;
       }

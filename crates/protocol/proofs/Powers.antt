@@ -2,7 +2,7 @@
 -- Assumes nothing.
 use mathlib.Core.Path.{_≡_, refl, sym, ap, _∙_}
 use mathlib.Core.Bool.{Bool, true, false, not, cond, _&&_, and-true}
-use mathlib.Core.Option.{Option, none, some}
+use mathlib.Core.Option.{some}
 use mathlib.Core.List.{List, [], _∷_, _++_}
 use Prim.Native.Nat.{ℕ, zero, suc, _+_, _*_, _≤_, _<_}
 use native.Mathlib.Omega.{arith}
@@ -10,17 +10,17 @@ use lib.Dec.{T, eqb, ltb, eqb→eq, eqb-refl, ltb→lt, lt→ltb}
 use Rattle.card.specs.Count.{bit, count}
 use Rattle.card.proofs.Counting.{count-none, count-one, count-pos}
 use Rattle.protocol.specs.Entry.{Decl, Kind, Entry, heard, own, isKind, isSome, holds, upd}
-use Rattle.protocol.specs.Steps.{must}
-use Rattle.protocol.specs.Book.{sameEntry, Book, inBook}
-use Rattle.protocol.specs.Run.{n, Wall, Copy, Request, Power, State, Limited, right, at, changeAt, consumeAt, consumedCopy, copyTo}
+use Rattle.protocol.specs.Steps.{may}
+use Rattle.protocol.specs.Book.{sameEntry, Book}
+use Rattle.protocol.specs.Run.{n, Wall, Copy, Request, Power, State, Limited, right, at, changeAt, consumeAt, consumedCopy}
 use Rattle.protocol.specs.Run.{each, againOn, again, requestTo, setDown, comes, helpAnswer, oneMore, helps, consumedRequest, taken}
 use Rattle.protocol.specs.Run.{tally, onIt, copiesOf}
-use Rattle.protocol.proofs.Basics.{bcase, T-of, T-not-of, true-of, and-l, and-r, and-mk, and-false, isKind-refl, isSome-of, eq-holds}
-use Rattle.protocol.proofs.Basics.{must-zero, must-pass, upd-all, upd-same, upd-other}
+use Rattle.protocol.proofs.Basics.{bcase, T-of, T-not-of, true-of, and-l, and-r, and-mk, and-false, isSome-of, eq-holds}
+use Rattle.protocol.proofs.Basics.{must-zero, must-pass, upd-all, upd-same}
 use Rattle.protocol.proofs.Mail.{tally-append, tally-change}
-use Rattle.protocol.proofs.Sums.{total, total-mono, total-more}
-use Rattle.protocol.proofs.Again.{entry-refl, way, true-to, again-none, on-way, again-le, again-ge}
-use Rattle.protocol.proofs.Invariant.{View, Books, Inv, Helping, unread, asking, excuse, load, burden, cond-mono, bit-le}
+use Rattle.protocol.proofs.Sums.{total-mono, total-more}
+use Rattle.protocol.proofs.Again.{way, true-to, again-none, on-way, again-le, again-ge}
+use Rattle.protocol.proofs.Invariant.{View, Books, Inv, Helping, unread, came, asking, excuse, load, burden, cond-mono, bit-le}
 use Rattle.protocol.proofs.Views.{view}
 
 -- ---- requests
@@ -39,6 +39,11 @@ asking-less l i m e q p =
       tally-change (λ m. (eqb q (m .from) && eqb p (m .to)) && not (m .consumed)) consumedRequest l i m e,
       ap bit (and-false (eqb q (m .from) && eqb p (m .to)) false refl),
     )
+
+-- copies sent leave those that came
+more-came : (j c : ℕ) (k : Kind) (p q : ℕ) (l new : List Copy) → came j c k p q l ≤ came j c k p q (l ++ new)
+more-came j c k p q l new =
+    omega (arith, tally-append (λ m. onIt j c m && (way k (eqb p) (eqb q) m && m .consumed)) l new)
 
 -- ---- the answers of help
 
@@ -164,6 +169,15 @@ module _ (B : Wall) (j c : ℕ) where
           at-least = λ k F Q. omega (arith, same (way k F Q) (λ m. refl), I .post .at-least k F Q);
           at-most = λ k F Q. omega (arith, same (way k F Q) (λ m. refl), I .post .at-most k F Q);
           reaches = λ L k p q v x g. go k p q (I .post .reaches L k p q v x g) (way k (eqb p) (eqb q) m) refl;
+          brought = λ k p q y g. omega (
+            arith,
+            I .post .brought k p q y g,
+            tally-change (λ x. onIt j c x && (way k (eqb p) (eqb q) x && x .consumed)) consumedCopy (u .mail) i m e,
+            bit-le (onIt j c m && (way k (eqb p) (eqb q) m && m .consumed)) (onIt j c m && (way k (eqb p) (eqb q) m && true))
+                (λ t. let z = and-r (onIt j c m) _ t in
+                and-mk (onIt j c m) _ (and-l (onIt j c m) _ t)
+                (and-mk (way k (eqb p) (eqb q) m) true (and-l (way k (eqb p) (eqb q) m) _ z) tt)),
+          );
         };
         helping = I .helping;
       }
@@ -206,6 +220,7 @@ module _ (B : Wall) (j c : ℕ) where
           at-least = I .post .at-least;
           at-most = I .post .at-most;
           reaches = λ L k p q v x g. omega (arith, I .post .reaches L k p q v x g, more p, more q);
+          brought = I .post .brought;
         };
         helping = record { limited = I .helping .limited; pending = I .helping .pending };
       }
@@ -284,6 +299,7 @@ module _ (B : Wall) (j c : ℕ) where
             back-burden (s .power) (n B) r Q (λ p. F p && isSome (own k (u .house p))) (below r g₀),
           );
           reaches = reaches′;
+          brought = λ k p q y g. omega (arith, more-came j c k p q (s .mail) new, I .post .brought k p q y g);
         };
         helping = record { limited = I .helping .limited; pending = pending′ };
       }
@@ -368,6 +384,8 @@ module _ (B : Wall) (j c : ℕ) where
         → copiesOf j c (way k F Q) (s .mail) ≤ burden (s .power) (n B) Q (λ p. F p && isSome (own k (view j c s .house p)))
     pub almost : Limited B (s .power) → (k : Kind) (p₂ q : ℕ) (v : Decl) → own k (view j c s .house p₂) ≡ some v → T (right B q)
         → ((p₂ ≡ r) × (q ≡ p) → ⊥) → Reached (view j c s) k p₂ q
+    pub brought : (k : Kind) (p₂ q : ℕ) → T (may j k p₂) → T (right B p₂)
+        → bit (isSome (heard k p₂ (view j c s .house q))) ≤ came j c k p₂ q (s .mail)
     pub helping : Helping B j c (s .power)
     -- an honest asker has a return for each help and each request, and one more
     pub room : T (right B p) → suc (s .power .helped r p + asking p r (s .power .requests)) ≤ s .power .returned p
@@ -416,6 +434,7 @@ module _ (B : Wall) (j c : ℕ) where
               aid-burden w (n B) r Q p (below r g₀) l (λ p. F p && isSome (own k (u .house p))),
             );
             reaches = reaches′;
+            brought = λ k x y z g. omega (arith, more-came j c k x y (s .mail) new, N .brought k x y z g);
           };
           helping = record { limited = limited′; pending = pending′ };
         }
@@ -467,6 +486,7 @@ module _ (B : Wall) (j c : ℕ) where
                 reaches = λ L k x y v e g. N .almost L k x y v e g (λ d.
                     let h : T (right B p) = rw (d .1) at g in
                     f (help-passes (n B) (B .limit) p (w .helped r p) (below p h) (omega (arith, N .room h, L p h))));
+                brought = N .brought;
               };
               helping = N .helping;
             }
@@ -486,6 +506,7 @@ module _ (B : Wall) (j c : ℕ) where
         at-least = I .post .at-least;
         at-most = I .post .at-most;
         almost = λ L k x y v e g d. I .post .reaches L k x y v e g;
+        brought = I .post .brought;
         helping = I .helping;
         room = λ g. absurd (f g);
       }
@@ -522,6 +543,7 @@ module _ (B : Wall) (j c : ℕ) where
           at-least = I .post .at-least;
           at-most = I .post .at-most;
           almost = almost′;
+          brought = I .post .brought;
           helping = helping′;
           room = λ g. let t = and-mk (eqb (m .from) (m .from)) (eqb (m .to) (m .to)) (eqb-refl (m .from)) (eqb-refl (m .to)) in
               let z : bit ((eqb (m .from) (m .from) && eqb (m .to) (m .to)) && not (m .consumed)) ≡ 1 =
@@ -548,6 +570,7 @@ module _ (B : Wall) (j c : ℕ) where
             reaches = λ L k x y v e g. bcase (eqb x (m .to))
                 (λ t. let one : bit (s .power .down x) ≡ 1 = rw (eqb→eq x (m .to) (T-of t), d) in omega arith)
                 (λ t. almost′ L k x y v e g (λ f. T-not-of t (rw (f .0) (eqb-refl (m .to)))));
+            brought = I .post .brought;
           };
           helping = helping′;
         }

@@ -180,6 +180,7 @@ module _ (B : Wall) (j c : ℕ) (Ψ : (ℕ → Entry) → Type 0)
               at-least = λ k F Q. rw (unsaid k F) (omega arith);
               at-most = λ k F Q. omega arith;
               reaches = λ L k p q v e g. absurd (none-some (own k fresh) v (fresh-own k) e);
+              brought = λ k p q m g. rw (fresh-heard k p) (omega arith);
             };
             helping = record { limited = λ p q. omega arith; pending = λ p q g. omega arith };
           }

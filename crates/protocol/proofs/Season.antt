@@ -23,7 +23,7 @@ use Rattle.protocol.proofs.Mail.{tally-mono, tally-at, copies-split}
 use Rattle.protocol.proofs.Invariant.{View, Inv}
 use Rattle.protocol.proofs.Views.{view}
 use Rattle.protocol.proofs.Runs.{holds-from-start}
-use Rattle.protocol.proofs.Bound.{count-all, one-of, delivered-of, sent-le, safe, bounded}
+use Rattle.protocol.proofs.Bound.{count-all, one-of, delivered-of, sent-le, safe, bounded, single}
 use Rattle.protocol.proofs.Agreement.{Backed, backed, deliver-agree, deliver-authentic}
 use Rattle.protocol.proofs.Totality.{reach, published-ready, delivered-ready-up, ready-delivered, cost-is, readies-are}
 
@@ -140,8 +140,7 @@ module _ (B : Wall) (j c t : ℕ) (s : State)
       exact : Exact B j c s
       exact =
           record {
-            bound = omega (arith, rw (count-all (n B)) at (sent-le B j c v I (λ p. true) (λ q. true) still L));
-            bound-between = sent-le B j c v I (right B) (right B) still L;
+            drained = all-consumed;
             by-count = λ g x e l. full (all-consumed (omega (
               arith,
               copies-split j c (isBetween B) (λ m. m .consumed) (s .mail),
@@ -164,6 +163,7 @@ season B t l j c =
       bounded = bounded B j c s I;
       agreed = λ Y. agreed B j c t s I Y (backed B t Y j c l);
       complete = λ Y L Z D. complete B j c t s I Y (backed B t Y j c l) Z L D;
+      single = single B j c s I;
       exact = λ Y Z still L high. exact B j c t s I Y (backed B t Y j c l) Z L still high;
     }
   where
@@ -228,6 +228,7 @@ claims =
             bounded = S .bounded;
             agreed = λ few. S .agreed (C few);
             complete = λ few L low. S .complete (C few) L (P few e low);
+            single = S .single;
             exact = λ few low. S .exact (C few) (P few e low);
           };
       alone = alone;

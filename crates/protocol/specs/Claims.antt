@@ -1,7 +1,7 @@
 -- What is claimed of every run, of the entry of sender j and number c, in document 01's order.
 -- Assumes nothing.
 use mathlib.Core.Path.{_≡_}
-use mathlib.Core.Bool.{Bool, false}
+use mathlib.Core.Bool.{Bool, false, not, _&&_}
 use mathlib.Core.Logic.{_⊎_}
 use mathlib.Core.Option.{Option, some}
 use mathlib.Core.List.{List, [], _∷_}
@@ -12,7 +12,7 @@ use Rattle.protocol.specs.Entry.{Decl, Entry, Rules, heard}
 use Rattle.protocol.specs.Steps.{Out}
 use Rattle.protocol.specs.Book.{Book, Call, senderOf, numberOf, outcome, after}
 use Rattle.protocol.specs.Run.{n, Wall, Copy, State, Step, right, isUp, h, start, run, at, opens, onIt, copies, readies, between}
-use Rattle.protocol.specs.Run.{consumedBetween, Drained, Limited}
+use Rattle.protocol.specs.Run.{consumedBetween, isBetween, copiesOf, Drained, Limited}
 use Rattle.protocol.specs.Thresholds.{wallOf, AtMost, Tolerated, TakePart, downs}
 
 -- An accepted publication or message changes the named entry alone. Two books that agree on one entry give the same answer, message
@@ -90,10 +90,18 @@ module _ (B : Wall) (j c : ℕ) where
     -- an entry that one honest house delivered, up or not, is delivered by all that are up.
     pub all : (q : ℕ) (v : Decl) → Delivered s q v → Everywhere s v
 
-  -- 01's exact counts, with d = 0 and no house down
-  pub record Exact (s : State) : Type 0 where
+  -- with d = 0, so that no house returns or is helped, and any number of wrong houses: what 01 says of each copy
+  pub record Single (s : State) : Type 0 where
     pub bound : copies j c s ≤ n B + 2 * (h B * n B)
     pub bound-between : between B j c s ≤ h B + 2 * (h B * h B)
+    -- A copy that an honest house sent is accepted where it is consumed: answered 0, so never 7.
+    pub accepted : (i : ℕ) (m : Copy) → at (s .mail) i ≡ some m → T (onIt j c m) → T (right B (m .to)) → m .consumed ≡ false
+        → consuming s m .answer ≡ 0
+
+  -- and with at most t wrong and no house down: 01's exact counts
+  pub record Exact (s : State) : Type 0 where
+    -- once every copy of this entry between honest houses is consumed, it is drained
+    pub drained : copiesOf j c (λ m. isBetween B m && not (m .consumed)) (s .mail) ≡ 0 → Drained B j c s
     pub by-count : T (right B j) → (v : Decl) → Published s v → consumedBetween B j c s ≡ h B + 2 * (h B * h B) → Everywhere s v
     pub cost : Drained B j c s → T (right B j) → (v : Decl) → Published s v → copies j c s ≡ n B + 2 * (h B * n B)
     pub cost-between : Drained B j c s → T (right B j) → (v : Decl) → Published s v → between B j c s ≡ h B + 2 * (h B * h B)
@@ -106,7 +114,7 @@ module _ (B : Wall) (j c : ℕ) where
     pub agreed : Few → Agreed (run B l start)
     pub complete : Few → Limited B (run B l start .power) → Part (run B l start) → Drained B j c (run B l start)
         → Complete (run B l start)
-    -- with d = 0, so that no house returns or is helped, and none down
+    pub single : B .limit ≡ 0 → Limited B (run B l start .power) → Single (run B l start)
     pub exact : Few → Part (run B l start) → B .limit ≡ 0 → Limited B (run B l start .power) → downs B (run B l start) ≡ 0
         → Exact (run B l start)
 

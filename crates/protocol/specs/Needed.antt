@@ -3,10 +3,9 @@
 -- Assumes nothing.
 use mathlib.Core.Path.{_≡_}
 use mathlib.Core.Bool.{true}
-use mathlib.Core.List.{List, [], _∷_, _++_}
-use Prim.Native.Nat.{ℕ, _≤_}
-use Rattle.protocol.specs.Entry.{Decl}
-use Rattle.protocol.specs.Run.{Wall, State, Step, publish, consume, crash, comeback, help, start, run, Drained}
+use mathlib.Core.List.{[], _∷_, _++_}
+use Prim.Native.Nat.{ℕ}
+use Rattle.protocol.specs.Run.{Wall, State, publish, consume, crash, comeback, help, start, run, Drained}
 use Rattle.protocol.specs.Thresholds.{wallOf, AtMost, downs}
 use Rattle.protocol.specs.Claims.{Delivered, Published}
 use Rattle.protocol.specs.Example.{lot, consumeFrom}

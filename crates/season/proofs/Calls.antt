@@ -264,7 +264,7 @@ module _ (H : Houses) where
     own-slot n READY e h = h .readySent
 
     module _ (d : List ℕ) (D : IsOf r d) (Q : ℕ → Bool) where
-      sent-is : (k : Kind) (j c : ℕ) → j < H .n → c < H .numbers
+      pub sent-is : (k : Kind) (j c : ℕ) → j < H .n → c < H .numbers
           → sentOf d (kindNumber k) j c ≡ sending 0 (letters (H .season) j c (saidOf k (own k (look d j c))))
       unfolding sentOf sentOn
       sent-is k j c lj lc =

@@ -1,6 +1,5 @@
 pub mod Mail
 pub mod Calls
 pub mod Steps
+pub mod Outbox
 pub mod Season
-pub mod Example
-pub mod Liar

@@ -111,6 +111,7 @@ module _ (season : ℕ) where
     pub to : m .to ≡ x .to
     pub consumed : m .consumed ≡ x .consumed
     pub read : readOf (m .message) .five ≡ some (fiveFor season (x .sender) (x .number) (x .kind) (x .decl))
+    pub message : m .message ≡ letter season (x .sender) (x .number) (say (x .kind) (x .decl))
     pub decl : IsDecl (x .decl)
 
   pub says-on-it : (j c : ℕ) (m : Copy) (x : protocol.Copy) → Says m x → onIt j c m ≡ protocol.onIt j c x
@@ -120,7 +121,7 @@ module _ (season : ℕ) where
   says-ready m x s = rw (s .read) (ready-number (x .kind))
 
   pub says-consumed : (m : Copy) (x : protocol.Copy) → Says m x → Says (consumedCopy m) (protocol.consumedCopy x)
-  says-consumed m x s = record { from = s .from; to = s .to; consumed = refl; read = s .read; decl = s .decl }
+  says-consumed m x s = record { from = s .from; to = s .to; consumed = refl; read = s .read; message = s .message; decl = s .decl }
 
   -- what a house gave, to the houses that pass Q
   pub mails-to-those : (Q : ℕ → Bool) (r j c : ℕ) (k : Kind) (v : Decl) → IsDecl v → (n : ℕ)
@@ -129,7 +130,7 @@ module _ (season : ℕ) where
     where
       go : (q : ℕ) (t : Bool)
           → Mails Says (cond t (copyTo r (letter season j c (say k v)) q ∷ []) []) (cond t (protocol.copyTo j c r k v q ∷ []) [])
-      go q true = (record { from = refl; to = refl; consumed = refl; read = read-letter season j c k v; decl = d }, tt)
+      go q true = (record { from = refl; to = refl; consumed = refl; read = read-letter season j c k v; message = refl; decl = d }, tt)
       go q false = tt
 
   mails-to-all : (r j c : ℕ) (k : Kind) (v : Decl) → IsDecl v → (n : ℕ)
@@ -137,7 +138,7 @@ module _ (season : ℕ) where
   mails-to-all r j c k v d zero = tt
   mails-to-all r j c k v d (suc q) =
       mails-append Says (toAll r (letter season j c (say k v)) q) (protocol.toAll j c r k v q) _ _ (mails-to-all r j c k v d q)
-      (record { from = refl; to = refl; consumed = refl; read = read-letter season j c k v; decl = d }, tt)
+      (record { from = refl; to = refl; consumed = refl; read = read-letter season j c k v; message = refl; decl = d }, tt)
 
   pub mails-posted : (r j c n : ℕ) (x : Option Say) → ((k : Kind) (v : Decl) → x ≡ some (say k v) → IsDecl v)
       → Mails Says (posted r (letters season j c x) n) (protocol.posted j c r x n)

@@ -3,7 +3,7 @@
 use Prim.Native.Nat.{ℕ, _+_, _*_, _≤_, _<_}
 use mathlib.Core.Path.{_≡_}
 use mathlib.Core.Logic.{_⊎_}
-use mathlib.Core.Bool.{false}
+use mathlib.Core.Bool.{true, false, not, _&&_}
 use mathlib.Core.List.{List, [], _∷_}
 use mathlib.Core.Option.{Option, none, some}
 use lib.Dec.{T}
@@ -19,9 +19,9 @@ use Rattle.meaning.specs.Book.{look}
 use Rattle.meaning.specs.Legal.{IsDecl}
 use Rattle.entry.specs.Entered.{kindOf}
 use Rattle.counter.specs.Call.{published, received}
-use Rattle.counter.specs.Again.{returned}
+use Rattle.counter.specs.Again.{returned, sending, sentOf}
 use Rattle.season.specs.Run.{Houses, isHonest, isWrong, isUp, h, Open, Copy, State, Step, start, run, copies, readies, between}
-use Rattle.season.specs.Run.{consumedBetween, Drained, Limited, downs}
+use Rattle.season.specs.Run.{isBetween, consumedBetween, copiesOf, Drained, Limited, downs}
 
 -- at most t of them wrong, t the largest that fits n and f
 abbrev pub Few : Houses → Type 0
@@ -31,6 +31,20 @@ Few H = count (isWrong H) (H .n) ≤ fitting (H .n) (H .down)
 abbrev pub Stands : List ℕ → (house : ℕ) → Option Five → Type 0
 Stands b p none = ⊥
 Stands b p (some m) = heard (kindOf (m .kind)) p (look b (m .sender) (m .number)) ≡ some (bytesOf (m .declaration))
+
+-- the message is what the book gives of its kind and entry
+abbrev pub Outgoing : List ℕ → Option Five → (message : List ℕ) → Type 0
+Outgoing b none message = ⊥
+Outgoing b (some m) message = sentOf b (m .kind) (m .sender) (m .number) ≡ sending 0 (some message)
+
+-- a copy of the message, from house r to house q
+pub record SentTo (s : State) (r q : ℕ) (message : List ℕ) : Type 0 where
+  pub place : ℕ
+  pub copy : Copy
+  pub posted : at (s .mail) place ≡ some copy
+  pub from : copy .from ≡ r
+  pub to : copy .to ≡ q
+  pub says : copy .message ≡ message
 
 module _ (H : Houses) (j c : ℕ) where
   -- house r delivered v on this entry, and nothing else
@@ -58,6 +72,12 @@ module _ (H : Houses) (j c : ℕ) where
         → (received (s .gave .books (m .to)) (m .from) (m .message) .given .answer ≡ 0)
         ⊎ ((received (s .gave .books (m .to)) (m .from) (m .message) .given .answer ≡ 7)
         × Stands (s .gave .books (m .to)) (m .from) (readOf (m .message) .five))
+    -- The book is its own outbox: it gives every message that its house sent,
+    pub outbox : (i : ℕ) (m : Copy) → at (s .mail) i ≡ some m
+        → T (isHonest H (m .from)) × Outgoing (s .gave .books (m .from)) (readOf (m .message) .five) (m .message)
+    -- and none that its house did not send to all n.
+    pub sent : (r kind : ℕ) → T (isHonest H r) → sentOf (s .gave .books r) kind j c .gives ≡ true
+        → (q : ℕ) → q < H .n → SentTo s r q (sentOf (s .gave .books r) kind j c .message)
     -- A return is answered 0.
     pub returns : (r : ℕ) → T (isHonest H r) → returned (s .gave .books r) .answer ≡ 0
     -- An honest sender's first plausible declaration at a number of the book is accepted.
@@ -88,12 +108,20 @@ module _ (H : Houses) (j c : ℕ) where
     -- an entry that one honest house delivered, up or not, is delivered by all that are up.
     pub all : (q : ℕ) (v : List ℕ) → T (isHonest H q) → Delivered s q v → Everywhere s v
 
-  -- 01's exact counts, with d = 0 and no house down
-  pub record Exact (s : State) : Type 0 where
+  -- with d = 0, so that no house returns or is helped, and any number of wrong houses: what 01 says of each copy
+  pub record Single (s : State) : Type 0 where
     -- In any order of calls the honest houses send at most n + 2hn messages on one entry,
     pub bound : copies j c s ≤ H .n + 2 * (h H * H .n)
     -- and of these at most h + 2h^2 between honest houses.
     pub bound-between : between H j c s ≤ h H + 2 * (h H * h H)
+    -- A copy that an honest house sent is accepted where it is consumed: answered 0, so never 7.
+    pub accepted : (i : ℕ) (m : Copy) → at (s .mail) i ≡ some m → T (isHonest H (m .to)) → m .consumed ≡ false
+        → received (s .gave .books (m .to)) (m .from) (m .message) .given .answer ≡ 0
+
+  -- and with at most t wrong and no house down: 01's exact counts
+  pub record Exact (s : State) : Type 0 where
+    -- Once every copy of this entry between honest houses is consumed, it is drained.
+    pub drained : copiesOf j c (λ m. isBetween H m && not (m .consumed)) s ≡ 0 → Drained H j c s
     -- An accepted publication by an honest sender is delivered at every honest house by the time its h + 2h^2 copies between honest
     -- houses are consumed.
     pub by-count : T (isHonest H j) → (v : List ℕ) → Published s v → consumedBetween H j c s ≡ h H + 2 * (h H * h H) → Everywhere s v
@@ -111,6 +139,7 @@ module _ (H : Houses) (j c : ℕ) where
     pub agreed : Few H → Agreed (run H l (start H))
     pub complete : Few H → Limited H (run H l (start H)) → downs H (run H l (start H)) ≤ H .down → Drained H j c (run H l (start H))
         → Complete (run H l (start H))
+    pub single : H .limit ≡ 0 → Limited H (run H l (start H)) → Single (run H l (start H))
     pub exact : Few H → H .limit ≡ 0 → Limited H (run H l (start H)) → downs H (run H l (start H)) ≡ 0 → Exact (run H l (start H))
 
 -- of every run of houses that opened their books with answer 0, and of every sender and number in the book

@@ -1,4 +1,2 @@
 pub mod Run
 pub mod Claims
-pub mod Example
-pub mod Liar

@@ -1,7 +1,6 @@
 -- `entry::accept` meets its contract.
 -- Assumes nothing.
 use Rattle.entry.specs.Entered.{isThere, wired}
-use Rattle.entry.specs.declared.Outcome.{Outcome}
 use Rattle.protocol.specs.Steps.{given}
 use Prim.Native.Nat.{ℕ}
 use Rattle.lot.specs.Declaration.{bytesOf}

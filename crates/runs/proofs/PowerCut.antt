@@ -28,10 +28,10 @@ use Rattle.meaning.specs.Legal.{legal}
 use Rattle.meaning.specs.Opening.{opened}
 use Rattle.counter.specs.Call.{published, received}
 use Rattle.counter.specs.Again.{returned, sentOf}
 use Rattle.season.specs.Run.{isHonest, opens, run}
-use Rattle.season.specs.Example.{houses, lot, steps, end, Seen, seen, met, Met}
+use Rattle.runs.specs.PowerCut.{houses, lot, steps, end, Seen, seen, met, Met}
 use Rattle.season.specs.Claims.{Everywhere}
 use Rattle.season.proofs.Season.{claims}
 
 computed : seen end ≡ met
 unfolding end seen run published received opened card.houses numbersOk mostLimit downOk mostDown legal meant write sheetAt sheetBytes

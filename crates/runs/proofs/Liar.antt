@@ -20,8 +20,8 @@ use Rattle.meaning.specs.Legal.{legal}
 use Rattle.meaning.specs.Opening.{opened}
 use Rattle.counter.specs.Call.{published, received}
 use Rattle.counter.specs.Again.{returned, sentOf}
 use Rattle.season.specs.Run.{run}
-use Rattle.season.specs.Liar.{end, seen, met}
+use Rattle.runs.specs.Liar.{end, seen, met}
 
 pub computed : seen end ≡ met
 unfolding end seen run published received opened card.houses numbersOk mostLimit downOk mostDown legal meant write sheetAt sheetBytes

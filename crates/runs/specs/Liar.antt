@@ -13,9 +13,9 @@ use Rattle.protocol.specs.Run.{tally}
 use Rattle.meaning.specs.Layout.{lengthOf, echoSlot}
 use Rattle.meaning.specs.Book.{slotIn, helpedOf}
 use Rattle.entry.specs.Entered.{wired}
 use Rattle.season.specs.Run.{Houses, State, Step, publish, consume, wrong, crash, comeback, help, start, run, copiesOf, copies}
 use Rattle.season.specs.Run.{upBetween}
-use Rattle.season.specs.Example.{lot, consumeFrom}
+use Rattle.runs.specs.PowerCut.{lot, consumeFrom}
 
 -- n = 4, S = 1, f = 0, d = 1, season 2026, cap 20 and open gates, houses 0 to 2 honest; each lends zeros
 unfoldable pub houses : Houses

@@ -1,0 +1,115 @@
+-- One run at the bytes with d = 0 and no house down, as in document 01: four houses, one number, house 0 honest and publishing, house 3 a
+-- liar that sends two declarations, forges a READY and hands in bytes that are no message.
+-- Assumes nothing.
+use Prim.Native.Nat.{ℕ}
+use mathlib.Core.Path.{_≡_}
+use mathlib.Core.Bool.{not, _&&_}
+use mathlib.Core.List.{List, [], _∷_}
+use mathlib.Core.Option.{Option, some}
+use lib.Dec.{ltb}
+use lib.ListN.{replicate}
+use Rattle.lot.specs.Declaration.{declarationAt}
+use Rattle.meaning.specs.Layout.{lengthOf, echoSlot, readySlot}
+use Rattle.meaning.specs.Book.{slotIn}
+use Rattle.entry.specs.Entered.{wired}
+use Rattle.season.specs.Run.{Houses, Open, State, Step, publish, consume, wrong, start, run, copiesOf, copies, between, isBetween}
+use Rattle.season.specs.Run.{Limited, downs}
+use Rattle.season.specs.Claims.{Few, Delivered, Published}
+use Rattle.runs.specs.PowerCut.{lot, consumeFrom}
+use Rattle.runs.specs.Liar.{lie}
+
+-- n = 4, S = 1, f = 0, d = 0, season 2026, cap 20 and open gates, houses 0 to 2 honest; each lends zeros
+unfoldable pub houses : Houses
+unfolding lengthOf
+houses =
+    record {
+      n = 4;
+      numbers = 1;
+      down = 0;
+      limit = 0;
+      season = 2026;
+      sheet = 0 ∷ 0 ∷ 0 ∷ 20 ∷ replicate 18 0;
+      honest = λ p. ltb p 3;
+      lent = λ r. replicate (lengthOf 4 1) 0;
+    }
+
+-- a message of the kind on house 0's entry
+abbrev says : ℕ → List ℕ → List ℕ
+says kind v = wired kind 2026 0 0 (declarationAt v 0)
+
+-- The liar sends house 1 a SEND on house 0's entry, house 2 an ECHO before the SEND is heard, and two bytes under a number not below n.
+-- When house 1 has two ECHOes of the lot, the liar sends it an ECHO of the lie and then of the lot, and house 2 a READY of the lie. A READY
+-- under an honest house's number, and a copy consumed again, are no steps of a run.
+unfoldable pub steps : List Step
+unfolding consumeFrom
+steps =
+    wrong 3 1 (says 1 lie) ∷ wrong 3 2 (says 2 lot) ∷ wrong 9 2 (1 ∷ 0 ∷ []) ∷ publish 0 0 lot
+    ∷ consume 0 ∷ consume 1 ∷ consume 2 ∷ consume 5 ∷ consume 9 ∷ wrong 3 1 (says 2 lie) ∷ wrong 3 1 (says 2 lot)
+    ∷ wrong 3 2 (says 3 lie) ∷ wrong 1 2 (says 3 lie) ∷ consumeFrom 0 28
+
+unfoldable pub end : State
+unfolding houses steps
+end = run houses steps (start houses)
+
+-- what is read off a state
+pub record Seen : Type 0 where
+  pub publications : List (List ℕ)
+  -- at house 2
+  pub deliveries : List (List ℕ)
+  pub copies : ℕ
+  pub between : ℕ
+  -- of these not consumed
+  pub left : ℕ
+  pub down : ℕ
+  pub returned : ℕ → ℕ
+  -- in house 1's book and in house 2's, the liar's ECHO; in house 2's its READY, and house 1's
+  pub first-echo : Option (List ℕ)
+  pub other-echo : Option (List ℕ)
+  pub forged : Option (List ℕ)
+  pub honest : Option (List ℕ)
+
+unfoldable pub seen : State → Seen
+unfolding houses
+seen s =
+    record {
+      publications = s .gave .publications 0 0 0;
+      deliveries = s .gave .deliveries 2 0 0;
+      copies = copies 0 0 s;
+      between = between houses 0 0 s;
+      left = copiesOf 0 0 (λ m. isBetween houses m && not (m .consumed)) s;
+      down = downs houses s;
+      returned = s .power .returned;
+      first-echo = slotIn (s .gave .books 1) 0 0 (echoSlot 3);
+      other-echo = slotIn (s .gave .books 2) 0 0 (echoSlot 3);
+      forged = slotIn (s .gave .books 2) 0 0 (readySlot 4 3);
+      honest = slotIn (s .gave .books 2) 0 0 (readySlot 4 1);
+    }
+
+-- three honest, honest sender, 28 copies; the first ECHO that the liar sent house 1, and not its second
+abbrev pub met : Seen
+met =
+    record {
+      publications = lot ∷ [];
+      deliveries = lot ∷ [];
+      copies = 28;
+      between = 21;
+      left = 0;
+      down = 0;
+      returned = λ r. 0;
+      first-echo = some lie;
+      other-echo = some lot;
+      forged = some lie;
+      honest = some lot;
+    }
+
+-- the premises of 01's exact counts are met, by a run in which the liar is heard
+pub record Met : Type 0 where
+  pub computed : seen end ≡ met
+  pub opened : Open houses
+  pub few : Few houses
+  pub still : houses .limit ≡ 0
+  pub limited : Limited houses end
+  pub high : downs houses end ≡ 0
+  pub published : Published houses 0 0 end lot
+  pub consumed : copiesOf 0 0 (λ m. isBetween houses m && not (m .consumed)) end ≡ 0
+  pub delivered : Delivered houses 0 0 end 2 lot
