@@ -6,7 +6,7 @@ use crate::tell::byte_at;
 use crate::tell::copy;
 use crate::tell::put_byte;
 
-// A byte each: n, how many of the houses are honest (the first), d; copies between honest houses, copies of a READY.
+// A byte each: n, how many houses are honest, which are the first, and d; the copies between honest houses, the copies of a READY.
 pub const N: u16 = 0;
 
 pub const HONEST: u16 = 1;
@@ -24,7 +24,7 @@ pub const RETURNS: u16 = 12;
 
 pub const DELIVERED: u16 = 16;
 
-// The lists: how many there are, and from one LISTED further on each.
+// The lists, with room for 12 requests and 49 copies: how many there are, and from one LISTED further on each.
 pub const REQUESTS: u16 = 20;
 
 pub const COPIES: u16 = 530;
@@ -62,6 +62,7 @@ fn count_if(post: &mut [u8], what: u16, is_one: bool) {
     }
 }
 
+// A copy of this kind to this house: a message is given by honest houses only.
 fn count_copy(post: &mut [u8], to: u8, kind: u8) {
     count_if(post, BETWEEN, to < get(post, HONEST, 0));
     count_if(post, READYS, kind == READY);

@@ -1,5 +1,5 @@
 // A season, call by call: messages given are posted, a copy to each house, and copies come to their houses, or are lost where one is down.
-// It is written as its steps, five characters each, with houses, copies and requests by their numbers; copies count from 1, as requests do:
+// It is written as its steps, five characters each, with houses, copies and requests by their numbers; copies and requests count from 1:
 //   p0    house 0 publishes          c07   copy 7 comes          a07   copy 7 and all after it come, each in its turn
 //   d0    house 0 goes down          r0    it returns            h2    request 2 comes
 // A step that begins with a digit is what house 0 receives from wrong house 3, or a number not below n:
@@ -209,6 +209,7 @@ fn come_back(books: &[u8], post: &mut [u8], house: u8) {
 
 // ---- what a wrong house hands in, under its own number or one that is not below n
 
+// What it receives may give a message, or be helped, as any other.
 fn hand_in(books: &mut [u8], post: &mut [u8], house: u8, from: u8, message: &[u8]) {
     let o = receive_at(books, get(post, N, 0), house, words::wide(from), message);
     follow(books, post, house, from, o);
@@ -236,8 +237,9 @@ fn plead(books: &mut [u8], post: &mut [u8], house: u8, from: u8) {
 }
 
 fn babble(books: &mut [u8], post: &mut [u8], house: u8, from: u8) {
+    let bytes: [u8; 2] = [1, 0];
     say(b"  lie: ");
-    hand_in(books, post, house, from, b"noise");
+    hand_in(books, post, house, from, &bytes);
 }
 
 // ---- a run
@@ -326,6 +328,7 @@ fn say_houses(post: &[u8]) {
     }
 }
 
+// A product, with a bound by which sums of it fit.
 fn times(a: u32, b: u8) -> u32
     requires { ⌜ a < 65536 ⌝ }
     ensures { λ r. ⌜ r ≤ a * 255 ⌝ }

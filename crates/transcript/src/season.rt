@@ -17,9 +17,11 @@ pub fn show_lied() {
 // What is claimed of such a season, as it stands at its end.
 fn say_drained() {
     say(
-        b"  at most f honest houses are down, none returned more than d times, and between houses that are up no copy and no request\n",
+        b"  at most f honest houses are down and the sender is not, none returned more than d times, no copy and no request between\n",
     );
-    say(b"  is left: each house that is up has delivered what the sender published\n");
+    say(
+        b"  houses that are up is left: each house that is up has delivered what the sender published\n",
+    );
 }
 
 pub fn show_sender() {
@@ -36,7 +38,7 @@ pub fn show_sender() {
     say_drained();
 }
 
-// The steps of crates/season/specs/Example.antt, where what comes of them is computed as a theorem.
+// The steps of crates/runs/specs/PowerCut.antt, where what comes of them is computed as a theorem.
 pub fn show_cut() {
     say(
         b"\nA power cut: house 2 is down as the SEND comes and returns, house 1 is down at the end\n",
@@ -51,7 +53,7 @@ pub fn show_cut() {
     say_drained();
 }
 
-// The steps of crates/season/specs/Liar.antt; the lie here is about the moisture.
+// The steps of crates/runs/specs/Liar.antt; the lie here is about the moisture.
 pub fn show_liar() {
     say(
         b"\nA power cut and a liar: house 1 is down as the SEND comes and returns, house 3 lies and asks twice\n",
