@@ -7,6 +7,7 @@ use crate::tell::hear;
 use crate::tell::lot_77;
 use crate::tell::open;
 use crate::tell::open_sheet;
+use crate::tell::open_with;
 use crate::tell::say;
 
 // ---- receiving
@@ -141,6 +142,77 @@ fn show_unread(book: &mut [u8]) {
     more_with_1(book);
 }
 
+// ---- receiving a request
+
+fn requesting(text: &[u8], book: &mut [u8], house: u32, season: u32) {
+    let request = message::write_request(season);
+    say(text);
+    let o = counter::receive(book, house, &request);
+    end_answer(o.answer);
+}
+
+// A request with one byte more.
+fn requesting_long(text: &[u8], book: &mut [u8], house: u32) {
+    let bytes: [u8; 12] = [1, 0, 1, 9, 2, 0, 4, 0, 0, 7, 234, 0];
+    say(text);
+    let o = counter::receive(book, house, &bytes);
+    end_answer(o.answer);
+}
+
+fn show_requesting(book: &mut [u8]) {
+    say(b"\nTwo errors at once, receiving a request: 1 to 4 in order, then 14\n");
+    open_with(book, 4, 0, 0, 0);
+    requesting(b"  14 alone: house 1", book, 1, 2026);
+    open_with(book, 4, 0, 0, 1);
+    requesting(b"  none: house 1", book, 1, 2026);
+    requesting(b"  14 alone: house 1 again", book, 1, 2026);
+}
+
+fn show_requested(book: &mut [u8]) {
+    requesting_long(b"  2 and 4: 12 bytes, house 4", book, 4);
+    requesting_long(b"  2 and 14: 12 bytes, house 1 again", book, 1);
+    requesting(b"  3 and 4: season 2025, house 4", book, 4, 2025);
+    requesting(b"  3 and 14: season 2025, house 1 again", book, 1, 2025);
+    say(b"  4 and 14 never: the book counts its helps for houses 0 to n - 1 only\n");
+}
+
+fn show_unrequested(book: &mut [u8]) {
+    say(b"  now the book's first byte, n, is spoilt\n");
+    spoil(book);
+    requesting_long(b"  1 and 2: 12 bytes", book, 1);
+    requesting(b"  1 and 3: season 2025", book, 2, 2025);
+    requesting(b"  1 and 4: house 4", book, 4, 2026);
+    requesting(b"  1 and 14: house 1 again", book, 1, 2026);
+}
+
+// ---- returning, and what was sent
+
+fn returning(text: &[u8], book: &[u8]) {
+    say(text);
+    end_answer(counter::come_back(book).answer);
+}
+
+fn sent(text: &[u8], book: &[u8], kind: u8, sender: u32) {
+    say(text);
+    end_answer(counter::sent_on(book, kind, sender, 0).answer);
+}
+
+fn show_sent(book: &mut [u8]) {
+    say(b"\nTwo errors at once, a return: 1; what a house sent: 1, 2, 4\n");
+    open_with(book, 4, 0, 0, 1);
+    returning(b"  none: a return", book);
+    sent(b"  none: kind 3, sender 3", book, 3, 3);
+    sent(b"  2 and 4: kind 4, sender 4", book, 4, 4);
+}
+
+fn show_unsent(book: &mut [u8]) {
+    say(b"  now the book's first byte, n, is spoilt\n");
+    spoil(book);
+    returning(b"  1 alone: a return", book);
+    sent(b"  1 and 2: kind 0", book, 0, 3);
+    sent(b"  1 and 4: sender 4", book, 3, 4);
+}
+
 // ---- publishing
 
 fn publishing(text: &[u8], book: &mut [u8], number: u32, kilograms: u32) {
@@ -183,10 +255,10 @@ fn crossed_sheet() -> [u8; 22] {
     sheet
 }
 
-// One number.
-fn opening(text: &[u8], book: &mut [u8], n: u32, own: u32, sheet: &[u8]) {
+// One number, and d at zero.
+fn opening(text: &[u8], book: &mut [u8], n: u32, own: u32, f: u32, sheet: &[u8]) {
     say(text);
-    end_answer(book::open_book(book, n, 1, own, 0, 0, 2026, sheet));
+    end_answer(book::open_book(book, n, 1, own, f, 0, 2026, sheet));
 }
 
 fn open_badly(book: &mut [u8], sheet: &[u8]) {
@@ -196,6 +268,15 @@ fn open_badly(book: &mut [u8], sheet: &[u8]) {
         book,
         17,
         0,
+        0,
+        sheet,
+    );
+    opening(
+        b"  9 and 10: 4 houses, f 2, between 21.0 and 14.0",
+        book,
+        4,
+        0,
+        2,
         sheet,
     );
     opening(
@@ -203,14 +284,16 @@ fn open_badly(book: &mut [u8], sheet: &[u8]) {
         book,
         5,
         0,
+        0,
         sheet,
     );
 }
 
 fn open_wrongly(book: &mut [u8], sheet: &[u8]) {
-    opening(b"  9 and 11: 5 houses, own number 5", book, 5, 5, sheet);
-    opening(b"  11 alone: 5 houses", book, 5, 0, sheet);
-    opening(b"  none: 4 houses", book, 4, 0, sheet);
+    opening(b"  9 and 11: 5 houses, own number 5", book, 5, 5, 0, sheet);
+    opening(b"  9 and 11: 5 houses, f 5", book, 5, 0, 5, sheet);
+    opening(b"  11 alone: 5 houses", book, 5, 0, 0, sheet);
+    opening(b"  none: 4 houses", book, 4, 0, 0, sheet);
 }
 
 pub fn show_judging() {
@@ -227,6 +310,14 @@ pub fn show_calls(book: &mut [u8]) {
     show_publishing(book);
     show_published(book);
     show_unpublished(book);
+}
+
+pub fn show_requests(book: &mut [u8]) {
+    show_requesting(book);
+    show_requested(book);
+    show_unrequested(book);
+    show_sent(book);
+    show_unsent(book);
 }
 
 pub fn show_opening(book: &mut [u8]) {

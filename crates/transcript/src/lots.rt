@@ -5,6 +5,8 @@ use crate::tell::copy;
 use crate::tell::end_answer;
 use crate::tell::lot_77;
 use crate::tell::open;
+use crate::tell::open_sheet;
+use crate::tell::open_with;
 use crate::tell::put_byte;
 use crate::tell::sample;
 use crate::tell::say;
@@ -16,27 +18,32 @@ use lot::Gate;
 use lot::Sheet;
 use message::Reading;
 
-fn say_column(n: u32, counts: Counts) {
+fn say_column(n: u32, f: u32, counts: Counts) {
     say_with(b"  ", n as u64);
-    say_with(b" houses: t ", counts.t as u64);
+    say_with(b" houses, f ", f as u64);
+    say_with(b": t ", counts.t as u64);
     say_with(b", echo quorum ", counts.quorum as u64);
+    say_with(b", READY at ", counts.amplify as u64);
+    say_with(b", delivery at ", counts.deliver as u64);
     say(b"\n");
 }
 
-// A column of the wall card.
-fn show_column(n: u32) {
+// The counts for n houses of which f may be down.
+pub fn show_column(n: u32, f: u32) {
     if card::is_houses(n) {
-        if card::is_down(n, 0) {
-            say_column(n, card::counts_of(n as usize, 0));
+        if card::is_down(n, f) {
+            say_column(n, f, card::counts_of(n as usize, f as usize));
         }
     }
 }
 
 pub fn show_card() {
     say(b"The wall card\n");
-    show_column(4);
-    show_column(5);
-    show_column(16);
+    show_column(4, 0);
+    show_column(5, 0);
+    show_column(16, 0);
+    show_column(6, 1);
+    show_column(16, 4);
 }
 
 // The length of a book of n houses and S numbers.
@@ -58,6 +65,31 @@ pub fn show_lengths() {
     show_length_of(16, 4);
     show_length_of(17, 1);
     show_length_of(16, 5);
+}
+
+// A book opened with f and d, on bytes of its length.
+fn show_opened(buffer: &mut [u8], n: u32, f: u32, d: u32) {
+    say_with(b"  ", n as u64);
+    say_with(b" houses, f ", f as u64);
+    say_with(b", d ", d as u64);
+    let found = book::length_of(n, 1);
+    let first = 0;
+    let end = found.length as usize;
+    let sheet = open_sheet(20);
+    if end <= buffer.len() {
+        end_answer(book::open_book(&mut buffer[first..end], n, 1, 0, f, d, 2026, &sheet));
+    }
+}
+
+pub fn show_openings(buffer: &mut [u8]) {
+    say(b"\nOpening with f, at most 4 and less than half of n, and d, at most 8\n");
+    show_opened(buffer, 11, 4, 8);
+    show_opened(buffer, 11, 5, 8);
+    show_opened(buffer, 11, 4, 9);
+    show_opened(buffer, 9, 4, 8);
+    show_opened(buffer, 8, 4, 8);
+    show_opened(buffer, 3, 1, 0);
+    show_opened(buffer, 2, 1, 0);
 }
 
 fn say_verdict(answer: u8) {
@@ -181,6 +213,9 @@ pub fn show_sample() {
 // ---- malformed messages
 
 fn reader_answer(bytes: &[u8]) -> u8 {
+    if message::is_request(bytes) {
+        return 0;
+    }
     let Reading::Message {
         kind,
         season,
@@ -231,12 +266,13 @@ fn show_kind(bytes: &mut [u8], kind: u8, book: &mut [u8]) {
     show_cut(bytes, 36, book);
 }
 
-// 35 and 37 bytes, kinds 0 and 4; then the message as it should be.
+// 35 and 37 bytes, kinds 0, 4 and 9; then the message as it should be.
 fn show_malformed(bytes: &mut [u8], book: &mut [u8]) {
     show_length(bytes, 35, book);
     show_length(bytes, 37, book);
     show_kind(bytes, 0, book);
     show_kind(bytes, 4, book);
+    show_kind(bytes, 9, book);
     show_kind(bytes, 1, book);
 }
 
@@ -247,6 +283,40 @@ pub fn show_bytes(bytes: &mut [u8], book: &mut [u8]) {
     open(book, 4, 1, 0, 20);
     let written = message::write_message(SEND, 2026, 2, 0, sample());
     let message = written.message;
-    copy(bytes, 0, message);
+    copy(bytes, 0, &message);
     show_malformed(bytes, book);
+}
+
+// ---- a request for help
+
+// What reading a request gives: its kind and its season.
+fn show_request_read(bytes: &[u8]) {
+    if message::is_request(bytes) {
+        if 11 <= bytes.len() {
+            let season = words::word_at(bytes, 7);
+            say_with(b"  reads: answer 0, kind 9, season ", season as u64);
+            say(b"\n");
+        }
+    }
+}
+
+// 10, 11 and 12 bytes; then 11 bytes with kind 1.
+fn show_cut_requests(bytes: &mut [u8], book: &mut [u8]) {
+    show_length(bytes, 10, book);
+    show_length(bytes, 11, book);
+    show_length(bytes, 12, book);
+    put_byte(bytes, 3, SEND);
+    say(b"  kind 1 in 11 bytes,");
+    show_cut(bytes, 11, book);
+}
+
+pub fn show_request(bytes: &mut [u8], book: &mut [u8]) {
+    say(b"\nA request for help: as it should be, cut, lengthened, and with another kind\n");
+    let request = message::write_request(2026);
+    say(b"  written:");
+    say_bytes(&request);
+    show_request_read(&request);
+    open_with(book, 4, 0, 0, 1);
+    copy(bytes, 0, &request);
+    show_cut_requests(bytes, book);
 }

@@ -94,8 +94,12 @@ fn say_kind(kind: u8) {
     }
 }
 
-// A message's kind, and its lot by the moisture reading.
+// A request; or a message's kind, and its lot by the moisture reading.
 pub fn say_message(bytes: &[u8]) {
+    if message::is_request(bytes) {
+        say(b"a request");
+        return;
+    }
     let Reading::Message {
         kind,
         season,
@@ -108,17 +112,21 @@ pub fn say_message(bytes: &[u8]) {
         conductivity,
     } = message::read_message(bytes)
     else {
-        say(b"no message");
+        say(b"bytes that are no message");
         return;
     };
     say_kind(kind);
     say_moisture(moisture);
 }
 
-fn say_given(gives: bool, message: [u8; 36]) {
+fn say_given(gives: bool, helps: bool, message: [u8; 36]) {
     if gives {
         say(b", gives ");
         say_message(&message);
+        return;
+    }
+    if helps {
+        say(b", helps");
         return;
     }
     say(b", gives nothing");
@@ -137,7 +145,7 @@ pub fn say_outcome(o: Outcome) {
     if o.answer == 0 {
         let message = o.message;
         let declaration = o.declaration;
-        say_given(o.gives, message);
+        say_given(o.gives, o.helps, message);
         say_delivered(o.delivers, declaration);
     }
     say(b"\n");
@@ -184,6 +192,17 @@ pub fn open(book: &mut [u8], n: u32, s: u32, own: u32, cap: u32) {
     end_answer(book::open_book(book, n, s, own, 0, 0, 2026, &sheet));
 }
 
+// The same with f and d, for one number and a cap of 20.
+pub fn open_with(book: &mut [u8], n: u32, own: u32, f: u32, d: u32) {
+    say_with(b"  house ", own as u64);
+    say_with(b" of ", n as u64);
+    say_with(b" opens a book of ", book.len() as u64);
+    say_with(b" bytes, cap 20, f ", f as u64);
+    say_with(b", d ", d as u64);
+    let sheet = open_sheet(20);
+    end_answer(book::open_book(book, n, 1, own, f, d, 2026, &sheet));
+}
+
 // A message of season 2026, written, handed to a book under a house's number, and what came of it.
 pub fn hear_lot(book: &mut [u8], from: u32, kind: u8, sender: u8, number: u8, d: Declaration) {
     let written = message::write_message(kind, 2026, sender, number, d);
@@ -209,6 +228,14 @@ pub fn publish(book: &mut [u8], d: Declaration) -> Outcome {
     o
 }
 
+// The byte at i, or 0 past the end.
+pub fn byte_at(s: &[u8], i: usize) -> u8 {
+    if i < s.len() {
+        return s[i];
+    }
+    0
+}
+
 // Writes one byte, where there is room.
 pub fn put_byte(to: &mut [u8], i: usize, byte: u8) {
     if i < to.len() {
@@ -216,11 +243,11 @@ pub fn put_byte(to: &mut [u8], i: usize, byte: u8) {
     }
 }
 
-// Writes a message's bytes from `at` on, where there is room.
-pub fn copy(to: &mut [u8], at: u32, message: [u8; 36]) {
+// Writes a message's bytes from `at` on, zeros after them up to 36, where there is room.
+pub fn copy(to: &mut [u8], at: u32, message: &[u8]) {
     let mut i = 0;
     while i < 36 {
-        put_byte(to, at as usize + i, message[i]);
+        put_byte(to, at as usize + i, byte_at(message, i));
         i += 1;
     }
 }

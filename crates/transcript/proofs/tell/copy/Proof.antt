@@ -19,8 +19,8 @@ loop-holds c = search needs
 add-put-byte : tie.Need-add-put-byte Inv-loop μ-loop
 add-put-byte c = search needs
 
-array-read-put-byte : tie.Need-array-read-put-byte Inv-loop μ-loop
-array-read-put-byte c = search needs
+byte-at-requires : tie.Need-byte-at-requires Inv-loop μ-loop
+byte-at-requires c κs = search needs
 
 put-byte-requires : tie.Need-put-byte-requires Inv-loop μ-loop
 put-byte-requires c κs = search needs
@@ -48,7 +48,7 @@ copy-spec =
     μ-loop
     loop-holds
     add-put-byte
-    array-read-put-byte
+    byte-at-requires
     put-byte-requires
     add-i
     loop-less

@@ -1,26 +1,26 @@
--- `transcript::season::carry` meets its contract: the loop ends at the last house.
+-- `transcript::run::consume_from` meets its contract: the loop ends past what two digits can name.
 -- Assumes nothing.
 use Prim.Native.Nat.{_-_}
 use mathlib.Core.Path.{_≡_}
 use lib.ListN.{length}
 use borrow.Author.Needs.{needs}
-use Rattle.transcript.proofs.season.carry.Statement.{statement}
-use Rattle.transcript.proofs.season.carry.Tie as tie
+use Rattle.transcript.proofs.run.consume_from.Statement.{statement}
+use Rattle.transcript.proofs.run.consume_from.Tie as tie
 
 abbrev Inv-loop : tie.InvT-loop
-Inv-loop books₀ queue₀ _ _ _ _ _ books queue _ _ = (length books ≡ length books₀) × (length queue ≡ length queue₀)
+Inv-loop books₀ post₀ _ _ books post k = (length books ≡ length books₀) × (length post ≡ length post₀)
 
 abbrev μ-loop : tie.MeasureT-loop
-μ-loop _ _ _ _ _ _ _ _ _ _ house = 4 - house
+μ-loop books₀ post₀ _ _ books post k = 100 - k
 
 loop-holds : tie.Need-loop-holds Inv-loop μ-loop
 loop-holds c = search needs
 
-consume-requires : tie.Need-consume-requires Inv-loop μ-loop
-consume-requires c κs = search needs
+consume-sent-requires : tie.Need-consume-sent-requires Inv-loop μ-loop
+consume-sent-requires c κs = search needs
 
-add-house : tie.Need-add-house Inv-loop μ-loop
-add-house c = search needs
+add-k : tie.Need-add-k Inv-loop μ-loop
+add-k c = search needs
 
 loop-less : tie.Need-loop-less Inv-loop μ-loop
 loop-less c = search needs
@@ -37,15 +37,15 @@ same-length-2 c = search needs
 returns : tie.Need-returns Inv-loop μ-loop
 returns c = search needs
 
-pub carry-spec : {M : Type 1} → statement M
-carry-spec =
+pub consume-from-spec : {M : Type 1} → statement M
+consume-from-spec =
     tie.close
     (tie.spec
     Inv-loop
     μ-loop
     loop-holds
-    consume-requires
-    add-house
+    consume-sent-requires
+    add-k
     loop-less
     loop-again
     same-length

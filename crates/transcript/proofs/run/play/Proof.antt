@@ -1,35 +1,32 @@
--- `transcript::season::drain` meets its contract: the loop ends where the queue has no more room.
+-- `transcript::run::play` meets its contract: the loop ends at the most steps that it takes.
 -- Assumes nothing.
 use Prim.Native.Nat.{_-_}
 use mathlib.Core.Path.{_≡_}
 use lib.ListN.{length}
 use borrow.Author.Needs.{needs}
-use Rattle.transcript.proofs.season.drain.Statement.{statement}
-use Rattle.transcript.proofs.season.drain.Tie as tie
+use Rattle.transcript.proofs.run.play.Statement.{statement}
+use Rattle.transcript.proofs.run.play.Tie as tie
 
 abbrev Inv-loop : tie.InvT-loop
-Inv-loop books₀ queue₀ _ _ _ _ books queue _ _ = (length books ≡ length books₀) × (length queue ≡ length queue₀)
+Inv-loop books₀ post₀ _ _ books post i = (length books ≡ length books₀) × (length post ≡ length post₀)
 
 abbrev μ-loop : tie.MeasureT-loop
-μ-loop _ _ _ _ _ _ _ _ _ k = 16 - k
+μ-loop books₀ post₀ _ _ books post i = 24 - i
 
 loop-holds : tie.Need-loop-holds Inv-loop μ-loop
 loop-holds c = search needs
 
-carry-next-requires : tie.Need-carry-next-requires Inv-loop μ-loop
-carry-next-requires c κs = search needs
+step-at-requires : tie.Need-step-at-requires Inv-loop μ-loop
+step-at-requires c κs = search needs
 
-add-k : tie.Need-add-k Inv-loop μ-loop
-add-k c = search needs
+add-i : tie.Need-add-i Inv-loop μ-loop
+add-i c = search needs
 
 loop-less : tie.Need-loop-less Inv-loop μ-loop
 loop-less c = search needs
 
 loop-again : tie.Need-loop-again Inv-loop μ-loop
 loop-again c = search needs
-
-say-copies-requires : tie.Need-say-copies-requires Inv-loop μ-loop
-say-copies-requires c κs = search needs
 
 same-length : tie.Need-same-length Inv-loop μ-loop
 same-length c = search needs
@@ -40,18 +37,17 @@ same-length-2 c = search needs
 returns : tie.Need-returns Inv-loop μ-loop
 returns c = search needs
 
-pub drain-spec : {M : Type 1} → statement M
-drain-spec =
+pub play-spec : {M : Type 1} → statement M
+play-spec =
     tie.close
     (tie.spec
     Inv-loop
     μ-loop
     loop-holds
-    carry-next-requires
-    add-k
+    step-at-requires
+    add-i
     loop-less
     loop-again
-    say-copies-requires
     same-length
     same-length-2
     returns)
