@@ -218,7 +218,11 @@ single B j c s I still L =
               (and-mk (way k F Q m) _ (way-refl m) (not-of (m .consumed) u))),
           copies-split (m .sender) (m .number) (way k F Q) (λ x. x .consumed) (s .mail),
           way-le B (m .sender) (m .number) u₀ J k F Q 1
-              (λ p x. omega (arith, no-more B (m .sender) (m .number) u₀ J Q still L p x, at-one Q (m .to) (λ q t. sym (eqb→eq (m .to) q t)))),
+              (λ p x. omega (
+                arith,
+                no-more B (m .sender) (m .number) u₀ J Q still L p x,
+                at-one Q (m .to) (λ q t. sym (eqb→eq (m .to) q t)),
+              )),
           at-one (λ p. F p && isSome (own k (u₀ .house p))) (m .from) (λ p t. sym (eqb→eq (m .from) p (and-l (F p) _ t))),
         )
       where

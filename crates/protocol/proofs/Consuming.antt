@@ -153,7 +153,8 @@ module _ (B : Wall) (s : State) (i : ℕ) (m : Copy)
             ap bit (true-of (onIt j c m && (way k (eqb p) (eqb r) m && true))
             (and-mk (onIt j c m) _ it (and-mk (way k (eqb p) (eqb r) m) true its-way tt))) in
             let zero : bit (onIt j c m && (way k (eqb p) (eqb r) m && m .consumed)) ≡ 0 =
-            ap bit (and-false (onIt j c m) (way k (eqb p) (eqb r) m && m .consumed) (and-false (way k (eqb p) (eqb r) m) (m .consumed) t)) in
+            ap bit (and-false (onIt j c m) (way k (eqb p) (eqb r) m && m .consumed)
+            (and-false (way k (eqb p) (eqb r) m) (m .consumed) t)) in
             omega (arith, marks k p r))
 
         kept′ : (l : Kind) (q u : ℕ) → T (may j l q) → (x : ℕ)

@@ -414,7 +414,8 @@ module _ (B : Wall) (j c : ℕ) where
       (λ x. absurd (omega (
         arith,
         I .post .truthful,
-        tally-at (λ y. onIt j c y && not (true-to (s .house) y)) (s .mail) i m e (and-mk (onIt j c m) _ t (not-of (true-to (s .house) m) x)),
+        tally-at (λ y. onIt j c y && not (true-to (s .house) y)) (s .mail) i m e
+            (and-mk (onIt j c m) _ t (not-of (true-to (s .house) m) x)),
       )))
 
   -- the same books, with another mail and other power
