@@ -48,6 +48,11 @@ longest-here : lengthAnswer 16 4 ≡ record { answer = 0; length = 47171 }
 unfolding lengthAnswer houses numbersOk lengthOf
 longest-here = refl
 
+-- at 31 houses it would be within request 2026-06's 180,224 bytes
+later-here : lengthOf 31 4 ≡ 169406
+unfolding lengthOf
+later-here = refl
+
 opened-here : opened (replicate 158 9) 1 1 0 0 8 2026 sheet ≡ record { answer = 0; book = freshly }
 unfolding opened downOk houses numbersOk lengthOf isSheet gateLegal sheetAt sheetBytes write ofBits toBits mostLimit
 opened-here = refl
