@@ -10,7 +10,7 @@ use borrow.Author.Tests.{eq-eqb, ne-eqb, lt-ltb, le-ltb}
 use Rattle.lot.specs.declared.Sheet.{Sheet}
 use Rattle.lot.specs.declared.Declaration.{Declaration}
 use Rattle.lot.specs.Declaration.{bytesOf}
-use Rattle.lot.specs.Sheet.{plausible}
+use Rattle.lot.specs.Sheet.{sheetLegal, plausible}
 use Rattle.sheet.specs.Kept.{sheetAt}
 use Rattle.protocol.specs.Entry.{Decl, Kind, heard}
 use Rattle.protocol.specs.Steps.{may, recording, receiveAnswer}
@@ -18,8 +18,10 @@ use Rattle.protocol.specs.Book.{receiving}
 use Rattle.protocol.specs.Thresholds.{rulesOf}
 use Rattle.meaning.specs.Slot.{slotAt}
 use Rattle.meaning.specs.Book.{nOf, numbersOf, ownOf, look, meant, sheetPlace}
-use Rattle.meaning.specs.Legal.{IsDecl}
+use Rattle.meaning.specs.Legal.{legal, IsDecl}
 use Rattle.meaning.specs.Layout.{heardSlot}
+use Rattle.meaning.proofs.Legality.{legal-facts}
+use Rattle.sheet.proofs.Gates.{legal-sheet}
 use Rattle.entry.specs.Entered.{kindOf, okBy, rulesBy}
 use Rattle.counter.specs.Call.{fromAnswer, lotAnswer, stepOf}
 use Rattle.entry.specs.Places.{placeIn, Has, Begins}
@@ -48,6 +50,10 @@ module _ (b : List ℕ) (j c p kind : ℕ) (v : Decl) where
 
   pub from-voucher : (kind ≡ 1 → ⊥) → (r : ℕ) → r ≡ recording (heard k p (look b j c)) v → r ≡ fromAnswer b p k j c v
   from-voucher f r er = rw (may-vouch f) er
+
+-- the sheet of a legal book is legal
+pub book-sheet : (b : List ℕ) (s : Sheet) → legal b ≡ true → s ≡ sheetAt b sheetPlace → sheetLegal s ≡ true
+book-sheet b s h e = ap sheetLegal e ∙ legal-sheet b sheetPlace (legal-facts b h .sheet)
 
 -- 5
 module _ (b : List ℕ) (s : Sheet) (d : Declaration) (t : Bool) (decl : IsDecl (bytesOf d))

@@ -1,15 +1,15 @@
 -- The test `plausible` is true exactly when document 01's conditions hold.
 -- Assumes nothing.
-use Prim.Native.Nat.{_*_}
-use mathlib.Core.Path.{_≡_}
+use Prim.Native.Nat.{_*_, _≤_, zero-le}
+use mathlib.Core.Path.{_≡_, refl}
 use mathlib.Core.Logic.{_↔_}
-use mathlib.Core.Bool.{true, _&&_, and-eq-true-iff}
+use mathlib.Core.Bool.{Bool, true, false, _&&_, and-eq-true-iff}
 use lib.Dec.{leb}
 use lib.Ieee.{binary32, ofBits}
 use borrow.Author.Tests.{leb-true, le-leb}
 use Rattle.lot.specs.declared.Sheet.{Sheet}
 use Rattle.lot.specs.declared.Declaration.{Declaration}
-use Rattle.lot.specs.Sheet.{finite, within, passes, admitted, plausible, Plausible}
+use Rattle.lot.specs.Sheet.{readingsOf, finite, within, passes, admitted, plausible, Plausible}
 
 pub plausible-exactly : (s : Sheet) (d : Declaration) → (plausible s d ≡ true) ↔ Plausible s d
 unfolding plausible admitted passes
@@ -36,3 +36,24 @@ plausible-exactly s d = (to, from)
     from : Plausible s d → plausible s d ≡ true
     from p =
         rw (le-leb _ _ (p .weight), p .moisture-finite, p .conductivity-finite, p .moisture-within, p .conductivity-within)
+
+-- So no colonies and no kilograms is plausible.
+pub nothing-plausible : (s : Sheet) (d : Declaration) → d .kilograms ≡ 0 → admitted s (readingsOf d) ≡ true → plausible s d ≡ true
+unfolding plausible
+nothing-plausible s d z a =
+    let l : d .kilograms ≤ d .colonies * s .cap = rw z zero-le in
+    rw (le-leb _ _ l, a)
+
+-- and with a reading that is not finite none is
+and-no : (b : Bool) → false ≡ b && false
+and-no true = refl
+and-no false = refl
+
+pub moisture-not-finite : (s : Sheet) (d : Declaration) → finite (ofBits binary32 (d .moisture)) ≡ false → false ≡ plausible s d
+unfolding plausible admitted passes
+moisture-not-finite s d h = rw h (and-no (leb (d .kilograms) (d .colonies * s .cap)))
+
+pub conductivity-not-finite : (s : Sheet) (d : Declaration) → finite (ofBits binary32 (d .conductivity)) ≡ false → false ≡ plausible s d
+unfolding plausible admitted passes
+conductivity-not-finite s d h =
+    rw (h, ← and-no (passes (s .moisture) (ofBits binary32 (d .moisture)))) (and-no (leb (d .kilograms) (d .colonies * s .cap)))

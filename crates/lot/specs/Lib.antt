@@ -1,2 +1,4 @@
 pub mod Declaration
 pub mod Sheet
+pub mod Place
+pub mod Claims

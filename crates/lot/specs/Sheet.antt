@@ -23,7 +23,14 @@ within Open x = true
 within (AtMost high) x = le x high
 within (Between low high) x = le low x && le x high
 
--- no limit is NaN or infinite and no low exceeds its high
+-- no limit is NaN or infinite
+unfoldable pub limitsFinite : Gate → Bool
+unfolding finite
+limitsFinite Open = true
+limitsFinite (AtMost high) = finite high
+limitsFinite (Between low high) = finite low && finite high
+
+-- and no low exceeds its high
 unfoldable pub gateLegal : Gate → Bool
 unfolding finite
 gateLegal Open = true

@@ -1,10 +1,12 @@
 // A declaration, its readings, the gates of a season's sheet, and when a declaration is plausible.
 ghost use mathlib.Core.Path.{_≡_};
+ghost use mathlib.Core.Bool.{true};
 ghost use Prim.Native.Nat.{_+_, _*_, _<_};
-ghost use lib.Ieee.{binary32, ofBits};
+ghost use lib.Ieee.{binary32, ofBits, le};
 ghost use lib.ListN.{length};
 ghost use Rattle.lot.specs.Declaration.{declarationAt, bytesOf};
-ghost use Rattle.lot.specs.Sheet.{finite, within, passes, gateLegal, readingsOf, admitted, plausible};
+ghost use Rattle.lot.specs.Sheet.{finite, within, limitsFinite, gateLegal, sheetLegal, readingsOf, admitted, plausible};
+ghost use Rattle.lot.specs.Place.{place};
 
 // A declaration's five numbers; the readings as their bits.
 pub struct Declaration {
@@ -101,59 +103,69 @@ pub fn readings_of(d: Declaration) -> Readings
     }
 }
 
-// Neither NaN nor infinite.
-pub fn is_finite(x: f32) -> bool
-    ensures { λ r. ⌜ r ≡ finite x ⌝ }
+// Neither NaN nor infinite, by the bits.
+pub fn is_finite(bits: u32) -> bool
+    ensures { λ r. ⌜ r ≡ finite (ofBits binary32 bits) ⌝ }
 {
-    -1.0 / 0.0 < x && x < 1.0 / 0.0
+    bits % 0x8000_0000 < 0x7f80_0000
+}
+
+// Where bits stand in the order of all floats.
+fn place_of(bits: u32) -> u32
+    ensures { λ r. ⌜ r ≡ place bits ⌝ }
+{
+    let size = bits % 0x8000_0000;
+    if bits < 0x8000_0000 {
+        return 0x8000_0000 + size;
+    }
+    0x8000_0000 - size
+}
+
+// Float comparison, by the places of the bits: what a processor's compare says of the smallest floats depends on the caller's float mode.
+fn is_at_most(x: f32, y: f32) -> bool
+    requires { ⌜ (finite x ≡ true) × (finite y ≡ true) ⌝ }
+    ensures { λ r. ⌜ r ≡ le x y ⌝ }
+{
+    place_of(f32::to_bits(x)) <= place_of(f32::to_bits(y))
 }
 
 pub fn is_within(g: Gate, x: f32) -> bool
+    requires { ⌜ (gateLegal g ≡ true) × (finite x ≡ true) ⌝ }
     ensures { λ r. ⌜ r ≡ within g x ⌝ }
 {
     match g {
         Gate::Open => true,
-        Gate::AtMost(high) => x <= high,
-        Gate::Between(low, high) => low <= x && x <= high,
-    }
-}
-
-// A reading is finite and within its gate.
-pub fn is_passing(g: Gate, x: f32) -> bool
-    ensures { λ r. ⌜ r ≡ passes g x ⌝ }
-{
-    if is_finite(x) {
-        return is_within(g, x);
-    }
-    false
-}
-
-// No limit is NaN or infinite, and no low exceeds its high.
-pub fn is_legal_gate(g: Gate) -> bool
-    ensures { λ r. ⌜ r ≡ gateLegal g ⌝ }
-{
-    match g {
-        Gate::Open => true,
-        Gate::AtMost(high) => is_finite(high),
+        Gate::AtMost(high) => is_at_most(x, high),
         Gate::Between(low, high) => {
-            if is_finite(low) {
-                if is_finite(high) {
-                    return !(low > high);
-                }
+            if is_at_most(low, x) {
+                return is_at_most(x, high);
             }
             false
         }
     }
 }
 
-// Both readings pass.
-pub fn admits(s: Sheet, r: Readings) -> bool
+// No low exceeds its high, no limit being NaN or infinite.
+pub fn is_legal_gate(g: Gate) -> bool
+    requires { ⌜ limitsFinite g ≡ true ⌝ }
+    ensures { λ r. ⌜ r ≡ gateLegal g ⌝ }
+{
+    match g {
+        Gate::Open => true,
+        Gate::AtMost(_) => true,
+        Gate::Between(low, high) => is_at_most(low, high),
+    }
+}
+
+// Each reading is within its gate.
+fn admits(s: Sheet, r: Readings) -> bool
+    requires { ⌜ (sheetLegal s ≡ true) × (finite (r .moisture) ≡ true) × (finite (r .conductivity) ≡ true) ⌝ }
     ensures { λ b. ⌜ b ≡ admitted s r ⌝ }
 {
     let m = s.moisture;
     let c = s.conductivity;
-    if is_passing(m, r.moisture) {
-        return is_passing(c, r.conductivity);
+    if is_within(m, r.moisture) {
+        return is_within(c, r.conductivity);
     }
     false
 }
@@ -166,10 +178,15 @@ fn most(colonies: u32, cap: u32) -> u64
 }
 
 pub fn is_plausible(s: Sheet, d: Declaration) -> bool
+    requires { ⌜ sheetLegal s ≡ true ⌝ }
     ensures { λ r. ⌜ r ≡ plausible s d ⌝ }
 {
     if d.kilograms as u64 <= most(d.colonies, s.cap) {
-        return admits(s, readings_of(d));
+        if is_finite(d.moisture) {
+            if is_finite(d.conductivity) {
+                return admits(s, readings_of(d));
+            }
+        }
     }
     false
 }

@@ -14,7 +14,8 @@ use Rattle.words.proofs.Laws.{be-wordAt}
 use Rattle.words.proofs.Listed.{listed, listed-is}
 use Rattle.lot.specs.Sheet.{sheetLegal}
 use Rattle.sheet.specs.Kept.{sheetBytes, sheetAt, sheetLegalAt, isSheet}
-use Rattle.sheet.proofs.OneForm.{bytes-legal, bytes-of-sheet}
+use Rattle.sheet.proofs.Gates.{legal-sheet}
+use Rattle.sheet.proofs.OneForm.{bytes-of-sheet}
 use Rattle.meaning.specs.Slot.{part}
 use Rattle.meaning.specs.Book.{nOf, numbersOf, ownOf, seasonOf, sheetPlace, downOf, limitOf, helpedOf, careOf, careBytes, head}
 use Rattle.meaning.specs.Layout.{helpedPlace}
@@ -113,7 +114,7 @@ module _ (b : List ℕ) (all : 31 + nOf b ≤ length b) where
     part-is-sheet = rw (eq-eqb (length (part b 7 22)) 22 (part-length b 7 22 long)) (sym legal-part ∙ h)
 
     pub header-sheet-legal : sheetLegal (sheetAt b sheetPlace) ≡ true
-    header-sheet-legal = rw sheet-part (bytes-legal (part b 7 22) (bytes-part b 7 22 bytes) part-is-sheet)
+    header-sheet-legal = legal-sheet b sheetPlace h
 
     header-sheet-bytes : sheetBytes (sheetAt b sheetPlace) ≡ part b 7 22
     header-sheet-bytes = ap sheetBytes sheet-part ∙ bytes-of-sheet (part b 7 22) (bytes-part b 7 22 bytes) part-is-sheet

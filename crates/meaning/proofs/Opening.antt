@@ -15,7 +15,8 @@ use Rattle.words.specs.Words.{Bytes, be32}
 use Rattle.words.proofs.Laws.{wordAt-small}
 use Rattle.lot.specs.declared.Sheet.{Sheet}
 use Rattle.sheet.specs.Kept.{keptAt, sheetAt, isSheet}
-use Rattle.sheet.proofs.OneForm.{gate-fits, bytes-legal, bytes-of-sheet}
+use Rattle.sheet.proofs.Gates.{sheet-legal}
+use Rattle.sheet.proofs.OneForm.{gate-fits, bytes-of-sheet}
 use Rattle.protocol.specs.Entry.{Decl, fresh}
 use Rattle.meaning.specs.Slot.{slotBytes}
 use Rattle.meaning.specs.Layout.{numbersOk, mostLimit, slotLength, slotCount, lengthOf}
@@ -102,7 +103,7 @@ module _ (n s own f d season : ℕ) (sheet : List ℕ) (ok : allowed n s own f d
         cap = wordAt-small sheet bytes 0;
         moisture = gate-fits (keptAt sheet 4);
         conductivity = gate-fits (keptAt sheet 13);
-        sheet = bytes-legal sheet bytes h;
+        sheet = sheet-legal sheet h;
         down = a .3;
         limit = a .4;
         helped = λ p. omega arith;

@@ -1,3 +1,4 @@
 pub mod Gates
 pub mod OneForm
 pub mod Settled
+pub mod Claims

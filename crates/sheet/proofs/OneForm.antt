@@ -24,7 +24,8 @@ use Rattle.lot.specs.Sheet.{GateFits, gateLegal, sheetLegal, plausible, judgedB
 use Rattle.sheet.specs.Kept.{keptOf, keptBytes, laid, sheetBytes}
 use Rattle.sheet.specs.Kept.{gateOf, keptForm, keptLegal, keptAt, sheetAt, sheetLegalAt, isSheet, judged}
 use Rattle.lot.proofs.Declared.{numbers-of-bytes}
-use Rattle.sheet.proofs.Gates.{no-nan, at-most-finite, low-finite, high-finite, sheet-sized}
+use Rattle.lot.proofs.Finite.{no-nan, at-most-finite, low-finite, high-finite}
+use Rattle.sheet.proofs.Gates.{legal-gate, sheet-sized}
 
 -- ---- a gate and the form in which it is kept
 
@@ -59,10 +60,6 @@ form-of-kept (Between low high) = refl
 legal-of-kept : (g : Gate) → GateFits g → keptLegal (keptOf g) ≡ gateLegal g
 unfolding keptLegal
 legal-of-kept g f = rw (form-of-kept g) (ap gateLegal (gate-of-kept g f))
-
-legal-gate : (k : Kept) → keptLegal k ≡ true → gateLegal (gateOf k) ≡ true
-unfolding keptLegal
-legal-gate k h = and-eq-true-iff (keptForm k) (gateLegal (gateOf k)) .0 h .1
 
 module _ (k : Kept) (low : k .low < 2 ^ 32) (high : k .high < 2 ^ 32) (h : keptLegal k ≡ true) where
   kept-of-gate : keptOf (gateOf k) ≡ k
@@ -169,10 +166,6 @@ module _ (b : List ℕ) (bytes : Bytes b) (h : isSheet b ≡ true) where
   both =
       and-eq-true-iff (keptLegal (keptAt b 4)) (keptLegal (keptAt b 13)) .0
       (and-eq-true-iff (eqb (length b) 22) (sheetLegalAt b 0) .0 h .1)
-
-  pub bytes-legal : sheetLegal (sheetAt b 0) ≡ true
-  unfolding sheetLegal sheetAt
-  bytes-legal = rw (legal-gate (keptAt b 4) (both .0), legal-gate (keptAt b 13) (both .1))
 
   pub bytes-of-sheet : sheetBytes (sheetAt b 0) ≡ b
   unfolding sheetBytes sheetAt

@@ -5,15 +5,14 @@ use mathlib.Core.Bool.{Bool, cond, _&&_}
 use mathlib.Core.List.{List, _∷_, _++_}
 use lib.Dec.{eqb}
 use lib.Ieee.{binary32, ofBits, toBits}
-use lib.ListN.{length, getD, replicate}
+use lib.ListN.{length, getD}
 use Rattle.words.specs.Words.{be32, wordAt}
 use Rattle.lot.specs.declared.Gate.{Gate}
 use Rattle.lot.specs.declared.Gate.the-variants.{Open, AtMost, Between}
 use Rattle.lot.specs.declared.Sheet.{Sheet}
 use Rattle.sheet.specs.declared.Kept.{Kept}
-use Rattle.sheet.specs.declared.SheetWritten.{SheetWritten}
 use Rattle.lot.specs.Declaration.{declarationAt}
-use Rattle.lot.specs.Sheet.{gateLegal, sheetLegal, plausible}
+use Rattle.lot.specs.Sheet.{gateLegal, plausible}
 
 -- sheet limits are kept as their bits; a limit that the kind does not use is zero
 abbrev pub keptOf : Gate → Kept
@@ -30,12 +29,6 @@ laid cap m c = be32 cap ++ (keptBytes m ++ keptBytes c)
 
 unfoldable pub sheetBytes : Sheet → List ℕ
 sheetBytes s = laid (s .cap) (keptOf (s .moisture)) (keptOf (s .conductivity))
-
--- writing a sheet gives answer 0 and its bytes; of one that is not legal, answer 10 and zeros
-unfoldable pub sheetWritten : Sheet → SheetWritten
-unfolding sheetLegal sheetBytes
-sheetWritten s =
-    cond (sheetLegal s) (record { answer = 0; bytes = sheetBytes s }) (record { answer = 10; bytes = replicate 22 0 })
 
 -- a kind is 0 open, 1 at most, 2 between
 unfoldable pub gateOf : Kept → Gate

@@ -1,11 +1,9 @@
 // The sheet's 22 bytes, and judging a declaration at the bytes.
 ghost use mathlib.Core.Path.{_≡_};
-ghost use mathlib.Core.Bool.{true};
 ghost use Prim.Native.Nat.{_+_, _<_};
-ghost use lib.Ieee.{binary32, toBits};
 ghost use lib.ListN.{length};
-ghost use Rattle.lot.specs.Sheet.{finite, gateLegal};
-ghost use Rattle.sheet.specs.Kept.{keptOf, keptAt, gateOf, keptForm, keptLegal, laid, sheetWritten};
+ghost use Rattle.lot.specs.Sheet.{limitsFinite};
+ghost use Rattle.sheet.specs.Kept.{keptAt, gateOf, keptForm, keptLegal, laid};
 ghost use Rattle.sheet.specs.Kept.{sheetAt, sheetLegalAt, isSheet, judged};
 use lot::Gate;
 use lot::Sheet;
@@ -54,12 +52,30 @@ fn is_form(k: Kept) -> bool
     k.kind == 2
 }
 
+// No limit is NaN or infinite.
+fn has_finite_limits(k: Kept) -> bool
+    ensures { λ r. ⌜ r ≡ limitsFinite (gateOf k) ⌝ }
+{
+    if k.kind == 0 {
+        return true;
+    }
+    if k.kind == 1 {
+        return lot::is_finite(k.high);
+    }
+    if lot::is_finite(k.low) {
+        return lot::is_finite(k.high);
+    }
+    false
+}
+
 // The one form of a legal gate.
 fn is_legal_kept(k: Kept) -> bool
     ensures { λ r. ⌜ r ≡ keptLegal k ⌝ }
 {
     if is_form(k) {
-        return lot::is_legal_gate(gate_of(k));
+        if has_finite_limits(k) {
+            return lot::is_legal_gate(gate_of(k));
+        }
     }
     false
 }
@@ -97,39 +113,8 @@ pub fn is_sheet(s: &[u8]) -> bool
     false
 }
 
-// The bits of a limit.
-fn bits_of(x: f32) -> u32
-    requires { ⌜ finite x ≡ true ⌝ }
-    ensures { λ r. ⌜ r ≡ toBits binary32 x ⌝ }
-{
-    f32::to_bits(x)
-}
-
-// How a legal gate is kept.
-fn kept_of(g: Gate) -> Kept
-    requires { ⌜ gateLegal g ≡ true ⌝ }
-    ensures { λ r. ⌜ r ≡ keptOf g ⌝ }
-{
-    match g {
-        Gate::Open => Kept {
-            kind: 0,
-            low: 0,
-            high: 0,
-        },
-        Gate::AtMost(high) => Kept {
-            kind: 1,
-            low: 0,
-            high: bits_of(high),
-        },
-        Gate::Between(low, high) => Kept {
-            kind: 2,
-            low: bits_of(low),
-            high: bits_of(high),
-        },
-    }
-}
-
-fn lay_sheet(cap: u32, m: Kept, c: Kept) -> [u8; 22]
+// A sheet's 22 bytes: the cap, and each gate as it is kept.
+pub fn lay_sheet(cap: u32, m: Kept, c: Kept) -> [u8; 22]
     ensures { λ r. ⌜ r ≡ laid cap m c ⌝ }
 {
     let k = words::quad_of(cap);
@@ -161,29 +146,6 @@ fn lay_sheet(cap: u32, m: Kept, c: Kept) -> [u8; 22]
         f.c,
         f.d,
     ]
-}
-
-// What writing a sheet gives: answer 0 and its bytes, or answer 10 and zeros.
-pub struct SheetWritten {
-    pub answer: u8,
-    pub bytes: [u8; 22],
-}
-
-pub fn write_sheet(s: Sheet) -> SheetWritten
-    ensures { λ r. ⌜ r ≡ sheetWritten s ⌝ }
-{
-    let m = s.moisture;
-    let c = s.conductivity;
-    if lot::is_legal_gate(m) {
-        if lot::is_legal_gate(c) {
-            let bytes = lay_sheet(s.cap, kept_of(m), kept_of(c));
-            return SheetWritten { answer: 0, bytes };
-        }
-    }
-    SheetWritten {
-        answer: 10,
-        bytes: [0; 22],
-    }
 }
 
 // Judging: 10, then 5, else 0.

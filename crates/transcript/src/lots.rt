@@ -5,6 +5,7 @@ use crate::tell::copy;
 use crate::tell::end_answer;
 use crate::tell::lot_77;
 use crate::tell::open;
+use crate::tell::open_gate;
 use crate::tell::open_sheet;
 use crate::tell::open_with;
 use crate::tell::put_byte;
@@ -14,9 +15,8 @@ use crate::tell::say_bytes;
 use crate::tell::say_with;
 use card::Counts;
 use lot::Declaration;
-use lot::Gate;
-use lot::Sheet;
 use message::Reading;
+use sheet::Kept;
 
 fn say_column(n: u32, f: u32, counts: Counts) {
     say_with(b"  ", n as u64);
@@ -101,20 +101,20 @@ fn say_verdict(answer: u8) {
 }
 
 // A lot judged by a sheet with this cap and moisture gate, conductivity open.
-fn show_lot(text: &[u8], cap: u32, moisture: Gate, d: Declaration) {
+fn show_lot(text: &[u8], cap: u32, moisture: Kept, d: Declaration) {
     say(text);
-    let written = sheet::write_sheet(Sheet {
-        cap,
-        moisture,
-        conductivity: Gate::Open,
-    });
-    if written.answer == 0 {
-        let sheet_bytes = written.bytes;
-        let declaration = lot::bytes_of(d);
-        say_verdict(sheet::judge(&sheet_bytes, &declaration));
-        return;
+    let sheet_bytes = sheet::lay_sheet(cap, moisture, open_gate());
+    let declaration = lot::bytes_of(d);
+    say_verdict(sheet::judge(&sheet_bytes, &declaration));
+}
+
+// At most the limit that these bits stand for.
+fn at_most(bits: u32) -> Kept {
+    Kept {
+        kind: 1,
+        low: 0,
+        high: bits,
     }
-    say_verdict(written.answer);
 }
 
 pub fn show_lots() {
@@ -122,25 +122,25 @@ pub fn show_lots() {
     show_lot(
         b"  cap 20, 40 colonies, 800 kg, moisture 17.5, open",
         20,
-        Gate::Open,
+        open_gate(),
         sample(),
     );
     show_lot(
         b"  cap 20, 40 colonies, 801 kg, moisture 17.5, open",
         20,
-        Gate::Open,
+        open_gate(),
         lot_77(40, 801, AT_17_5),
     );
     show_lot(
         b"  cap 2, 4 colonies, 9 kg, moisture 17.5, open",
         2,
-        Gate::Open,
+        open_gate(),
         lot_77(4, 9, AT_17_5),
     );
     show_lot(
         b"  cap 20, no colonies, no kg, moisture 17.5, open",
         20,
-        Gate::Open,
+        open_gate(),
         lot_77(0, 0, AT_17_5),
     );
 }
@@ -149,14 +149,26 @@ pub fn show_gates() {
     show_lot(
         b"  cap 20, 40 colonies, 800 kg, moisture 20.0, at most 20.0",
         20,
-        Gate::AtMost(20.0),
+        at_most(0x41a0_0000),
         lot_77(40, 800, 0x41a0_0000),
     );
     show_lot(
         b"  cap 20, 40 colonies, 800 kg, moisture NaN, open",
         20,
-        Gate::Open,
+        open_gate(),
         lot_77(40, 800, 0x7fc0_0000),
+    );
+    show_lot(
+        b"  cap 20, 40 colonies, 800 kg, moisture the smallest above 0.0, at most 0.0",
+        20,
+        at_most(0),
+        lot_77(40, 800, 1),
+    );
+    show_lot(
+        b"  cap 20, 40 colonies, 800 kg, moisture -0.0, at most 0.0",
+        20,
+        at_most(0),
+        lot_77(40, 800, 0x8000_0000),
     );
 }
 

@@ -2,9 +2,8 @@
 use entry::Outcome;
 use libc::STDOUT_FILENO;
 use lot::Declaration;
-use lot::Gate;
-use lot::Sheet;
 use message::Reading;
+use sheet::Kept;
 
 // The kinds of a message.
 pub const SEND: u8 = 1;
@@ -172,14 +171,18 @@ pub fn sample() -> Declaration {
     honey(AT_17_5)
 }
 
+// An open gate, as it is kept.
+pub fn open_gate() -> Kept {
+    Kept {
+        kind: 0,
+        low: 0,
+        high: 0,
+    }
+}
+
 // A sheet with this cap and both gates open, in its 22 bytes.
 pub fn open_sheet(cap: u32) -> [u8; 22] {
-    let written = sheet::write_sheet(Sheet {
-        cap,
-        moisture: Gate::Open,
-        conductivity: Gate::Open,
-    });
-    written.bytes
+    sheet::lay_sheet(cap, open_gate(), open_gate())
 }
 
 // A house opens its book for season 2026, with a cap and open gates.

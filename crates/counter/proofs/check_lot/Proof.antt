@@ -1,6 +1,6 @@
 -- `counter::check_lot` meets its contract.
 -- Assumes nothing.
-use Rattle.counter.proofs.Checking.{ok-is}
+use Rattle.counter.proofs.Checking.{book-sheet, ok-is}
 use Rattle.entry.proofs.Room.{header-room}
 use Rattle.entry.specs.Entered.{kindOf}
 use Rattle.counter.specs.Call.{fromAnswer}
@@ -16,7 +16,7 @@ sheet-of-requires : tie.Need-sheet-of-requires
 sheet-of-requires c κs = let h = header-room _ (c .before .pre .0 .is-legal) in omega arith
 
 is-plausible-requires : tie.Need-is-plausible-requires
-is-plausible-requires c κs = search needs
+is-plausible-requires c κs = book-sheet _ _ (c .before .before .pre .0 .is-legal) (c .sheet-of .ensures)
 
 bytes-of-requires : tie.Need-bytes-of-requires
 bytes-of-requires c κs = search needs

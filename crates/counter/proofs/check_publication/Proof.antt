@@ -1,7 +1,7 @@
 -- `counter::check_publication` meets its contract.
 -- Assumes nothing.
 use Rattle.counter.proofs.Published.{own-number-missing, lot-not-plausible, published-already, publication-accepted}
-use Rattle.counter.proofs.Checking.{ok-is}
+use Rattle.counter.proofs.Checking.{book-sheet, ok-is}
 use Rattle.entry.proofs.Room.{header-room, published-room}
 use Rattle.lot.specs.Declaration.{bytesOf}
 use Rattle.meaning.specs.Layout.{slotPlace}
@@ -29,7 +29,7 @@ sheet-of-requires : tie.Need-sheet-of-requires
 sheet-of-requires c κs = let h = header-room _ (c .before .before .before .pre .0) in omega arith
 
 is-plausible-requires : tie.Need-is-plausible-requires
-is-plausible-requires c κs = search needs
+is-plausible-requires c κs = book-sheet _ _ (c .before .before .before .before .pre .0) (c .sheet-of .ensures)
 
 n-of-requires : tie.Need-n-of-requires
 n-of-requires c κs = let h = header-room _ (c .before .before .before .before .before .before .pre .0) in omega arith

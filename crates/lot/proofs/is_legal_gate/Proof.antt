@@ -1,6 +1,9 @@
 -- `lot::is_legal_gate` meets its contract.
 -- Assumes nothing.
-use Rattle.lot.specs.Sheet.{gateLegal}
+use mathlib.Core.Path.{_≡_, refl, sym, ap, _∙_}
+use mathlib.Core.Bool.{true}
+use Rattle.lot.specs.Sheet.{finite, limitsFinite, gateLegal}
+use Rattle.lot.proofs.Finite.{at-most-legal, both-finite, ordered}
 use borrow.Author.Needs.{needs}
 use Rattle.lot.proofs.is_legal_gate.Statement.{statement}
 use Rattle.lot.proofs.is_legal_gate.Tie as tie
@@ -8,61 +11,30 @@ use Rattle.lot.proofs.is_legal_gate.Tie as tie
 enum-told : tie.Need-enum-told
 enum-told c = search needs
 
+enum-told-2 : tie.Need-enum-told-2
+enum-told-2 c = search needs
+
 enum-known-g : tie.Need-enum-known-g
 enum-known-g c = search needs
 
-is-finite-requires : tie.Need-is-finite-requires
-is-finite-requires c κs = search needs
-
-enum-known-g-2 : tie.Need-enum-known-g-2
-enum-known-g-2 c = search needs
-
-is-finite-requires-2 : tie.Need-is-finite-requires-2
-is-finite-requires-2 c κs = search needs
-
-is-finite-requires-3 : tie.Need-is-finite-requires-3
-is-finite-requires-3 c κs = search needs
+is-at-most-requires : tie.Need-is-at-most-requires
+is-at-most-requires c κs = both-finite _ _ (sym (ap limitsFinite (c .before .g .given .1)) ∙ c .before .before .before .pre)
 
 returns : tie.Need-returns
 unfolding gateLegal
-returns c =
-    let f3 = c .before in
-    let f2 = f3 .before .before in
-    rw (f2 .before .before .g2 .given .1, ← f2 .is-finite2 .ensures, f3 .before .if1 .taken, ← f3 .is-finite3 .ensures, c .if2 .taken)
+returns c = rw (c .enum-told .given .1)
 
 returns-2 : tie.Need-returns-2
-unfolding gateLegal
-returns-2 c = rw (c .enum-told .given .1)
+returns-2 c =
+    at-most-legal _ (sym (ap limitsFinite (c .enum-told2 .given .1)) ∙ c .before .before .pre) ∙ sym (ap gateLegal (c .enum-told2 .given .1))
 
 returns-3 : tie.Need-returns-3
-unfolding gateLegal
-returns-3 c = rw (c .before .before .g .given .1) (c .is-finite .ensures)
-
-returns-4 : tie.Need-returns-4
-unfolding gateLegal
-returns-4 c =
-    let f3 = c .before in
-    let f2 = f3 .before .before in
-    rw (f2 .before .before .g2 .given .1, ← f2 .is-finite2 .ensures, f3 .before .if1 .taken, ← f3 .is-finite3 .ensures, c .if2 .left)
-
-returns-5 : tie.Need-returns-5
-unfolding gateLegal
-returns-5 c =
-    let f2 = c .before in
-    rw (f2 .before .before .g2 .given .1, ← f2 .is-finite2 .ensures, c .if1 .left)
+returns-3 c =
+    let g = c .before .before .g .given in
+    let f = both-finite _ _ (sym (ap limitsFinite (g .1)) ∙ c .before .before .before .before .pre) in
+    c .is-at-most .ensures ∙ ordered _ _ (f .0) (f .1) ∙ sym (ap gateLegal (g .1))
 
 pub is-legal-gate-spec : {M : Type 1} → statement M
 is-legal-gate-spec =
     tie.close
-    (tie.spec
-    enum-told
-    enum-known-g
-    is-finite-requires
-    enum-known-g-2
-    is-finite-requires-2
-    is-finite-requires-3
-    returns
-    returns-2
-    returns-3
-    returns-4
-    returns-5)
+    (tie.spec enum-told enum-told-2 enum-known-g is-at-most-requires returns returns-2 returns-3)

@@ -1,12 +1,12 @@
 -- `sheet::judge` meets its contract.
 -- Assumes nothing.
-use Rattle.sheet.proofs.Gates.{sheet-sized}
+use Rattle.sheet.proofs.Gates.{sheet-sized, sheet-legal}
 use Rattle.sheet.specs.Kept.{judged}
 use denote.Ref.{now}
 use lib.ListN.{length}
 use native.Mathlib.Omega.{arith}
-use Rattle.lot.specs.Sheet.{plausible}
-use mathlib.Core.Path.{_≡_, _∙_, sym, ap₂}
+use Rattle.lot.specs.Sheet.{sheetLegal, plausible}
+use mathlib.Core.Path.{_≡_, _∙_, sym, ap, ap₂}
 use borrow.Author.Needs.{needs}
 use Rattle.sheet.proofs.judge.Statement.{statement}
 use Rattle.sheet.proofs.judge.Tie as tie
@@ -21,7 +21,9 @@ declaration-at-requires : tie.Need-declaration-at-requires
 declaration-at-requires c κs = search needs
 
 is-plausible-requires : tie.Need-is-plausible-requires
-is-plausible-requires c κs = search needs
+is-plausible-requires c κs =
+    let s = c .before .before in
+    ap sheetLegal (s .sheet-at .ensures) ∙ sheet-legal _ (sym (s .before .before .is-sheet .ensures) ∙ s .before .if1 .taken)
 
 returns : tie.Need-returns
 unfolding judged

@@ -1,0 +1,16 @@
+-- What this crate promises.
+-- Assumes nothing.
+use Rattle.lot.specs.Claims.{Claims}
+use Rattle.lot.proofs.Declared.{numbers-of-bytes, bytes-of-numbers, same-numbers, same-bytes}
+use Rattle.lot.proofs.Exactly.{plausible-exactly, nothing-plausible}
+
+pub claims : Claims
+claims =
+    record {
+      same-numbers = same-numbers;
+      same-bytes = same-bytes;
+      numbers-of-bytes = numbers-of-bytes;
+      bytes-of-numbers = bytes-of-numbers;
+      exactly = plausible-exactly;
+      nothing = nothing-plausible;
+    }

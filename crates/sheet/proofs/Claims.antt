@@ -1,0 +1,14 @@
+-- What this crate promises.
+-- Assumes nothing.
+use Rattle.sheet.specs.Claims.{Claims}
+use Rattle.sheet.proofs.OneForm.{sheet-of-bytes, legal-bytes, judged-bytes, bytes-of-sheet, one-form}
+
+pub claims : Claims
+claims =
+    record {
+      sheet-of-bytes = sheet-of-bytes;
+      legal-bytes = legal-bytes;
+      judged-bytes = judged-bytes;
+      bytes-of-sheet = bytes-of-sheet;
+      one-form = one-form;
+    }

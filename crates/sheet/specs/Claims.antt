@@ -1,0 +1,25 @@
+-- What this crate promises of a sheet's 22 bytes, beside the contracts of its functions; proved in proofs/Claims.antt.
+-- Assumes nothing.
+use Prim.Native.Nat.{ℕ}
+use mathlib.Core.Path.{_≡_}
+use mathlib.Core.Bool.{true}
+use mathlib.Core.List.{List}
+use Rattle.words.specs.Words.{Bytes}
+use Rattle.lot.specs.declared.Sheet.{Sheet}
+use Rattle.lot.specs.declared.Declaration.{Declaration}
+use Rattle.lot.specs.Declaration.{bytesOf}
+use Rattle.lot.specs.Sheet.{GateFits, sheetLegal, judgedBy}
+use Rattle.sheet.specs.Kept.{sheetBytes, sheetAt, isSheet, judged}
+
+pub record Claims : Type 0 where
+  -- Sheet limits are kept as their bits: the bytes of a sheet read as that sheet,
+  pub sheet-of-bytes : (s : Sheet) → GateFits (s .moisture) → GateFits (s .conductivity) → sheetAt (sheetBytes s) 0 ≡ s
+  -- they are a legal sheet's exactly when it is legal,
+  pub legal-bytes : (s : Sheet) → GateFits (s .moisture) → GateFits (s .conductivity) → isSheet (sheetBytes s) ≡ sheetLegal s
+  -- and judging at the bytes is judging by that sheet.
+  pub judged-bytes : (s : Sheet) → GateFits (s .moisture) → GateFits (s .conductivity) → (d : Declaration)
+      → judged (sheetBytes s) (bytesOf d) ≡ judgedBy s d
+  -- Bytes that are a legal sheet's are the bytes of the sheet that they read as,
+  pub bytes-of-sheet : (b : List ℕ) → Bytes b → isSheet b ≡ true → sheetBytes (sheetAt b 0) ≡ b
+  -- so a sheet has one byte form.
+  pub one-form : (b c : List ℕ) → Bytes b → Bytes c → isSheet b ≡ true → isSheet c ≡ true → sheetAt b 0 ≡ sheetAt c 0 → b ≡ c
