@@ -6,6 +6,9 @@
 // bytes and the declaration as they are afterwards. Numbers are big-endian. What a call does not take is not used.
 //
 // Each argument is lent with its last byte against a wall: to read or write behind it ends the program.
+//
+// Each call is made three times, on the same arguments: in the plain float mode, in one where denormals are zero and results are flushed
+// and cut, and in one where every float exception traps. A reply that differs ends the program, and so does a trap.
 
 // The kit has a C library and no headers for it.
 typedef unsigned char u8;
@@ -16,6 +19,7 @@ long write(int file, const void *from, u64 length);
 int mprotect(void *from, u64 length, int allowed);
 void *memcpy(void *to, const void *from, u64 length);
 void *memset(void *to, int byte, u64 length);
+int memcmp(const void *one, const void *other, u64 length);
 void _exit(int status);
 
 // The structs of the library. A bool stands as a byte here, so that the other end sees any byte that is left in it.
@@ -39,7 +43,7 @@ gm_written gm_write(u8 kind, u32 season, u8 sender, u8 number, const u8 *declara
 gm_read_answer gm_read(const u8 *message, u64 message_length);
 
 enum { LENGTH, OPEN, PUBLISH, RECEIVE, RETURN, SENT, WAITING, JUDGE, WRITE, READ };
-enum { BAD_QUESTION = 2, BAD_PIPE = 3, NO_WALL = 4, WROTE_BEFORE = 5 };
+enum { BAD_QUESTION = 2, BAD_PIPE = 3, NO_WALL = 4, WROTE_BEFORE = 5, NO_MODE = 6, MODE_MATTERS = 7 };
 enum { NUMBERS = 6, DECLARATION = 20, LENGTHS = 1 + 4 * NUMBERS + DECLARATION, HEAD = LENGTHS + 8, PAINT = 0xA5 };
 
 // A room is as long as the largest page of any machine, so that its wall is one page or several.
@@ -188,33 +192,91 @@ static void make(u8 call, const u32 x[NUMBERS], u8 *book, u64 book_length, const
     }
 }
 
+// The register that rules floats. Its reset value masks every exception and does nothing else; here are the bits of the other two modes.
+enum { PLAIN = 0x1F80, ZEROED = PLAIN | 0x8000 | 0x6000 | 0x0040, TRAPPING = 0 };
+static const u32 modes[] = { ZEROED, TRAPPING };
+
+static int is_above_zero(const volatile float *x)
+{
+    return *x > 0.0f;
+}
+
+// A compare of the smallest float with 0.0 depends on the mode: where it does not, a test of the modes shows nothing.
+static void check_modes(void)
+{
+    volatile float smallest = 0x1p-149f;
+    __builtin_ia32_ldmxcsr(ZEROED);
+    int zeroed = is_above_zero(&smallest);
+    __builtin_ia32_ldmxcsr(PLAIN);
+    if (zeroed || !is_above_zero(&smallest)) _exit(NO_MODE);
+}
+
+// A question: the call, its numbers, and its arguments in their rooms.
+typedef struct { u8 call; u32 x[NUMBERS]; lent declaration, book, bytes; } question;
+
+static question take_question(const u8 head[HEAD])
+{
+    question q = { head[0], { 0 }, lend(0, DECLARATION), lend(1, number_at(head + LENGTHS)), lend(2, number_at(head + LENGTHS + 4)) };
+    for (int i = 0; i < NUMBERS; i++) q.x[i] = number_at(head + 1 + 4 * i);
+    memcpy(q.declaration.at, head + LENGTHS - DECLARATION, DECLARATION);
+    take(q.book.at, q.book.length, 0);
+    take(q.bytes.at, q.bytes.length, 0);
+    return q;
+}
+
+// Makes the call of a question in a mode, and leaves the reply.
+static void answer(question q, u32 calls, u32 mode)
+{
+    filled = 0;
+    put_number(q.call, 1);
+    put_number(calls, 4);
+    put_number(0, 1);
+    u64 before = filled;
+    __builtin_ia32_ldmxcsr(mode);
+    make(q.call, q.x, pointer(q.book, calls), q.book.length, pointer(q.bytes, calls), q.bytes.length, q.declaration.at);
+    __builtin_ia32_ldmxcsr(PLAIN);
+    reply[before - 1] = filled - before;
+    check_margin(q.declaration);
+    check_margin(q.book);
+    check_margin(q.bytes);
+    put(q.book.at, q.book.length);
+    put(q.bytes.at, q.bytes.length);
+    put(q.declaration.at, q.declaration.length);
+}
+
+// What the arguments were, and the reply in a mode, for the comparison with the plain one.
+static u8 kept[ROOMS * ROOM], told[sizeof reply];
+
+static void keep(question q)
+{
+    memcpy(kept, q.book.at, q.book.length);
+    memcpy(kept + ROOM, q.bytes.at, q.bytes.length);
+    memcpy(kept + 2 * ROOM, q.declaration.at, q.declaration.length);
+}
+
+static void restore(question q)
+{
+    memcpy(q.book.at, kept, q.book.length);
+    memcpy(q.bytes.at, kept + ROOM, q.bytes.length);
+    memcpy(q.declaration.at, kept + 2 * ROOM, q.declaration.length);
+}
+
 int main(void)
 {
     build_walls();
+    check_modes();
     u8 head[HEAD];
     for (u32 calls = 0; take(head, HEAD, 1); calls++) {
-        u32 x[NUMBERS];
-        for (int i = 0; i < NUMBERS; i++) x[i] = number_at(head + 1 + 4 * i);
-        lent declaration = lend(0, DECLARATION);
-        lent book = lend(1, number_at(head + LENGTHS));
-        lent bytes = lend(2, number_at(head + LENGTHS + 4));
-        memcpy(declaration.at, head + LENGTHS - DECLARATION, DECLARATION);
-        take(book.at, book.length, 0);
-        take(bytes.at, bytes.length, 0);
-
-        filled = 0;
-        put_number(head[0], 1);
-        put_number(calls, 4);
-        put_number(0, 1);
-        u64 before = filled;
-        make(head[0], x, pointer(book, calls), book.length, pointer(bytes, calls), bytes.length, declaration.at);
-        reply[before - 1] = filled - before;
-        check_margin(declaration);
-        check_margin(book);
-        check_margin(bytes);
-        put(book.at, book.length);
-        put(bytes.at, bytes.length);
-        put(declaration.at, declaration.length);
+        question q = take_question(head);
+        keep(q);
+        for (u64 i = 0; i < sizeof modes / sizeof modes[0]; i++) {
+            answer(q, calls, modes[i]);
+            if (i > 0 && memcmp(told, reply, filled) != 0) _exit(MODE_MATTERS);
+            memcpy(told, reply, filled);
+            restore(q);
+        }
+        answer(q, calls, PLAIN);
+        if (memcmp(told, reply, filled) != 0) _exit(MODE_MATTERS);
         send_reply();
     }
     return 0;
