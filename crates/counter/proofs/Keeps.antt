@@ -26,7 +26,7 @@ use Rattle.protocol.proofs.Basics.{true-of, and-l, upd-all}
 use Rattle.protocol.proofs.Moves.{filled-refl}
 use Rattle.protocol.proofs.Calls.{outcome-done}
 use Rattle.meaning.specs.Layout.{lengthOf}
-use Rattle.meaning.specs.Book.{Care, downOf, limitOf, helpedOf, careOf, moreCare, countHelp}
+use Rattle.meaning.specs.Book.{Care, downOf, limitOf, helpedOf, careOf, moreCare, withCare, countHelp}
 use Rattle.meaning.specs.Book.{Meaning, nOf, numbersOf, ownOf, seasonOf, sheetPlace, look, meant}
 use Rattle.meaning.specs.Legal.{legal, IsDecl, IsEntry, IsBook}
 use Rattle.meaning.proofs.Legality.{legal-facts}
@@ -34,7 +34,7 @@ use Rattle.meaning.proofs.Entries.{same-entry}
 use Rattle.meaning.proofs.Stores.{Stored, stored-none}
 use Rattle.meaning.proofs.OneForm.{stored-meant}
 use Rattle.meaning.proofs.Meant.{meant-is-book}
-use Rattle.meaning.proofs.Helped.{withCare, help-legal, help-bytes, help-meant}
+use Rattle.meaning.proofs.Helped.{help-legal, help-bytes, help-meant}
 use Rattle.meaning.proofs.Every.{written-legal, written-bytes, written-meant}
 use Rattle.entry.specs.declared.Outcome.{Outcome}
 use Rattle.entry.specs.Entered.{Result, giving, helping, okBy, isDecl, rulesBy, letters, withEntry, entered}
