@@ -17,6 +17,8 @@ claims =
       wire-of-request = request.wire-of-request;
       request-alone = request.request-alone;
       told-injective = told-injective;
-      read-settled = λ s r r' p q. told-injective r r' (p ∙ sym q);
-      write-settled = λ kind season sender number d r r' p q. p ∙ sym q;
+      settled = record {
+        read-settled = λ s r r' p q. told-injective r r' (p ∙ sym q);
+        write-settled = λ kind season sender number d r r' p q. p ∙ sym q;
+      };
     }

@@ -13,6 +13,12 @@ use Rattle.message.specs.declared.Reading.{Reading}
 use Rattle.message.specs.declared.Written.{Written}
 use Rattle.message.specs.Message.{Five, isKind, wire, gives, malformed, readOf, told, writtenOf, requestWire, isRequest, requestOf}
 
+-- Two outcomes that meet the contract of the reader, or of the writer, are equal.
+pub record Settles : Type 0 where
+  pub read-settled : (s : List ℕ) → Settled (λ (r : Reading). told r ≡ readOf s)
+  pub write-settled : (kind season sender number : ℕ) (d : Declaration)
+      → Settled (λ (r : Written). r ≡ writtenOf kind season sender number d)
+
 pub record Claims : Type 0 where
   -- Reading undoes writing,
   pub read-of-wire : (m : Five) → isKind (m .kind) ≡ true → readOf (wire m) ≡ gives m
@@ -28,7 +34,5 @@ pub record Claims : Type 0 where
   pub request-alone : (s : List ℕ) → isRequest s ≡ true → readOf s ≡ malformed
   -- The number and values of the reader's cases settle the case.
   pub told-injective : (a b : Reading) → told a ≡ told b → a ≡ b
-  -- Two outcomes that meet the contract of the reader, or of the writer, are equal.
-  pub read-settled : (s : List ℕ) → Settled (λ (r : Reading). told r ≡ readOf s)
-  pub write-settled : (kind season sender number : ℕ) (d : Declaration)
-      → Settled (λ (r : Written). r ≡ writtenOf kind season sender number d)
+  -- The reader's contract and the writer's settle their outcome.
+  pub settled : Settles
