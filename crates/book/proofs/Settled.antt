@@ -19,13 +19,13 @@ use Rattle.book.proofs.open_book.Kinds as open-kinds
 
 pub length-settled : (κs : Lfts 0) (a : ArgsD length_of.signature κs) (r r' : ResD length_of.signature κs)
     (s s' : AtExit (endedOf 0 length-kinds.ps length-kinds.r) κs) → length-reads.Post κs a r s → length-reads.Post κs a r' s' → r ≡ r'
-length-settled κs a r r' s s' p q = claims .length-settled _ _ r r' p q
+length-settled κs a r r' s s' p q = claims .settled .length-settled _ _ r r' p q
 
 pub legal-settled : (κs : Lfts 1) (a : ArgsD is_legal.signature κs) (r r' : ResD is_legal.signature κs)
     (s s' : AtExit (endedOf 1 legal-kinds.ps legal-kinds.r) κs) → legal-reads.Post κs a r s → legal-reads.Post κs a r' s' → r ≡ r'
-legal-settled κs a r r' s s' p q = claims .legal-settled _ r r' p q
+legal-settled κs a r r' s s' p q = claims .settled .legal-settled _ r r' p q
 
 pub open-settled : (κs : Lfts 2) (a : ArgsD open_book.signature κs) (r r' : ResD open_book.signature κs)
     (s s' : AtExit (endedOf 2 open-kinds.ps open-kinds.r) κs) → open-reads.Post κs a r s → open-reads.Post κs a r' s'
     → (r ≡ r') × (now (s .0) ≡ now (s' .0))
-open-settled κs a r r' s s' p q = claims .open-settled _ _ _ _ _ _ _ _ r r' _ _ p q
+open-settled κs a r r' s s' p q = claims .settled .open-settled _ _ _ _ _ _ _ _ r r' _ _ p q
