@@ -13,6 +13,7 @@ use Rattle.counter.proofs.Keeps as keeps
 use Rattle.counter.proofs.Full as full
 use Rattle.counter.proofs.Earliest as search
 use Rattle.counter.proofs.Searching.{told-injective}
+use Rattle.counter.proofs.Ordered.{publishing-ordered, receiving-ordered}
 use Rattle.counter.proofs.Silent.{silent}
 use Rattle.counter.proofs.Between.{between}
 
@@ -27,6 +28,8 @@ claims =
       called-given = λ b L. keeps.called-given b (L .legal) (L .bytes);
       called-meant = λ b L. keeps.called-meant b (L .legal) (L .bytes);
       requested-meant = requested-meant;
+      publishing = publishing-ordered;
+      receiving = receiving-ordered;
       silent = silent;
       kept = λ b L. keeps.answered-keeps b (L .legal) (L .bytes);
       full = λ b L. full.answered-full b (L .legal) (L .bytes);

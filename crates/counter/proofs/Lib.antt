@@ -13,5 +13,6 @@ pub mod Keeps
 pub mod Full
 pub mod Between
 pub mod Silent
+pub mod Ordered
 pub mod Claims
 pub mod Settled

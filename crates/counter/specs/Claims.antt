@@ -23,6 +23,7 @@ use Rattle.counter.specs.Call.{stepOf, called, requestAnswer, requested,
 use Rattle.counter.specs.Search.{waits, Place, earliest, Earliest, told, waiting}
 use Rattle.counter.specs.Again.{returned, sentOf}
 use Rattle.counter.specs.Calls.{Calling, answered}
+use Rattle.counter.specs.Answers.{Publishing, Receiving}
 use Rattle.counter.specs.Between.{Between}
 use Rattle.counter.specs.Kept.{Kept}
 use Rattle.counter.specs.Silent.{Silent}
@@ -46,6 +47,9 @@ pub record Claims : Type 0 where
   -- An accepted request's bytes mean the book with one more help for the asker.
   pub requested-meant : (b : List ℕ) → Lent b → (house season : ℕ) → requestAnswer b house season ≡ 0
       → meant (requested b house season .book) ≡ withCare (meant b) (moreCare (careOf b) house)
+  -- Each answer is given exactly when the rules say: where several apply, the first in the call's order.
+  pub publishing : (b : List ℕ) (number : ℕ) (v : Decl) → Publishing b number v
+  pub receiving : (b : List ℕ) (house : ℕ) (message : List ℕ) → Receiving b house message
   -- Every refusal leaves the lent buffer byte for byte and carries no message and no delivery.
   pub silent : Silent
   -- A legal book stays one, with n, S, own number, season, sheet, f and d; help is only ever counted.

@@ -5,4 +5,5 @@ pub mod Calls
 pub mod Between
 pub mod Kept
 pub mod Silent
+pub mod Answers
 pub mod Claims
