@@ -4,19 +4,16 @@ use Prim.Native.Nat.{ℕ}
 use mathlib.Core.Path.{_≡_, refl, sym, ap, _∙_}
 use mathlib.Core.Bool.{Bool, true, false, true≢false}
 use mathlib.Core.List.{List}
-use mathlib.Core.Option.{Option, none, some}
 use native.Mathlib.Omega.{arith}
 use lib.ListN.{length, replicate}
-use Rattle.words.specs.Words.{Bytes, wordAt}
+use Rattle.words.specs.Words.{Bytes}
 use Rattle.lot.specs.Declaration.{declarationAt, bytesOf}
 use Rattle.lot.proofs.Declared.{numbers-of-bytes, bytes-of-numbers}
-use Rattle.message.specs.Message.{Five, Told, isKind, wire, wellFormed, fiveAt, gives, malformed, readOf, requestWire, isRequest, requestOf}
-use Rattle.message.specs.Message.{writtenOf}
+use Rattle.message.specs.Message.{Five, Told, isKind, wire, wellFormed, fiveAt, gives, readOf, requestWire, isRequest, writtenOf}
 use Rattle.message.proofs.RoundTrip.{read-of-wire, wire-of-read}
 use Rattle.message.proofs.Request.{request-of-wire, wire-of-request, request-names, no-request, message-unasked}
 use Rattle.house.specs.declared.ReadAnswer.{ReadAnswer}
-use Rattle.house.specs.Read.{readAnswer, readBack}
-use Rattle.house.specs.Claims.{writes, reads, Trips}
+use Rattle.house.specs.Claims.{writes, reads, writesBack, Trips}
 
 module _ (kind season sender number : ℕ) (d : List ℕ) (k : isKind kind ≡ true) (long : length d ≡ 20) (bytes : Bytes d) where
   abbrev m : Five
@@ -55,14 +52,12 @@ module _ (s : List ℕ) (bytes : Bytes s) where
             (numbers-of-bytes (m .declaration)) ∙ sym (w .0)) i;
       })
 
-  write-undoes-read : isKind (reads s .kind) ≡ true
-      → writes (reads s .kind) (reads s .season) (reads s .sender) (reads s .number) (reads s .declaration) ≡ record { answer = 0; message = s }
+  write-undoes-read : isKind (reads s .kind) ≡ true → writesBack (reads s) ≡ record { answer = 0; message = s }
   unfolding readOf isKind
   write-undoes-read = go (isRequest s) refl (wellFormed s) refl
     where
       Goal : ReadAnswer → Type 0
-      Goal a = isKind (a .kind) ≡ true
-          → writes (a .kind) (a .season) (a .sender) (a .number) (a .declaration) ≡ record { answer = 0; message = s }
+      Goal a = isKind (a .kind) ≡ true → writesBack a ≡ record { answer = 0; message = s }
 
       go : (t : Bool) → isRequest s ≡ t → (u : Bool) → wellFormed s ≡ u → Goal (reads s)
       go true e u f = rw (request-names s e) (λ k. absurd (true≢false (sym k)))

@@ -24,6 +24,10 @@ writes kind season sender number d = writtenOf kind season sender number (declar
 abbrev pub reads : List ℕ → ReadAnswer
 reads s = readAnswer (requestOf s) (readOf s)
 
+-- writing what was read
+abbrev pub writesBack : ReadAnswer → Written
+writesBack a = writes (a .kind) (a .season) (a .sender) (a .number) (a .declaration)
+
 -- Both round trips of the very bytes that `gm_write` and `gm_read` exchange.
 pub record Trips : Type 0 where
   -- what writing gives reads as what was written
@@ -31,8 +35,7 @@ pub record Trips : Type 0 where
       → reads (writes kind season sender number d .message)
       ≡ record { answer = 0; kind = kind; season = season; sender = sender; number = number; declaration = d }
   -- bytes that read as a message are those that writing what was read gives
-  pub write-undoes-read : (s : List ℕ) → Bytes s → isKind (reads s .kind) ≡ true
-      → writes (reads s .kind) (reads s .season) (reads s .sender) (reads s .number) (reads s .declaration) ≡ record { answer = 0; message = s }
+  pub write-undoes-read : (s : List ℕ) → Bytes s → isKind (reads s .kind) ≡ true → writesBack (reads s) ≡ record { answer = 0; message = s }
   -- a request's 11 bytes read as kind 9 and the season alone
   pub read-undoes-request : (season : ℕ) → reads (requestWire season)
       ≡ record { answer = 0; kind = 9; season = season; sender = 0; number = 0; declaration = replicate 20 0 }
