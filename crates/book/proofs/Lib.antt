@@ -4,4 +4,5 @@ pub mod Sizes
 pub mod Legality
 pub mod Filling
 pub mod Opening
+pub mod Claims
 pub mod Settled

@@ -2,3 +2,4 @@ pub mod Table
 pub mod Wall
 pub mod Counting
 pub mod Overlap
+pub mod Claims

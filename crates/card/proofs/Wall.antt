@@ -1,24 +1,15 @@
--- The card as a list, and its two formulas, proved over the whole card by one test that antt computes.
+-- The card's two formulas, proved over the whole card by one test that antt computes.
 -- Assumes nothing.
 use mathlib.Core.Path.{_≡_, _∙_, ap, refl}
 use mathlib.Core.Bool.{Bool, true, _&&_, and-eq-true-iff}
-use mathlib.Core.List.{List, [], _∷_}
 use Prim.Native.Nat.{ℕ, _+_, _*_, _-_, _<_, _≤_}
 use native.Mathlib.Omega.{arith}
 use lib.Dec.{leb, ltb, eqb}
 use lib.ListN.{getD}
 use borrow.Author.Tests.{leb-true, ltb-true, eqb-true, le-leb}
 use Rattle.card.specs.declared.Column.{Column}
-use Rattle.card.specs.Card.{largest, mostDown, houses, downOk, tolerated, quorum, columnOf}
+use Rattle.card.specs.Card.{largest, mostDown, houses, downOk, tolerated, quorum, columnOf, wall}
 use Rattle.card.proofs.Table.{at}
-
-abbrev column : ℕ → ℕ → Column
-column t q = record { t = t; quorum = q }
-
-abbrev card : List Column
-card =
-    column 0 1 ∷ column 0 2 ∷ column 0 2 ∷ column 1 3 ∷ column 1 4 ∷ column 1 4 ∷ column 2 5 ∷ column 2 6
-    ∷ column 2 6 ∷ column 3 7 ∷ column 3 8 ∷ column 3 8 ∷ column 4 9 ∷ column 4 10 ∷ column 4 10 ∷ column 5 11 ∷ []
 
 -- the entry at k is the column for k + 1 houses
 abbrev right : ℕ → Column → Bool
@@ -41,13 +32,13 @@ houses-between n h =
     let both = and-eq-true-iff (leb 1 n) (leb n largest) .0 h in
     (leb-true 1 n (both .0), leb-true n largest (both .1))
 
-pub card-is : (z : Column) (n : ℕ) → houses n ≡ true → getD card (n - 1) z ≡ columnOf n
+pub card-is : (z : Column) (n : ℕ) → houses n ≡ true → getD wall (n - 1) z ≡ columnOf n
 unfolding tolerated quorum largest
 card-is z n h =
     let b = houses-between n h in
     let e : n - 1 + 1 ≡ n = omega arith in
     let k : n - 1 < 16 = omega arith in
-    right-is (n - 1) (getD card (n - 1) z) (at right z card refl (n - 1) k) ∙ ap columnOf e
+    right-is (n - 1) (getD wall (n - 1) z) (at right z wall refl (n - 1) k) ∙ ap columnOf e
 
 -- a number of houses is written in one byte, and so is t
 pub houses-byte : (n : ℕ) → houses n ≡ true → n < 256

@@ -2,6 +2,7 @@
 -- Assumes nothing.
 use Prim.Native.Nat.{ℕ, _+_, _*_, _-_, _/_, _≤_, _<_}
 use mathlib.Core.Bool.{Bool, _&&_}
+use mathlib.Core.List.{List, [], _∷_}
 use lib.Dec.{leb, ltb}
 use Rattle.card.specs.declared.Column.{Column}
 use Rattle.card.specs.declared.Counts.{Counts}
@@ -32,6 +33,15 @@ unfoldable pub columnOf : ℕ → Column
 unfolding tolerated quorum
 columnOf n = record { t = tolerated n; quorum = quorum n (tolerated n) }
 
+-- the wall card: the columns for 1 to 16 houses
+abbrev column : (t quorum : ℕ) → Column
+column t q = record { t = t; quorum = q }
+
+abbrev pub wall : List Column
+wall =
+    column 0 1 ∷ column 0 2 ∷ column 0 2 ∷ column 1 3 ∷ column 1 4 ∷ column 1 4 ∷ column 2 5 ∷ column 2 6
+    ∷ column 2 6 ∷ column 3 7 ∷ column 3 8 ∷ column 3 8 ∷ column 4 9 ∷ column 4 10 ∷ column 4 10 ∷ column 5 11 ∷ []
+
 -- READYs that make a READY: at least t+1
 unfoldable pub amplify : ℕ → ℕ
 amplify t = t + 1
@@ -54,7 +64,7 @@ pub record Largest (n f t : ℕ) : Type 0 where
   pub fits : 3 * t + 2 * f < n
   pub most : (u : ℕ) → 3 * u + 2 * f < n → u ≤ t
 
--- the card's t for n - 2f houses, which is the largest (`fitting-largest`)
+-- the card's t for n - 2f houses, which is the largest that fits (Claims)
 unfoldable pub fitting : (n f : ℕ) → ℕ
 unfolding tolerated
 fitting n f = tolerated (n - 2 * f)

@@ -1,2 +1,3 @@
 pub mod Card
 pub mod Count
+pub mod Claims

@@ -1,6 +1,5 @@
--- The rule between entries at the bytes: an accepted publication or message changes the named entry alone, and what it gives and leaves
--- there hangs on the book's header and that entry. The waiting search reads all entries and is the one exception. A return or a request
--- names no entry and is left out; it changes none.
+-- The rule between entries holds: an accepted publication or message changes the named entry alone, and what it gives and leaves there
+-- hangs on the book's header and that entry.
 -- Assumes nothing.
 use Prim.Native.Nat.{ℕ}
 use mathlib.Core.Path.{_≡_, refl, sym, ap, _∙_, subst, subst₂}
@@ -9,9 +8,9 @@ use mathlib.Core.List.{List}
 use mathlib.Core.Option.{Option, none, some}
 use lib.Dec.{eqb}
 use Rattle.card.specs.Card.{fitting}
-use Rattle.words.specs.Words.{Bytes}
+use Rattle.words.specs.Words.{Bytes, wordAt}
 use Rattle.message.specs.Message.{Five, readOf, isRequest, requestOf}
-use Rattle.message.proofs.Request.{no-request}
+use Rattle.message.proofs.Request.{request-names, no-request}
 use Rattle.protocol.specs.Entry.{Decl, Entry}
 use Rattle.protocol.specs.Steps.{Out}
 use Rattle.protocol.specs.Book.{PerEntry, sameEntry, place, Call, publishing, senderOf, numberOf, outcome}
@@ -23,11 +22,8 @@ use Rattle.meaning.proofs.Entries.{same-entry}
 use Rattle.meaning.proofs.Stores.{stored-entry}
 use Rattle.entry.specs.Entered.{Result, giving, okBy, rulesBy, letters}
 use Rattle.counter.specs.Call.{refusal, stepOf, called, published, asked, heardFrom, heardAny, received}
-use Rattle.counter.proofs.Keeps.{SameHeader, called-stored, called-given, requested-entries}
-
--- an entry other than that of sender j and number c
-abbrev pub Other : (j c j₂ c₂ : ℕ) → Type 0
-Other j c j₂ c₂ = (j₂ ≡ j) × (c₂ ≡ c) → ⊥
+use Rattle.counter.specs.Between.{Other, SameHeader, Alike, Between}
+use Rattle.counter.proofs.Keeps.{kept-none, called-stored, called-given, called-keeps, requested-entries}
 
 place-other : (f : PerEntry Entry) (j c : ℕ) (x : Entry) (j₂ c₂ : ℕ) → Other j c j₂ c₂ → place f j c x j₂ c₂ ≡ f j₂ c₂
 place-other f j c x j₂ c₂ d = go (sameEntry j c j₂ c₂) refl
@@ -69,12 +65,37 @@ module _ (b : List ℕ) (h : legal b ≡ true) (bytes : Bytes b) where
       any none x d = go x d
       any (some season) x d = ap (λ (f : PerEntry Entry). f j c) (requested-entries b h bytes p season)
 
--- ---- two books that agree on the header and on one entry
+  -- the header and the care stay
+  abbrev Stay : Result → Type 0
+  Stay r = SameHeader (r .book) b × (careOf (r .book) ≡ careOf b)
 
--- two results give the same answer, message and delivery, and end agreeing on the entry of sender j and number c
-pub record Alike (r s : Result) (j c : ℕ) : Type 0 where
-  pub given : r .given ≡ s .given
-  pub entry : look (r .book) j c ≡ look (s .book) j c
+  stays : (n : ℕ) → Stay (refusal n b)
+  stays n = (kept-none b h bytes .header, refl)
+
+  called-header : (a : Call) → Stay (called b a)
+  called-header a = (called-keeps b h bytes a .header, called-stored b h bytes a .care)
+
+  pub published-header : (number : ℕ) (v : Decl) → Stay (published b number v)
+  unfolding published
+  published-header number v = rw h (called-header (publishing number v))
+
+  pub received-header : (p : ℕ) (message : List ℕ) → isRequest message ≡ false → Stay (received b p message)
+  unfolding received
+  received-header p message t = rw (h, no-request message t) (go (readOf message .five))
+    where
+      in-season : (m : Five) (t : Bool) → Stay (cond t (called b (asked p m)) (refusal 3 b))
+      in-season m true = called-header (asked p m)
+      in-season m false = stays 3
+
+      go : (x : Option Five) → Stay (heardFrom b p x)
+      go none = stays 2
+      go (some m) = in-season m (eqb (m .season) (seasonOf b))
+
+  pub request-others : (p : ℕ) (message : List ℕ) → isRequest message ≡ true → look (received b p message .book) ≡ look b
+  unfolding received
+  request-others p message t = rw (h, request-names message t) (requested-entries b h bytes p (wordAt message 7))
+
+-- ---- two books that agree on the header and on one entry
 
 module _ (b d : List ℕ) (hb : legal b ≡ true) (hd : legal d ≡ true) (bb : Bytes b) (bd : Bytes d) (same : SameHeader b d) where
   step-same : (a : Call) → look b (senderOf (ownOf b) a) (numberOf a) ≡ look d (senderOf (ownOf b) a) (numberOf a) → stepOf b a ≡ stepOf d a
@@ -125,3 +146,15 @@ module _ (b d : List ℕ) (hb : legal b ≡ true) (hd : legal d ≡ true) (bb : 
           let names = f m refl in
           subst (λ (x : ℕ). Alike (heardFrom b p (some m)) (cond (eqb (m .season) x) (called d (asked p m)) (refusal 3 d)) j c)
           (same .season) (in-season m (names .0) (names .1) (eqb (m .season) (seasonOf b)))
+
+pub between : Between
+between =
+    record {
+      published-others = λ b L. published-others b (L .legal) (L .bytes);
+      received-others = λ b L. received-others b (L .legal) (L .bytes);
+      published-header = λ b L. published-header b (L .legal) (L .bytes);
+      received-header = λ b L. received-header b (L .legal) (L .bytes);
+      published-same = λ b d L M. published-same b d (L .legal) (M .legal) (L .bytes) (M .bytes);
+      received-same = λ b d L M. received-same b d (L .legal) (M .legal) (L .bytes) (M .bytes);
+      request-others = λ b L. request-others b (L .legal) (L .bytes);
+    }

@@ -16,7 +16,8 @@ use Rattle.meaning.proofs.Written.{withEntries}
 use Rattle.meaning.proofs.Numbered.{slotsOf, slots-stay}
 use Rattle.meaning.proofs.Every.{slot-is}
 use Rattle.counter.specs.Calls.{Calling, answered}
-use Rattle.counter.proofs.Keeps.{Kept, answered-keeps}
+use Rattle.counter.specs.Kept.{Kept}
+use Rattle.counter.proofs.Keeps.{answered-keeps}
 
 module _ (b : List ℕ) (h : legal b ≡ true) (bytes : Bytes b) where
   module _ (a : List ℕ) (kept : Kept b a) where

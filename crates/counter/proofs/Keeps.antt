@@ -1,5 +1,5 @@
--- What a call keeps of a legal book: it stays legal, its header stays but for the help counted, slots only ever fill; a refusal leaves
--- every byte, and an accepted call's bytes mean the book with the named entry as the step leaves it.
+-- What a call keeps of a legal book: it stays legal, its header stays but for the help counted, slots only ever fill; and an accepted
+-- call's bytes mean the book with the named entry as the step leaves it.
 -- Assumes nothing.
 use Prim.Native.Nat.{ℕ, suc, _≤_}
 use mathlib.Core.Path.{_≡_, refl, sym, ap, ap₂, _∙_, subst}
@@ -26,7 +26,7 @@ use Rattle.protocol.proofs.Basics.{true-of, and-l, upd-all}
 use Rattle.protocol.proofs.Moves.{filled-refl}
 use Rattle.protocol.proofs.Calls.{outcome-done}
 use Rattle.meaning.specs.Layout.{lengthOf}
-use Rattle.meaning.specs.Book.{Care, downOf, limitOf, helpedOf, careOf, moreCare, countHelp}
+use Rattle.meaning.specs.Book.{Care, helpedOf, careOf, moreCare, withCare, countHelp}
 use Rattle.meaning.specs.Book.{Meaning, nOf, numbersOf, ownOf, seasonOf, sheetPlace, look, meant}
 use Rattle.meaning.specs.Legal.{legal, IsDecl, IsEntry, IsBook}
 use Rattle.meaning.proofs.Legality.{legal-facts}
@@ -34,12 +34,13 @@ use Rattle.meaning.proofs.Entries.{same-entry}
 use Rattle.meaning.proofs.Stores.{Stored, stored-none}
 use Rattle.meaning.proofs.OneForm.{stored-meant}
 use Rattle.meaning.proofs.Meant.{meant-is-book}
-use Rattle.meaning.proofs.Helped.{withCare, help-legal, help-bytes, help-meant}
+use Rattle.meaning.proofs.Helped.{help-legal, help-bytes, help-meant}
 use Rattle.meaning.proofs.Every.{written-legal, written-bytes, written-meant}
 use Rattle.entry.specs.declared.Outcome.{Outcome}
-use Rattle.entry.specs.Entered.{Result, giving, helping, okBy, isDecl, rulesBy, letters, withEntry, entered}
+use Rattle.entry.specs.Entered.{giving, helping, okBy, isDecl, rulesBy, letters, withEntry, entered}
 use Rattle.counter.specs.Call.{refusal, stepOf, called}
 use Rattle.counter.specs.Call.{published, asked, heardFrom, heardAny, requestAnswer, requested, received}
+use Rattle.counter.specs.Kept.{Kept}
 use Rattle.counter.specs.Calls.{Calling, publish, receive, search, comeback, sent, answered}
 use Rattle.counter.proofs.Requests.{request-from, request-low}
 use Rattle.counter.proofs.Fits.{is-decl, Fits, outcome-fits, outcome-in-book, outcome-refused}
@@ -56,26 +57,6 @@ place-all Φ f j c x a g j₂ c₂ = go (sameEntry j c j₂ c₂) refl
     go : (t : Bool) → sameEntry j c j₂ c₂ ≡ t → Φ j₂ c₂ (cond t x (f j₂ c₂))
     go true e = let p = same-entry j c j₂ c₂ e in rw (p .0, p .1) a
     go false e = g j₂ c₂
-
--- two books agree on n, S, own number, season, sheet and f
-pub record SameHeader (b d : List ℕ) : Type 0 where
-  pub n : nOf b ≡ nOf d
-  pub numbers : numbersOf b ≡ numbersOf d
-  pub own : ownOf b ≡ ownOf d
-  pub season : seasonOf b ≡ seasonOf d
-  pub sheet : sheetAt b sheetPlace ≡ sheetAt d sheetPlace
-  pub down : downOf b ≡ downOf d
-
--- bytes a after bytes b
-pub record Kept (b a : List ℕ) : Type 0 where
-  pub legal : legal a ≡ true
-  pub bytes : Bytes a
-  pub header : SameHeader a b
-  pub limit : limitOf a ≡ limitOf b
-  -- help is only ever counted
-  pub helped : (p : ℕ) → helpedOf b p ≤ helpedOf a p
-  -- what stands in a slot stays
-  pub fills : (j c : ℕ) → Filled (look b j c) (look a j c)
 
 module _ (b : List ℕ) (h : legal b ≡ true) (bytes : Bytes b) where
   pub kept-none : Kept b b
@@ -292,51 +273,3 @@ module _ (b : List ℕ) (h : legal b ≡ true) (bytes : Bytes b) where
   answered-keeps search = kept-none
   answered-keeps comeback = kept-none
   answered-keeps (sent kind j c) = kept-none
-
--- ---- every refusal leaves the lent buffer byte for byte, whatever bytes it is
-
-module _ (b : List ℕ) where
-  abbrev Leaves : Result → Type 0
-  Leaves r = (r .given .answer ≡ 0 → ⊥) → r .book ≡ b
-
-  pub called-refused : (a : Call) → (called b a .given .answer ≡ 0 → ⊥) → called b a .book ≡ b
-  unfolding called entered
-  called-refused a = go (eqb (o .answer) 0) refl
-    where
-      o : Out
-      o = stepOf b a
-
-      go : (t : Bool) → eqb (o .answer) 0 ≡ t
-          → Leaves (cond t (entered b (senderOf (ownOf b) a) (numberOf a) o) (refusal (o .answer) b))
-      go true e f = absurd (f (eqb-true (o .answer) 0 e))
-      go false e f = refl
-
-  pub published-refused : (c : ℕ) (v : Decl) → (published b c v .given .answer ≡ 0 → ⊥) → published b c v .book ≡ b
-  unfolding published
-  published-refused c v = go (legal b)
-    where
-      go : (t : Bool) → Leaves (cond t (called b (publishing c v)) (refusal 1 b))
-      go true f = called-refused (publishing c v) f
-      go false f = refl
-
-  pub requested-refused : (p season : ℕ) → (requested b p season .given .answer ≡ 0 → ⊥) → requested b p season .book ≡ b
-  unfolding requested
-  requested-refused p season = go (eqb (requestAnswer b p season) 0)
-    where
-      go : (t : Bool) → Leaves (cond t (record { given = helping; book = countHelp b p }) (refusal (requestAnswer b p season) b))
-      go true f = absurd (f refl)
-      go false f = refl
-
-  pub received-refused : (p : ℕ) (message : List ℕ) → (received b p message .given .answer ≡ 0 → ⊥) → received b p message .book ≡ b
-  unfolding received
-  received-refused p message = go (legal b) (requestOf message) (readOf message .five)
-    where
-      in-season : (m : Five) (t : Bool) → Leaves (cond t (called b (asked p m)) (refusal 3 b))
-      in-season m true f = called-refused (asked p m) f
-      in-season m false f = refl
-
-      go : (t : Bool) (o : Option ℕ) (x : Option Five) → Leaves (cond t (heardAny b p o x) (refusal 1 b))
-      go true none none f = refl
-      go true none (some m) f = in-season m (eqb (m .season) (seasonOf b)) f
-      go true (some season) x f = requested-refused p season f
-      go false o x f = refl

@@ -8,8 +8,11 @@ pub mod Requests
 pub mod Again
 pub mod Published
 pub mod Searching
-pub mod Settled
 pub mod Fits
 pub mod Keeps
 pub mod Full
 pub mod Between
+pub mod Silent
+pub mod Ordered
+pub mod Claims
+pub mod Settled

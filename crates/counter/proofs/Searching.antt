@@ -1,8 +1,8 @@
 -- The turns of the waiting search: what each shows of the entries passed, and of the one it stops at.
 -- Assumes nothing.
-use Prim.Native.Nat.{ℕ, suc, _+_, _*_, _<_, _≤_}
-use mathlib.Core.Path.{_≡_, refl, sym, ap, ap₂, _∙_}
-use mathlib.Core.Bool.{Bool, true, false, not, _&&_}
+use Prim.Native.Nat.{ℕ, _+_, _*_, _<_, _≤_}
+use mathlib.Core.Path.{_≡_, refl, sym, ap, _∙_}
+use mathlib.Core.Bool.{Bool, true, false, cond, not, true≢false}
 use mathlib.Core.List.{List}
 use mathlib.Core.Option.{Option, none, some}
 use native.Mathlib.Numerals.{add-one}
@@ -14,10 +14,11 @@ use Rattle.meaning.specs.Book.{nOf, numbersOf, look}
 use Rattle.meaning.specs.Legal.{legal}
 use Rattle.meaning.proofs.Legality.{legal-facts}
 use Rattle.card.proofs.Wall.{houses-byte}
+use Rattle.counter.specs.declared.Waiting.{Waiting}
 use Rattle.counter.specs.declared.Found.{Found}
 use Rattle.counter.specs.declared.Found.the-variants.{At, Nothing}
-use Rattle.entry.specs.Places.{placeIn, Has, Begins}
-use Rattle.counter.specs.Search.{waits, Place, orElse, firstBelow, waitingAt, earliest, placeOf, found, waiting, Earliest}
+use Rattle.entry.specs.Places.{Has, Begins}
+use Rattle.counter.specs.Search.{waits, Place, firstBelow, waitingAt, earliest, found, told, waiting, Earliest}
 use Rattle.counter.proofs.Earliest.{first-at, waiting-some, waiting-none, earliest-exactly}
 use Rattle.entry.proofs.Room.{numbers-small}
 use Rattle.entry.proofs.Seen.{from-base, heard-seen, delivered-seen}
@@ -66,32 +67,50 @@ module _ (b : List ℕ) (n c : ℕ) where
 
   -- the first that waits
   pub stops-at : (j s : ℕ) (r : Bool) → n ≡ nOf b → s ≡ numbersOf b → r ≡ waits b j c → r ≡ true → firstBelow (waitingAt b c) j ≡ none
-      → firstBelow (row b n) c ≡ none → j < n → c < s → placeOf (At c j) ≡ earliest b
+      → firstBelow (row b n) c ≡ none → j < n → c < s → told (At c j) ≡ found (earliest b)
   unfolding earliest
   stops-at j s r en es er t h g lj lc =
       let here = first-at (waitingAt b c) n j (record { number = c; sender = j }) lj (waiting-some b c j (sym er ∙ t)) h in
       let all = first-at (row b n) s c (record { number = c; sender = j }) lc here g in
-      sym all ∙ (λ i. firstBelow (row b (en i)) (es i))
+      ap found (sym all ∙ (λ i. firstBelow (row b (en i)) (es i)))
 
-  pub stops-nowhere : (s : ℕ) (found : Found) → n ≡ nOf b → s ≡ numbersOf b → found ≡ Nothing → c ≤ s → s ≤ c
-      → firstBelow (row b n) c ≡ none → placeOf found ≡ earliest b
+  pub stops-nowhere : (s : ℕ) (x : Found) → n ≡ nOf b → s ≡ numbersOf b → x ≡ Nothing → c ≤ s → s ≤ c
+      → firstBelow (row b n) c ≡ none → told x ≡ found (earliest b)
   unfolding earliest
-  stops-nowhere s found en es e l m h =
+  stops-nowhere s x en es e l m h =
       let z : c ≡ numbersOf b = omega arith in
-      ap placeOf e ∙ sym h ∙ (λ i. firstBelow (row b (en i)) (z i))
+      ap told e ∙ ap found (sym h ∙ (λ i. firstBelow (row b (en i)) (z i)))
 
 -- ---- the answer
 
-module _ (b : List ℕ) where
-  pub found-small : legal b ≡ true → (x : Place) → some x ≡ earliest b → (x .number < 256) × (x .sender < 256)
-  found-small h x e =
-      let p = earliest-exactly b x .0 (sym e) in
-      let n = houses-byte (nOf b) (legal-facts b h .n) in
-      (omega (arith, p .in-numbers, numbers-small b h), omega (arith, p .in-senders))
+-- the number and values of the search's cases settle the case
+abbrev caseOf : Waiting → Found
+caseOf w = cond (w .waits) (At (w .number) (w .sender)) Nothing
 
-  pub waiting-found : legal b ≡ true → (o : Option Place) → o ≡ earliest b → found o ≡ waiting b
+case-of-told : (x : Found) → caseOf (told x) ≡ x
+case-of-told (At number sender) = refl
+case-of-told Nothing = refl
+
+pub told-injective : (x y : Found) → told x ≡ told y → x ≡ y
+told-injective x y h = sym (case-of-told x) ∙ ap caseOf h ∙ case-of-told y
+
+module _ (b : List ℕ) where
+  pub found-small : legal b ≡ true → (number sender : ℕ) → told (At number sender) ≡ found (earliest b) → (number < 256) × (sender < 256)
+  found-small h number sender e = go (earliest b) refl (λ x q. earliest-exactly b x .0 q)
+    where
+      go : (o : Option Place) → earliest b ≡ o → ((x : Place) → o ≡ some x → Earliest b x) → (number < 256) × (sender < 256)
+      go none q f = absurd (true≢false (ap (λ (w : Waiting). w .waits) (e ∙ ap found q)))
+      go (some x) q f =
+          let p = f x refl in
+          let w = e ∙ ap found q in
+          let n = houses-byte (nOf b) (legal-facts b h .n) in
+          let c : number ≡ x .number = ap (λ (w : Waiting). w .number) w in
+          let j : sender ≡ x .sender = ap (λ (w : Waiting). w .sender) w in
+          (omega (arith, p .in-numbers, numbers-small b h, c), omega (arith, p .in-senders, n, j))
+
+  pub waiting-found : legal b ≡ true → (w : Waiting) → w ≡ found (earliest b) → w ≡ waiting b
   unfolding waiting
-  waiting-found h o e = rw h (ap found e)
+  waiting-found h w e = rw h e
 
   pub waiting-no-book : legal b ≡ false → record { answer = 1; waits = false; number = 0; sender = 0 } ≡ waiting b
   unfolding waiting

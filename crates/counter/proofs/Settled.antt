@@ -1,13 +1,12 @@
--- Two outcomes that meet the contract of publishing, of receiving, of the waiting search, of a return or of what was sent, as Rattle
--- reads it from the source, are equal: the answer, the message, the delivery and each byte of the lent buffer.
+-- The contracts that `Claims` settles are those of the source, as Rattle reads them.
 -- Assumes nothing.
-use mathlib.Core.Path.{_≡_, sym, ap, _∙_}
+use mathlib.Core.Path.{_≡_}
 use contract.Lifetimes.{Lfts}
 use borrow.Fn.World.{ArgsD, ResD}
 use borrow.Fn.Kinds.{endedOf}
 use denote.Triple.Clauses.{AtExit}
 use denote.Ref.{now}
-use Rattle.entry.specs.Entered.{Result}
+use Rattle.counter.proofs.Claims.{claims}
 use Rattle.counter.proofs.publish
 use Rattle.counter.proofs.publish.Reads as publish-reads
 use Rattle.counter.proofs.publish.Kinds as publish-kinds
@@ -27,25 +26,21 @@ use Rattle.counter.proofs.sent_on.Kinds as sent-kinds
 pub publish-settled : (κs : Lfts 2) (a : ArgsD publish.signature κs) (r r' : ResD publish.signature κs)
     (s s' : AtExit (endedOf 2 publish-kinds.ps publish-kinds.r) κs) → publish-reads.Post κs a r s → publish-reads.Post κs a r' s'
     → (r ≡ r') × (now (s .0) ≡ now (s' .0))
-publish-settled κs a r r' s s' p q =
-    let e = p ∙ sym q in
-    (ap (λ (x : Result). x .given) e, ap (λ (x : Result). x .book) e)
+publish-settled κs a r r' s s' p q = claims .settled .publish-settled _ _ _ r r' _ _ p q
 
 pub receive-settled : (κs : Lfts 2) (a : ArgsD receive.signature κs) (r r' : ResD receive.signature κs)
     (s s' : AtExit (endedOf 2 receive-kinds.ps receive-kinds.r) κs) → receive-reads.Post κs a r s → receive-reads.Post κs a r' s'
     → (r ≡ r') × (now (s .0) ≡ now (s' .0))
-receive-settled κs a r r' s s' p q =
-    let e = p ∙ sym q in
-    (ap (λ (x : Result). x .given) e, ap (λ (x : Result). x .book) e)
+receive-settled κs a r r' s s' p q = claims .settled .receive-settled _ _ _ r r' _ _ p q
 
 pub waiting-settled : (κs : Lfts 1) (a : ArgsD «earliest_waiting».signature κs) (r r' : ResD «earliest_waiting».signature κs)
     (s s' : AtExit (endedOf 1 waiting-kinds.ps waiting-kinds.r) κs) → waiting-reads.Post κs a r s → waiting-reads.Post κs a r' s' → r ≡ r'
-waiting-settled κs a r r' s s' p q = p ∙ sym q
+waiting-settled κs a r r' s s' p q = claims .settled .waiting-settled _ r r' p q
 
 pub return-settled : (κs : Lfts 1) (a : ArgsD «come_back».signature κs) (r r' : ResD «come_back».signature κs)
     (s s' : AtExit (endedOf 1 return-kinds.ps return-kinds.r) κs) → return-reads.Post κs a r s → return-reads.Post κs a r' s' → r ≡ r'
-return-settled κs a r r' s s' p q = p ∙ sym q
+return-settled κs a r r' s s' p q = claims .settled .return-settled _ r r' p q
 
 pub sent-settled : (κs : Lfts 1) (a : ArgsD «sent_on».signature κs) (r r' : ResD «sent_on».signature κs)
     (s s' : AtExit (endedOf 1 sent-kinds.ps sent-kinds.r) κs) → sent-reads.Post κs a r s → sent-reads.Post κs a r' s' → r ≡ r'
-sent-settled κs a r r' s s' p q = p ∙ sym q
+sent-settled κs a r r' s s' p q = claims .settled .sent-settled _ _ _ _ r r' p q

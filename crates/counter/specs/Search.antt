@@ -48,16 +48,17 @@ pub record Earliest (b : List ℕ) (x : Place) : Type 0 where
   pub lower-number : (j c : ℕ) → j < nOf b → c < x .number → waits b j c ≡ false
   pub lower-sender : (j : ℕ) → j < x .sender → waits b j (x .number) ≡ false
 
--- the number and sender that each of the search's cases stands for
-abbrev pub placeOf : Found → Option Place
-placeOf (At number sender) = some (record { number = number; sender = sender })
-placeOf Nothing = none
-
--- an entry, or a plain none, or answer 1
+-- an entry, or a plain none
 abbrev pub found : Option Place → Waiting
 found (some x) = record { answer = 0; waits = true; number = x .number; sender = x .sender }
 found none = record { answer = 0; waits = false; number = 0; sender = 0 }
 
+-- the number and values of each of the search's cases
+abbrev pub told : Found → Waiting
+told (At number sender) = found (some (record { number = number; sender = sender }))
+told Nothing = found none
+
+-- the earliest waiting entry, or a plain none, or answer 1
 unfoldable pub waiting : List ℕ → Waiting
 unfolding earliest
 waiting b = cond (legal b) (found (earliest b)) (record { answer = 1; waits = false; number = 0; sender = 0 })

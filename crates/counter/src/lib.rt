@@ -14,7 +14,7 @@ ghost use Rattle.entry.specs.Entered.{result, kindOf, fiveOf, letters};
 ghost use Rattle.entry.specs.Places.{Has};
 ghost use Rattle.counter.specs.Call.{fromAnswer, lotAnswer, stepOf, called, heardFrom, received, published};
 ghost use Rattle.counter.specs.Call.{requestAnswer, requested};
-ghost use Rattle.counter.specs.Search.{waits, earliest, placeOf, waiting};
+ghost use Rattle.counter.specs.Search.{waits, earliest, found, told, waiting};
 ghost use Rattle.counter.specs.Again.{returned, sending, saidOf, sentOn, sentOf};
 use entry::Outcome;
 use lot::Declaration;
@@ -278,7 +278,7 @@ fn waits_at(book: &[u8], sender: usize, number: usize) -> bool
 // Lowest number first and then lowest sender.
 fn search(book: &[u8], n: usize, s: usize) -> Found
     requires { ⌜ (legal (now book) ≡ true) × (n ≡ nOf (now book)) × (s ≡ numbersOf (now book)) ⌝ }
-    ensures { λ r. ⌜ placeOf r ≡ earliest (now (book .entry)) ⌝ }
+    ensures { λ r. ⌜ told r ≡ found (earliest (now (book .entry))) ⌝ }
 {
     let mut found = Found::Nothing;
     'search: for number in 0..s {

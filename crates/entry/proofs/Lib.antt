@@ -6,3 +6,4 @@ pub mod Marking
 pub mod Entered
 pub mod Recorded
 pub mod Publication
+pub mod Claims

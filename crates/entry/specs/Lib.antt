@@ -1,2 +1,3 @@
 pub mod Entered
 pub mod Places
+pub mod Claims

@@ -1,1 +1,3 @@
+pub mod Trips
+pub mod Claims
 pub mod Settled

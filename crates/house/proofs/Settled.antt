@@ -1,14 +1,12 @@
--- Two outcomes that meet the contract of an exported call, as Rattle reads it from the source, are equal, and so is each byte of a lent
--- book.
+-- The contracts that `Claims` settles are those of the ten calls in the source, as Rattle reads them.
 -- Assumes nothing.
-use mathlib.Core.Path.{_≡_, sym, ap, _∙_}
+use mathlib.Core.Path.{_≡_}
 use contract.Lifetimes.{Lfts}
 use borrow.Fn.World.{ArgsD, ResD}
 use borrow.Fn.Kinds.{endedOf}
 use denote.Triple.Clauses.{AtExit}
 use denote.Ref.{now}
-use Rattle.meaning.specs.Opening.{Opened}
-use Rattle.entry.specs.Entered.{Result}
+use Rattle.house.proofs.Claims.{claims}
 use Rattle.house.proofs.gm_length
 use Rattle.house.proofs.gm_length.Reads as length-reads
 use Rattle.house.proofs.gm_length.Kinds as length-kinds
@@ -42,51 +40,43 @@ use Rattle.house.proofs.gm_read.Kinds as read-kinds
 
 pub length-settled : (κs : Lfts 0) (a : ArgsD gm_length.signature κs) (r r' : ResD gm_length.signature κs)
     (s s' : AtExit (endedOf 0 length-kinds.ps length-kinds.r) κs) → length-reads.Post κs a r s → length-reads.Post κs a r' s' → r ≡ r'
-length-settled κs a r r' s s' p q =
-    let e = p ∙ sym q in
-    λ i. record { answer = e i .answer; length = e i .length }
+length-settled κs a r r' s s' p q = claims .settled .book .length-settled _ _ r r' p q
 
 pub open-settled : (κs : Lfts 2) (a : ArgsD gm_open.signature κs) (r r' : ResD gm_open.signature κs)
     (s s' : AtExit (endedOf 2 open-kinds.ps open-kinds.r) κs) → open-reads.Post κs a r s → open-reads.Post κs a r' s'
     → (r ≡ r') × (now (s .0) ≡ now (s' .0))
-open-settled κs a r r' s s' p q =
-    let e = p ∙ sym q in
-    (ap (λ (o : Opened). o .answer) e, ap (λ (o : Opened). o .book) e)
+open-settled κs a r r' s s' p q = claims .settled .book .open-settled _ _ _ _ _ _ _ _ r r' _ _ p q
 
 pub publish-settled : (κs : Lfts 2) (a : ArgsD gm_publish.signature κs) (r r' : ResD gm_publish.signature κs)
     (s s' : AtExit (endedOf 2 publish-kinds.ps publish-kinds.r) κs) → publish-reads.Post κs a r s → publish-reads.Post κs a r' s'
     → (r ≡ r') × (now (s .0) ≡ now (s' .0))
-publish-settled κs a r r' s s' p q =
-    let e = p ∙ sym q in
-    (ap (λ (x : Result). x .given) e, ap (λ (x : Result). x .book) e)
+publish-settled κs a r r' s s' p q = claims .settled .counter .publish-settled _ _ _ r r' _ _ p q
 
 pub receive-settled : (κs : Lfts 2) (a : ArgsD gm_receive.signature κs) (r r' : ResD gm_receive.signature κs)
     (s s' : AtExit (endedOf 2 receive-kinds.ps receive-kinds.r) κs) → receive-reads.Post κs a r s → receive-reads.Post κs a r' s'
     → (r ≡ r') × (now (s .0) ≡ now (s' .0))
-receive-settled κs a r r' s s' p q =
-    let e = p ∙ sym q in
-    (ap (λ (x : Result). x .given) e, ap (λ (x : Result). x .book) e)
+receive-settled κs a r r' s s' p q = claims .settled .counter .receive-settled _ _ _ r r' _ _ p q
 
 pub waiting-settled : (κs : Lfts 1) (a : ArgsD gm_waiting.signature κs) (r r' : ResD gm_waiting.signature κs)
     (s s' : AtExit (endedOf 1 waiting-kinds.ps waiting-kinds.r) κs) → waiting-reads.Post κs a r s → waiting-reads.Post κs a r' s' → r ≡ r'
-waiting-settled κs a r r' s s' p q = p ∙ sym q
+waiting-settled κs a r r' s s' p q = claims .settled .counter .waiting-settled _ r r' p q
 
 pub return-settled : (κs : Lfts 1) (a : ArgsD gm_return.signature κs) (r r' : ResD gm_return.signature κs)
     (s s' : AtExit (endedOf 1 return-kinds.ps return-kinds.r) κs) → return-reads.Post κs a r s → return-reads.Post κs a r' s' → r ≡ r'
-return-settled κs a r r' s s' p q = p ∙ sym q
+return-settled κs a r r' s s' p q = claims .settled .counter .return-settled _ r r' p q
 
 pub sent-settled : (κs : Lfts 1) (a : ArgsD gm_sent.signature κs) (r r' : ResD gm_sent.signature κs)
     (s s' : AtExit (endedOf 1 sent-kinds.ps sent-kinds.r) κs) → sent-reads.Post κs a r s → sent-reads.Post κs a r' s' → r ≡ r'
-sent-settled κs a r r' s s' p q = p ∙ sym q
+sent-settled κs a r r' s s' p q = claims .settled .counter .sent-settled _ _ _ _ r r' p q
 
 pub judge-settled : (κs : Lfts 2) (a : ArgsD gm_judge.signature κs) (r r' : ResD gm_judge.signature κs)
     (s s' : AtExit (endedOf 2 judge-kinds.ps judge-kinds.r) κs) → judge-reads.Post κs a r s → judge-reads.Post κs a r' s' → r ≡ r'
-judge-settled κs a r r' s s' p q = p ∙ sym q
+judge-settled κs a r r' s s' p q = claims .settled .judge-settled _ _ r r' p q
 
 pub write-settled : (κs : Lfts 1) (a : ArgsD gm_write.signature κs) (r r' : ResD gm_write.signature κs)
     (s s' : AtExit (endedOf 1 write-kinds.ps write-kinds.r) κs) → write-reads.Post κs a r s → write-reads.Post κs a r' s' → r ≡ r'
-write-settled κs a r r' s s' p q = p ∙ sym q
+write-settled κs a r r' s s' p q = claims .settled .write-settled _ _ _ _ _ r r' p q
 
 pub read-settled : (κs : Lfts 1) (a : ArgsD gm_read.signature κs) (r r' : ResD gm_read.signature κs)
     (s s' : AtExit (endedOf 1 read-kinds.ps read-kinds.r) κs) → read-reads.Post κs a r s → read-reads.Post κs a r' s' → r ≡ r'
-read-settled κs a r r' s s' p q = p ∙ sym q
+read-settled κs a r r' s s' p q = claims .settled .read-settled _ r r' p q

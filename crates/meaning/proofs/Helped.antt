@@ -15,8 +15,8 @@ use Rattle.words.specs.Words.{Bytes}
 use Rattle.protocol.specs.Entry.{upd}
 use Rattle.meaning.specs.Slot.{part, slotAt, slotOk}
 use Rattle.meaning.specs.Layout.{mostLimit, helpedPlace, slotCount, slotPlace}
-use Rattle.meaning.specs.Book.{Care, Meaning, nOf, numbersOf, ownOf, downOf, limitOf, helpedOf, careOf}
-use Rattle.meaning.specs.Book.{moreCare, countHelp, slotOf, meant, write}
+use Rattle.meaning.specs.Book.{nOf, numbersOf, ownOf, downOf, limitOf, helpedOf, careOf}
+use Rattle.meaning.specs.Book.{moreCare, withCare, countHelp, slotOf, meant, write}
 use Rattle.meaning.specs.Legal.{legal, Legal}
 use Rattle.meaning.proofs.Legality.{legal-facts, facts-legal, slots-at, slots-all, header-within}
 use Rattle.meaning.proofs.Places.{slot-past-header}
@@ -24,19 +24,6 @@ use Rattle.meaning.proofs.Slots.{slot-part, ok-part}
 use Rattle.meaning.proofs.Header.{sheet-same, sheet-legal-same, season-same}
 use Rattle.meaning.proofs.Entries.{entriesIn, look-is}
 use Rattle.meaning.proofs.OneForm.{written}
-
--- what it means with other care
-abbrev pub withCare : Meaning → Care → Meaning
-withCare B w =
-    record {
-      n = B .n;
-      numbers = B .numbers;
-      own = B .own;
-      season = B .season;
-      sheet = B .sheet;
-      care = w;
-      entries = B .entries;
-    }
 
 part-set : (b : List ℕ) (i x at m : ℕ) → i < at → part (set b i x) at m ≡ part b at m
 part-set b i x at m l =

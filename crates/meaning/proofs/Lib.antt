@@ -15,3 +15,4 @@ pub mod Every
 pub mod Opening
 pub mod Example
 pub mod Helped
+pub mod Claims

@@ -66,6 +66,19 @@ careOf b = record { down = downOf b; limit = limitOf b; helped = helpedOf b }
 abbrev pub moreCare : Care → ℕ → Care
 moreCare w p = record { down = w .down; limit = w .limit; helped = upd (w .helped) p (suc (w .helped p)) }
 
+-- what it means with other care
+abbrev pub withCare : Meaning → Care → Meaning
+withCare B w =
+    record {
+      n = B .n;
+      numbers = B .numbers;
+      own = B .own;
+      season = B .season;
+      sheet = B .sheet;
+      care = w;
+      entries = B .entries;
+    }
+
 -- the bytes with one more help for asker p counted
 unfoldable pub countHelp : List ℕ → ℕ → List ℕ
 countHelp b p = set b (helpedPlace p) (suc (getD b (helpedPlace p) 0))

@@ -52,6 +52,11 @@ pub record Legal (b : List ℕ) : Type 0 where
   pub helped : (p : ℕ) → p < nOf b → getD b (helpedPlace p) 0 ≤ limitOf b
   pub slots : slotsOk b (nOf b) (slotCount (nOf b) (numbersOf b)) ≡ true
 
+-- lent bytes that are a legal book
+pub record Lent (b : List ℕ) : Type 0 where
+  pub legal : legal b ≡ true
+  pub bytes : Bytes b
+
 -- any 20 bytes may stand as a recorded declaration
 pub record IsDecl (v : Decl) : Type 0 where
   pub long : length v ≡ 20

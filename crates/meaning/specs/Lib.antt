@@ -3,3 +3,4 @@ pub mod Layout
 pub mod Book
 pub mod Legal
 pub mod Opening
+pub mod Claims

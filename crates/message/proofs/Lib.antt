@@ -1,5 +1,6 @@
 pub mod Form
 pub mod RoundTrip
 pub mod Told
-pub mod Settled
 pub mod Request
+pub mod Claims
+pub mod Settled

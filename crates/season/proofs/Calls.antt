@@ -30,7 +30,8 @@ use Rattle.entry.specs.declared.Outcome.{Outcome}
 use Rattle.entry.specs.Entered.{result, giving, helping, okBy, rulesBy, kindNumber, letters}
 use Rattle.counter.specs.Call.{refusal, stepOf, called, requestAnswer, requested}
 use Rattle.counter.specs.Again.{sending, saidOf, sentOn, sentOf}
-use Rattle.counter.proofs.Keeps.{Kept, plausible-decl, called-stored, called-given, called-keeps, helped-meant, helped-keeps}
+use Rattle.counter.specs.Kept.{Kept}
+use Rattle.counter.proofs.Keeps.{plausible-decl, called-stored, called-given, called-keeps, helped-meant, helped-keeps}
 use Rattle.season.specs.Run.{Houses, isHonest, Copy, Noted, Given, State, messageOf, deliveryOf, publicationOf, Named, nothing, entry}
 use Rattle.season.specs.Run.{noting, posted, sentAgain, againOn, again, sends, ended}
 use Rattle.season.proofs.Mail.{kind-known, kind-of-number, Says, Asks, Mails, mails-append, mails-each, mails-to-those, mails-posted}

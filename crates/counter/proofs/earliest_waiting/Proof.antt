@@ -2,7 +2,7 @@
 -- Assumes nothing.
 use Rattle.counter.proofs.Searching.{found-small, waiting-found, waiting-no-book}
 use Rattle.entry.proofs.Room.{header-room}
-use Rattle.counter.specs.Search.{placeOf}
+use Rattle.counter.specs.Search.{told}
 use native.Mathlib.Omega.{arith}
 use denote.Ref.{now}
 use mathlib.Core.Path.{_≡_, sym, ap, _∙_}
@@ -34,22 +34,22 @@ returns : tie.Need-returns
 returns c =
     let s = c .before .before in
     let t = s .before .before .before in
-    waiting-found _ (sym (t .before .is-legal .ensures) ∙ t .if1 .taken) _ (sym (ap placeOf (c .enum-told .given .1)) ∙ s .search .ensures)
+    waiting-found _ (sym (t .before .is-legal .ensures) ∙ t .if1 .taken) _ (sym (ap told (c .enum-told .given .1)) ∙ s .search .ensures)
 
 cast-t8 : tie.Need-cast-t8
 cast-t8 c =
     let s = c .before .before .before in
     let t = s .before .before .before in
-    let small = found-small _ (sym (t .before .is-legal .ensures) ∙ t .if1 .taken) _
-    (sym (ap placeOf (c .before .number .given .1)) ∙ s .search .ensures) in
+    let small = found-small _ (sym (t .before .is-legal .ensures) ∙ t .if1 .taken) _ _
+    (sym (ap told (c .before .number .given .1)) ∙ s .search .ensures) in
     omega (arith, small .0)
 
 cast-t9 : tie.Need-cast-t9
 cast-t9 c =
     let s = c .before .before .before in
     let t = s .before .before .before in
-    let small = found-small _ (sym (t .before .is-legal .ensures) ∙ t .if1 .taken) _
-    (sym (ap placeOf (c .before .number .given .1)) ∙ s .search .ensures) in
+    let small = found-small _ (sym (t .before .is-legal .ensures) ∙ t .if1 .taken) _ _
+    (sym (ap told (c .before .number .given .1)) ∙ s .search .ensures) in
     omega (arith, small .1)
 
 returns-2 : tie.Need-returns-2
@@ -57,7 +57,7 @@ returns-2 c =
     let s = c .before .before .before in
     let t = s .before .before .before in
     waiting-found _ (sym (t .before .is-legal .ensures) ∙ t .if1 .taken) _
-    (sym (ap placeOf (c .before .number .given .1)) ∙ s .search .ensures)
+    (sym (ap told (c .before .number .given .1)) ∙ s .search .ensures)
 
 returns-3 : tie.Need-returns-3
 returns-3 c = waiting-no-book _ (sym (c .before .is-legal .ensures) ∙ c .if1 .left)

@@ -1,0 +1,20 @@
+-- What the ten calls promise beside their contracts holds.
+-- Assumes nothing.
+use mathlib.Core.Path.{sym, _∙_}
+use Rattle.book.proofs.Claims as book
+use Rattle.counter.proofs.Claims as counter
+use Rattle.house.specs.Claims.{Claims}
+use Rattle.house.proofs.Trips.{trips}
+
+pub claims : Claims
+claims =
+    record {
+      trips = trips;
+      settled = record {
+        book = book.claims .settled;
+        counter = counter.claims .settled;
+        judge-settled = λ sheet d r r' p q. p ∙ sym q;
+        write-settled = λ kind season sender number d r r' p q. p ∙ sym q;
+        read-settled = λ s r r' p q. p ∙ sym q;
+      };
+    }

@@ -1,0 +1,47 @@
+-- What this crate promises holds.
+-- Assumes nothing.
+use Prim.Native.Nat.{ℕ, _<_}
+use mathlib.Core.List.{List}
+use lib.ListN.{getD}
+use borrow.Author.Tests.{lt-ltb}
+use Rattle.meaning.specs.Layout.{helpedPlace}
+use Rattle.meaning.specs.Book.{nOf, limitOf, helpedOf, careOf, moreCare, withCare, countHelp, meant}
+use Rattle.meaning.specs.Legal.{Lent}
+use Rattle.meaning.specs.Claims.{Means, Claims}
+use Rattle.meaning.proofs.Legality.{legal-facts}
+use Rattle.meaning.proofs.Places.{length-most}
+use Rattle.meaning.proofs.OneForm.{same-bytes}
+use Rattle.meaning.proofs.Every.{written-legal, written-bytes, written-meant, legal-exactly}
+use Rattle.meaning.proofs.Opening.{opened-refused, opened-legal, opened-bytes, opened-meant}
+use Rattle.meaning.proofs.Helped.{help-legal, help-bytes, help-meant}
+
+helped-more : (b : List ℕ) → Lent b → (p : ℕ) → p < nOf b → helpedOf b p < limitOf b
+    → Means (countHelp b p) (withCare (meant b) (moreCare (careOf b) p))
+unfolding helpedOf
+helped-more b L p l m =
+    let low : getD b (helpedPlace p) 0 < limitOf b = rw (lt-ltb p (nOf b) l) at m in
+    record {
+      lent = record { legal = help-legal b (L .legal) (L .bytes) p l low; bytes = help-bytes b (L .legal) (L .bytes) p l low };
+      means = help-meant b (L .legal) (L .bytes) p l low;
+    }
+
+pub claims : Claims
+claims =
+    record {
+      legal-exactly = legal-exactly;
+      written = λ B I.
+          record { lent = record { legal = written-legal B I; bytes = written-bytes B I }; means = written-meant B I };
+      same-bytes = λ b c L M e. same-bytes b c (L .legal) (M .legal) (L .bytes) (M .bytes) e;
+      long = λ b h. legal-facts b h .long;
+      length-most = length-most;
+      opened-fresh = λ b n s own f d season sheet l bytes e.
+          record {
+            lent = record {
+              legal = opened-legal b n s own f d season sheet l bytes e;
+              bytes = opened-bytes b n s own f d season sheet l bytes e;
+            };
+            means = opened-meant b n s own f d season sheet l bytes e;
+          };
+      opened-refused = opened-refused;
+      helped = helped-more;
+    }

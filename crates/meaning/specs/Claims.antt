@@ -1,0 +1,39 @@
+-- What this crate promises, in document 01's order.
+-- Assumes nothing.
+use Prim.Native.Nat.{ℕ, _^_, _≤_, _<_}
+use mathlib.Core.Path.{_≡_}
+use mathlib.Core.Bool.{true}
+use mathlib.Core.List.{List}
+use mathlib.Core.Logic.{_↔_}
+use lib.ListN.{length}
+use Rattle.words.specs.Words.{Bytes}
+use Rattle.sheet.specs.Kept.{sheetAt}
+use Rattle.meaning.specs.Layout.{lengthOf}
+use Rattle.meaning.specs.Book.{Meaning, nOf, numbersOf, limitOf, helpedOf, careOf, moreCare, withCare, countHelp, meant, write}
+use Rattle.meaning.specs.Legal.{legal, Lent, IsBook}
+use Rattle.meaning.specs.Opening.{freshBook, opened}
+
+-- a legal book that means B
+pub record Means (b : List ℕ) (B : Meaning) : Type 0 where
+  pub lent : Lent b
+  pub means : meant b ≡ B
+
+pub record Claims : Type 0 where
+  -- A legal book is the bytes of what a book may mean, and nothing more is asked.
+  pub legal-exactly : (b : List ℕ) → Bytes b → (legal b ≡ true) ↔ ((B : Meaning) × IsBook B × (b ≡ write B))
+  -- One byte form per meaning: what is written means what was written, and two legal books that mean the same are the same bytes;
+  pub written : (B : Meaning) → IsBook B → Means (write B) B
+  pub same-bytes : (b c : List ℕ) → Lent b → Lent c → meant b ≡ meant c → b ≡ c
+  -- a length that depends on n and S only, at most 49,152 bytes at 16 and 4.
+  pub long : (b : List ℕ) → legal b ≡ true → length b ≡ lengthOf (nOf b) (numbersOf b)
+  pub length-most : lengthOf 16 4 ≤ 49152
+  -- Opening writes the whole buffer: nothing heard, sent, delivered or published, nobody helped.
+  pub opened-fresh : (b : List ℕ) (n s own f d season : ℕ) (sheet : List ℕ) → season < 2 ^ 32 → Bytes sheet
+      → opened b n s own f d season sheet .answer ≡ 0
+      → Means (opened b n s own f d season sheet .book) (freshBook n s own f d season (sheetAt sheet 0))
+  -- Every refusal of it leaves the lent buffer byte for byte.
+  pub opened-refused : (b : List ℕ) (n s own f d season : ℕ) (sheet : List ℕ)
+      → (opened b n s own f d season sheet .answer ≡ 0 → ⊥) → opened b n s own f d season sheet .book ≡ b
+  -- One more help counted for a house that was helped less than d times: that count and nothing else changes.
+  pub helped : (b : List ℕ) → Lent b → (p : ℕ) → p < nOf b → helpedOf b p < limitOf b
+      → Means (countHelp b p) (withCare (meant b) (moreCare (careOf b) p))

@@ -1,0 +1,38 @@
+-- What this crate promises, in document 01's order.
+-- Assumes nothing.
+use Prim.Native.Nat.{ℕ}
+use mathlib.Core.Path.{_≡_}
+use mathlib.Core.Bool.{true}
+use mathlib.Core.List.{List}
+use mathlib.Core.Logic.{_↔_}
+use mathlib.Core.Option.{some}
+use Rattle.words.specs.Words.{Bytes, wordAt}
+use Rattle.words.specs.Settled.{Settled}
+use Rattle.lot.specs.declared.Declaration.{Declaration}
+use Rattle.message.specs.declared.Reading.{Reading}
+use Rattle.message.specs.declared.Written.{Written}
+use Rattle.message.specs.Message.{Five, isKind, wire, gives, malformed, readOf, told, writtenOf, requestWire, isRequest, requestOf}
+
+-- Two outcomes that meet the contract of the reader, or of the writer, are equal.
+pub record Settles : Type 0 where
+  pub read-settled : (s : List ℕ) → Settled (λ (r : Reading). told r ≡ readOf s)
+  pub write-settled : (kind season sender number : ℕ) (d : Declaration)
+      → Settled (λ (r : Written). r ≡ writtenOf kind season sender number d)
+
+pub record Claims : Type 0 where
+  -- Reading undoes writing,
+  pub read-of-wire : (m : Five) → isKind (m .kind) ≡ true → readOf (wire m) ≡ gives m
+  -- bytes that read are the bytes that writing gives,
+  pub wire-of-read : (s : List ℕ) → Bytes s → (m : Five) → readOf s ≡ gives m → (s ≡ wire m) × (isKind (m .kind) ≡ true)
+  -- so a message has exactly one written form,
+  pub one-form : (s r : List ℕ) (m : Five) → Bytes s → Bytes r → readOf s ≡ gives m → readOf r ≡ gives m → s ≡ r
+  -- and anything else is malformed.
+  pub malformed-exactly : (s : List ℕ) → Bytes s → (readOf s ≡ malformed) ↔ ((m : Five) → isKind (m .kind) ≡ true → s ≡ wire m → ⊥)
+  -- A request reads as what was written, is written as it reads, and is no message of another kind.
+  pub request-of-wire : (season : ℕ) → requestOf (requestWire season) ≡ some season
+  pub wire-of-request : (s : List ℕ) → isRequest s ≡ true → Bytes s → s ≡ requestWire (wordAt s 7)
+  pub request-alone : (s : List ℕ) → isRequest s ≡ true → readOf s ≡ malformed
+  -- The number and values of the reader's cases settle the case.
+  pub told-injective : (a b : Reading) → told a ≡ told b → a ≡ b
+  -- The reader's contract and the writer's settle their outcome.
+  pub settled : Settles

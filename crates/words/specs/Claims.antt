@@ -1,0 +1,17 @@
+-- What this crate promises: a number and its four bytes settle each other.
+-- Assumes nothing.
+use Prim.Native.Nat.{ℕ, _+_, _^_, _<_}
+use mathlib.Core.Path.{_≡_}
+use mathlib.Core.List.{List, [], _∷_}
+use lib.ListN.{getD}
+use Rattle.words.specs.Words.{Bytes, be32, wordAt}
+
+pub record Claims : Type 0 where
+  -- the number that a number's four bytes stand for
+  pub number-of-bytes : (n : ℕ) → wordAt (be32 n) 0 ≡ n
+  -- the four bytes of the number that four bytes stand for, wherever they stand
+  pub bytes-of-number : (s : List ℕ) → Bytes s → (i : ℕ)
+      → getD s i 0 ∷ getD s (i + 1) 0 ∷ getD s (i + 2) 0 ∷ getD s (i + 3) 0 ∷ [] ≡ be32 (wordAt s i)
+  -- numbers of 32 bits, and bytes
+  pub number-small : (s : List ℕ) → Bytes s → (i : ℕ) → wordAt s i < 2 ^ 32
+  pub bytes-are-bytes : (n : ℕ) → n < 2 ^ 32 → Bytes (be32 n)
