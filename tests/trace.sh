@@ -88,8 +88,14 @@ for request in $landed; do
 done
 
 # Document 01's sentences in one file, each landed request's in its own.
-[ -f "$documents/01-scope.md" ] && bash tests/sentences "$documents/01-scope.md" >"$room/01"
-if [ -f "$documents/02-change-requests.md" ]; then
+if [ -f "$documents/01-scope.md" ]; then
+    bash tests/sentences "$documents/01-scope.md" >"$room/01"
+else
+    echo "trace: document 01 is not in $documents: no row was held to its sentences (DOCUMENTS says where it is)"
+fi
+if [ ! -f "$documents/02-change-requests.md" ]; then
+    echo "trace: document 02 is not in $documents: no row was held to a request's sentences"
+else
     for request in $landed; do
         sed -n "s/^\*\*$request [^*]*\*\* *//p" "$documents/02-change-requests.md" >"$room/text"
         [ -s "$room/text" ] || wrong "document 02 has no request $request"

@@ -95,8 +95,12 @@ fn of_these_sources(here: &Path, folder: &Path) -> Result<(), String> {
         return Ok(());
     }
     println!("cargo::rerun-if-changed={}", sources.display());
-    let folder = fs::canonicalize(folder).unwrap_or(folder.to_owned());
-    match Command::new("bash").arg(&test).arg(folder).output() {
+    let check = Command::new("bash")
+        .arg(&test)
+        .arg("check")
+        .arg(folder)
+        .output();
+    match check {
         Ok(said) if !said.status.success() => {
             Err(String::from_utf8_lossy(&said.stderr).trim().to_owned())
         }
