@@ -218,7 +218,7 @@ numbers() {
                     all++
                     for (k = 1; k <= count; k++) if ((number[k], w) in has) { found++; break }
                 }
-                if (all >= fewest && 5 * found < 2 * all) print "rule " $3 "speaks of other things than: " row
+                if (all >= fewest && 5 * found < 2 * all) print "rule " rules " speaks of other things than: " row
             }
         }
         END { for (at in known) if (at ~ /\./ && at != "1.1" && !(at in cited)) print "no row has rule " at }
