@@ -108,7 +108,7 @@ for command in './show' './build'; do
     try "$command" dist season
     ended 2 "$command " "$command with two words"
 done
-for words in abc '5 abc' ''; do
+for words in abc x3 3x -3 '5 abc' ''; do
     # shellcheck disable=SC2086
     said=$(bash tests/long $words 2>&1)
     status=$? told=''

@@ -34,16 +34,25 @@ if commit=$(git rev-parse HEAD 2>/dev/null); then
     grep -q "^commit $commit" "$top/lib/grassmunch.stamp" || fail 'the stamp does not name the commit'
 fi
 
-# ---- C, by pkg-config where it is there, and by the plain flags
+# ---- C: by the plain flags, by pkg-config where it is there, and by the machine's own compiler where it is one for x86-64
+account() { # WHAT COMMAND...
+    local what=$1
+    shift
+    fresh_folder "$room/books"
+    "$@" "$room/books" >"$room/account" 2>"$room/said" || fail "$what ended with an error: $(cat "$room/said")"
+    quiet "the account of $what" diff "$top/examples/example_house.stdout" "$room/account"
+}
 try_c() { # WHAT FLAGS -- LIBRARIES
     local what=$1
     shift
     link_c "$room/example" "$top/examples/example_house.c" "$@"
-    fresh_folder "$room/books"
-    run_linked "$room/example" "$room/books" >"$room/account" || fail "the C example by $what ended with an error"
-    quiet "the account of the C example by $what" diff "$top/examples/example_house.stdout" "$room/account"
+    account "the C example by $what" run_linked "$room/example"
 }
 try_c 'plain flags' -I"$top/include" -- -L"$top/lib" -lgrassmunch
+if [ "$machine" = x86_64 ] && cc -fsyntax-only -x c - <<<'#include <unistd.h>' 2>/dev/null; then
+    quiet 'the C example by cc' cc -std=c11 -I"$top/include" "$top/examples/example_house.c" -L"$top/lib" -lgrassmunch -o "$room/native"
+    account 'the C example by cc' "$room/native"
+fi
 if command -v pkg-config >/dev/null; then
     export PKG_CONFIG_PATH=$top/lib/pkgconfig
     read -ra flags < <(pkg-config --cflags grassmunch)
@@ -58,7 +67,5 @@ if [ "$machine" != x86_64 ]; then
     quiet 'the stand-in' env CARGO_TARGET_DIR="$room/stand-in" cargo build --offline --locked --manifest-path bindings/rust/stand-in/Cargo.toml
     cp "$room/stand-in/debug/libgrassmunch.a" "$top/lib/libgrassmunch.a"
 fi
-fresh_folder "$room/books"
-CARGO_TARGET_DIR=$room/rust cargo run --quiet --offline --locked --manifest-path "$top/rust/Cargo.toml" --example house -- "$room/books" \
-    >"$room/account" 2>"$room/said" || fail "the Rust example: $(cat "$room/said")"
-quiet 'the account of the Rust example' diff "$top/examples/example_house.stdout" "$room/account"
+export CARGO_TARGET_DIR=$room/rust
+account 'the Rust example' cargo run --quiet --offline --locked --manifest-path "$top/rust/Cargo.toml" --example house --
