@@ -27,6 +27,18 @@ check_header() { # LANGUAGE STANDARD COMPILER...
 check_header c c11 "$clang" $bare
 # shellcheck disable=SC2086
 check_header c++ c++17 "$clang" $bare -Wold-style-cast
+header+='
+int main() {
+    gm_declaration lot = {77, 40, 800, 17.5F, 0.5F};
+    uint8_t declaration[GM_DECLARATION_BYTES], sheet[GM_SHEET_BYTES];
+    gm_declaration_to_bytes(declaration, &lot);
+    gm_declaration_from_bytes(&lot, declaration);
+    gm_sheet_to_bytes(sheet, 20, gm_gate_at_most(20.0F), gm_gate_between(0.1F, 0.8F));
+    return gm_answer_text(gm_judge(sheet, sizeof sheet, declaration)) == nullptr;
+}'
+# shellcheck disable=SC2086
+check_header c++ c++17 "$clang" $bare -Wold-style-cast
+header='#include "grassmunch.h"'
 
 # the machine's own compilers, where it has them, with their own headers
 if cc -fsyntax-only -x c - <<<'#include <unistd.h>' 2>/dev/null; then

@@ -118,17 +118,19 @@ done
 # ---- two runs at once
 
 mkfifo "$room/wait.started" "$room/wait.go"
-(cd "$tree" && env -u GRASSMUNCH_LOCK PATH="$path" WAIT="$room/wait" ./show >"$room/shown" 2>&1) &
+(cd "$tree" && env -u GRASSMUNCH_LOCK PATH="$path" WAIT="$room/wait" GRASSMUNCH_PACE=1 ./show >"$room/shown" 2>&1) &
 first=$!
 if timeout 20 cat "$room/wait.started" >/dev/null; then
     keep
     each 1 'another run (./show, ./build or .ci/run) is at work in this tree' 'two at once'
     kept 'two at once'
+    sleep 1.2
     timeout 20 tee "$room/wait.go" <<<go >/dev/null
 else
     wrong './show did not come to rt'
 fi
 wait "$first" || wrong "the first of two runs failed: $(cat "$room/shown")"
+grep -q '^show: 0 min [1-9][0-9]* s: 0 of 3; left: words lot transcript$' "$room/shown" || wrong './show did not say what is left while rt is at work'
 
 # ---- what ./show shows
 

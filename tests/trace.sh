@@ -11,7 +11,7 @@
 #
 # A row's second cell has the numbers of docs/RULES.md that its sentence became, or a dash where it asks for work and is no rule: each is
 # there, and in the parts of document 01 that state rules it speaks of the same things; and each rule is named by some row. Where
-# docs/HOUSE.md quotes a sentence with a number, a row has both.
+# docs/HOUSE.md or docs/BOOK.md quotes a sentence with a number, a row has both.
 set -uo pipefail
 cd "$(dirname "${BASH_SOURCE[0]}")/.." || exit 1
 export LC_ALL=C.UTF-8
@@ -228,13 +228,13 @@ while IFS= read -r said; do
     wrong "$said"
 done < <(numbers)
 
-# Each sentence that the guide quotes with numbers, as NUMBER and SENTENCE.
-quoted() {
+# Each sentence that a page quotes with numbers, as NUMBER, SENTENCE and PAGE.
+quoted() { # PAGE
     local quote number
-    tr '\n' ' ' <docs/HOUSE.md | grep -oE '\*"[^"]*"\* \(rules? [^)]*\)' | while IFS= read -r quote; do
+    tr '\n' ' ' <"$1" | grep -oE '\*"[^"]*"\* \(rules? [^)]*\)' | while IFS= read -r quote; do
         for number in $(grep -oE '[0-9]+\.[0-9]+' <<<"${quote##*(}"); do
             quote=${quote#'*"'}
-            printf '%s|%s\n' "$number" "${quote%'"*'*}"
+            printf '%s|%s|%s\n' "$number" "${quote%'"*'*}" "$1"
         done
     done
 }
@@ -252,10 +252,12 @@ done < <(awk -F'|' '
         quote = plain($2)
         for (k = 1; k <= rows; k++)
             if (index(rule[k], "," $1 ",") && row[k] != "" && (index(row[k], quote) || index(quote, row[k]))) next
-        print "docs/HOUSE.md: no row has rule " $1 " for: " $2
-    }' docs/TRACE.md <(quoted))
-[ "$(quoted | wc -l)" -ge 8 ] || wrong 'docs/HOUSE.md: too few sentences with their rule were found'
-for number in $(grep -ohE 'rules? [0-9]+\.[0-9]+' docs/HOUSE.md docs/SEASON.md | grep -oE '[0-9]+\.[0-9]+' | sort -u); do
+        print $3 ": no row has rule " $1 " for: " $2
+    }' docs/TRACE.md <(quoted docs/HOUSE.md && quoted docs/BOOK.md))
+for page in docs/HOUSE.md docs/BOOK.md; do
+    [ "$(quoted "$page" | wc -l)" -ge 8 ] || wrong "$page: too few sentences with their rule were found"
+done
+for number in $(grep -ohE 'rules? [0-9]+\.[0-9]+' docs/*.md | grep -oE '[0-9]+\.[0-9]+' | sort -u); do
     grep -qE "^\*\*$number\*\*" docs/RULES.md || wrong "docs/RULES.md has no rule $number, which a page names"
 done
 exit "$bad"
