@@ -145,3 +145,6 @@ refuses 'libgrassmunch.a is stale'
 lay "$GRASSMUNCH_LIB" "$room/lib-stand-in/libgrassmunch.a"
 printf '\n' >>"$GRASSMUNCH_LIB/libgrassmunch.a"
 refuses 'libgrassmunch.a is stale'
+rm "$GRASSMUNCH_LIB/grassmunch.stamp"
+said=$(in_crate cargo check --offline --locked --lib 2>&1) || fail "the Rust crate over an archive with no stamp: $said"
+grep -qF 'grassmunch.stamp is not there' <<<"$said" || fail 'the Rust crate does not say that the archive has no stamp'

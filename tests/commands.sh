@@ -48,7 +48,7 @@ chmod +x "$room/kit/rt"
 # All that the commands call, but no rt.
 for tool in awk bash cat cp cut dirname env find flock git grep gzip head mkdir mktemp mv realpath rm sed sha256sum sort tail tar tee \
     touch tr uname wc xargs; do
-    ln -s "$(command -v "$tool")" "$room/none/$tool" || wrong "no $tool on this machine"
+    found=$(command -v "$tool") && ln -s "$found" "$room/none/$tool"
 done
 
 # Runs a command in the tree. `path` and `with` say with which rt; what it said is in $said, its status in $status.
