@@ -1,6 +1,6 @@
 /* Each call with each of its answers, two answers at once where the order decides, the walk over what was sent, null pointers with
- * length 0, the message of document 01, and the header's helpers: says what is not so, and ends with status 1 then. It tries that
- * header and archive agree; tests over all inputs stand elsewhere. */
+ * length 0, the message of document 01, and the header's helpers, in two float modes: says what is not so, and ends with status 1
+ * then. It tries that header and archive agree; tests over all inputs stand elsewhere. */
 #include "grassmunch.h"
 
 #include <stdio.h>
@@ -313,7 +313,7 @@ static void sentences(void) {
     so(strcmp(version, GM_VERSION) == 0, "the version and its three numbers");
 }
 
-int main(void) {
+static void all(void) {
     declarations();
     sheets();
     sentences();
@@ -327,5 +327,15 @@ int main(void) {
     with_one_down();
     judging_writing_reading();
     null_with_length_0();
+}
+
+/* In the plain float mode; in one where subnormals are zeros, as a house that is linked with -ffast-math has it, and numbers are rounded
+ * up; and back. */
+int main(void) {
+    static const uint32_t modes[] = {0x1F80, 0xDFC0, 0x1F80};
+    for (size_t i = 0; i < sizeof modes / sizeof *modes; i++) {
+        __asm__ volatile("ldmxcsr %0" : : "m"(modes[i]));
+        all();
+    }
     return wrong;
 }
