@@ -1,40 +1,19 @@
 #!/usr/bin/env bash
 # What a house links: the header as C11 and C++17, the C example and each answer over the archive, the Rust crate and its example.
 #
-# C is built with the kit's own compiler and linker for x86-64, the archive's processor, and run on the kit's C library; on Arm under
-# the kit's emulator. Rust is native: it links bindings/rust/stand-in on every machine, and on x86-64 the archive too. Both examples
-# write one account and the same files, to the byte. Says nothing where all passes.
+# Rust is native: it links bindings/rust/stand-in on every machine, and on x86-64 the archive too. Both examples write one account and the
+# same files, to the byte. Says nothing where all passes.
 set -uo pipefail
 cd "$(dirname "${BASH_SOURCE[0]}")/.." || exit 1
 root=$PWD
 export LC_ALL=C.UTF-8
-machine=$(uname -m)
-kit=$(dirname "$(dirname "$(rt doc)")")
-tools=$kit/on/$machine/toolchain
-clang=$tools/bin/clang
-archive=$root/target/staticlib/libhouse.a
+who=bindings
 room=$root/target/bindings
-strict='-Wall -Wextra -Wpedantic -Wconversion -Wsign-conversion -Wshadow -Wundef -Werror'
-bare='--target=x86_64-unknown-linux-gnu -nostdinc -isystem bindings/c/bare'
+archive=$root/target/staticlib/libhouse.a
 header='#include "grassmunch.h"'
-
-fail() {
-    echo "bindings: $1"
-    exit 1
-}
-
-# Runs a command, and says what it said only where it fails.
-quiet() { # WHAT COMMAND...
-    local what=$1 said
-    shift
-    said=$("$@" 2>&1) && return
-    echo "$said"
-    fail "$what"
-}
-
-[ -x "$clang" ] || fail "the kit has no compiler at $tools/bin"
-command -v cargo >/dev/null || fail 'no cargo on this machine'
-[ -f "$archive" ] || quiet 'build failed' ./build
+# shellcheck source=tests/linking
+. tests/linking
+quiet 'the archive' bash .ci/archive
 mkdir -p "$room"
 
 # ---- the header
@@ -48,6 +27,18 @@ check_header() { # LANGUAGE STANDARD COMPILER...
 check_header c c11 "$clang" $bare
 # shellcheck disable=SC2086
 check_header c++ c++17 "$clang" $bare -Wold-style-cast
+header+='
+int main() {
+    gm_declaration lot = {77, 40, 800, 17.5F, 0.5F};
+    uint8_t declaration[GM_DECLARATION_BYTES], sheet[GM_SHEET_BYTES];
+    gm_declaration_to_bytes(declaration, &lot);
+    gm_declaration_from_bytes(&lot, declaration);
+    gm_sheet_to_bytes(sheet, 20, gm_gate_at_most(20.0F), gm_gate_between(0.1F, 0.8F));
+    return gm_answer_text(gm_judge(sheet, sizeof sheet, declaration)) == nullptr;
+}'
+# shellcheck disable=SC2086
+check_header c++ c++17 "$clang" $bare -Wold-style-cast
+header='#include "grassmunch.h"'
 
 # the machine's own compilers, where it has them, with their own headers
 if cc -fsyntax-only -x c - <<<'#include <unistd.h>' 2>/dev/null; then
@@ -71,24 +62,20 @@ if grep -E '\.o\):\(\.(data|bss|tdata|tbss|init|fini)' "$room/alone.map" | grep 
 fi
 
 # ---- C over the archive
-build_c() { # NAME
-    # shellcheck disable=SC2086
-    quiet "$1.c" "$clang" $bare -std=c11 $strict -Wstrict-prototypes -Wmissing-prototypes -O2 -fPIC -c "bindings/c/$1.c" -o "$room/$1.o"
-    local lib=$tools/lib
-    quiet "linking $1" "$tools/bin/ld.lld" -m elf_x86_64 -pie --no-undefined -dynamic-linker /lib64/ld-linux-x86-64.so.2 -o "$room/$1" \
-        "$lib/Scrt1.o" "$lib/crti.o" "$lib/crtbeginS.o" "$room/$1.o" "$archive" "$lib/libc.so.6" "$lib/libc_nonshared.a" "$lib/libgcc.a" \
-        "$lib/crtendS.o" "$lib/crtn.o"
+build_c() { # NAME [FLAGS...]
+    local name=$1
+    shift
+    link_c "$room/$name" "bindings/c/$name.c" "$@" -- "$archive"
 }
 
 run_c() { # NAME [WORDS...]
-    local program=$room/$1 emulator=$tools/bin/qemu-x86_64
+    local name=$1
     shift
-    [ -x "$emulator" ] || emulator=''
-    ${emulator:+"$emulator"} "$tools/lib/ld-linux-x86-64.so.2" --library-path "$tools/lib" "$program" "$@"
+    run_linked "$room/$name" "$@"
 }
 
-fresh_folder() { rm -rf "$1" && mkdir -p "$1"; }
-
+build_c every_answer -ffast-math
+quiet 'an answer of the archive, to a house that is built with -ffast-math' run_c every_answer
 build_c every_answer
 quiet 'an answer of the archive' run_c every_answer
 build_c example_house
@@ -104,10 +91,16 @@ export RUSTFLAGS='-D warnings' RUSTDOCFLAGS='-D warnings'
 
 in_crate() { (cd bindings/rust && "$@"); }
 
+# A folder with an archive, and a stamp as ./build writes it.
+lay() { # FOLDER LIBRARY
+    mkdir -p "$1"
+    cp "$2" "$1/libgrassmunch.a"
+    bash .ci/archive stamp "$2" >"$1/grassmunch.stamp"
+}
+
 try_rust() { # WHAT LIBRARY
     local what=$1 house
-    mkdir -p "$room/lib-$what"
-    cp "$2" "$room/lib-$what/libgrassmunch.a"
+    lay "$room/lib-$what" "$2"
     export CARGO_TARGET_DIR=$room/rust-$what GRASSMUNCH_LIB=$room/lib-$what
     quiet "the Rust crate over the $what" in_crate cargo build --offline --locked --lib --examples
     quiet "a doc test over the $what" in_crate cargo test --offline --locked --doc
@@ -126,3 +119,32 @@ if [ "$machine" = x86_64 ]; then
     try_rust archive "$archive"
 fi
 quiet 'the pages of the Rust crate' in_crate cargo doc --offline --locked --no-deps
+
+# ---- an archive that is not for this build: a clear line, and no program
+refuses() { # LINE CARGO-WORDS...
+    local line=$1 said
+    shift
+    if said=$(in_crate cargo check --offline --locked --lib "$@" 2>&1); then
+        fail "the Rust crate was built, where it should say: $line"
+    fi
+    grep -qF -- "$line" <<<"$said" || fail "the Rust crate should say: $line; and said: $said"
+}
+
+export CARGO_TARGET_DIR=$room/rust-refused GRASSMUNCH_LIB=$room/lib-refused
+rm -rf "$GRASSMUNCH_LIB"
+refuses "libgrassmunch.a can't be read"
+lay "$GRASSMUNCH_LIB" "$room/lib-stand-in/libgrassmunch.a"
+other=aarch64
+[ "$machine" = x86_64 ] || other=x86_64
+refuses "libgrassmunch.a is for $machine, and this is built for $other" --target "$other-unknown-linux-gnu"
+sed -i 's/^version .*/version 1.0.0/' "$GRASSMUNCH_LIB/grassmunch.stamp"
+refuses 'the archive is version 1.0.0, and this crate is'
+lay "$GRASSMUNCH_LIB" "$room/lib-stand-in/libgrassmunch.a"
+sed -i 's/^sources .*/sources 0/' "$GRASSMUNCH_LIB/grassmunch.stamp"
+refuses 'libgrassmunch.a is stale'
+lay "$GRASSMUNCH_LIB" "$room/lib-stand-in/libgrassmunch.a"
+printf '\n' >>"$GRASSMUNCH_LIB/libgrassmunch.a"
+refuses 'libgrassmunch.a is stale'
+rm "$GRASSMUNCH_LIB/grassmunch.stamp"
+said=$(in_crate cargo check --offline --locked --lib 2>&1) || fail "the Rust crate over an archive with no stamp: $said"
+grep -qF 'grassmunch.stamp is not there' <<<"$said" || fail 'the Rust crate does not say that the archive has no stamp'

@@ -1,6 +1,6 @@
 /* Each call with each of its answers, two answers at once where the order decides, the walk over what was sent, null pointers with
- * length 0, and the message of document 01: says what is not so, and ends with status 1 then. It tries that header and archive
- * agree; tests over all inputs stand elsewhere. */
+ * length 0, the message of document 01, and the header's helpers, in two float modes: says what is not so, and ends with status 1
+ * then. It tries that header and archive agree; tests over all inputs stand elsewhere. */
 #include "grassmunch.h"
 
 #include <stdio.h>
@@ -260,7 +260,63 @@ static void null_with_length_0(void) {
     so(gm_read(NULL, 0).answer == GM_MALFORMED, "reading, null message");
 }
 
-int main(void) {
+/* Declarations, to the byte as lot77 above has them; every pattern of bits, a NaN's too, comes out as it went in. */
+static void declarations(void) {
+    uint8_t bytes[GM_DECLARATION_BYTES];
+    gm_declaration_to_bytes(bytes, &(gm_declaration){77, 40, 800, 17.5F, 0.5F});
+    so(memcmp(bytes, lot77, sizeof bytes) == 0, "lot 77 from numbers and floats");
+    gm_declaration back;
+    gm_declaration_from_bytes(&back, lot77);
+    so(back.lot == 77 && back.colonies == 40 && back.kilograms == 800 && back.moisture == 17.5F && back.conductivity == 0.5F,
+       "lot 77 told");
+    /* quiet and signalling NaNs, infinities, both zeros, the smallest, the largest */
+    static const uint32_t patterns[] = {0x7FC00001, 0x7F800001, 0xFFA00000, 0xFFFFFFFF, 0x7F800000, 0xFF800000,
+                                        0x00000000, 0x80000000, 0x00000001, 0x80000001, 0x7F7FFFFF, 0x41A00000};
+    for (size_t i = 0; i < sizeof patterns / sizeof *patterns; i++) {
+        uint8_t same[GM_DECLARATION_BYTES];
+        for (uint8_t place = 0; place < sizeof same; place++) {
+            uint32_t word = place < 16 ? patterns[i] : patterns[i] ^ 0x80000000;
+            same[place] = (word >> (24 - 8 * (place % 4))) & 0xFF;
+        }
+        gm_declaration_from_bytes(&back, same);
+        so(back.lot == patterns[i] && back.kilograms == patterns[i], "a number of 32 bits told");
+        gm_declaration_to_bytes(bytes, &back);
+        so(memcmp(bytes, same, sizeof same) == 0, "20 bytes, told and made again");
+    }
+}
+
+static void sheets(void) {
+    uint8_t made[GM_SHEET_BYTES];
+    gm_sheet_to_bytes(made, 20, gm_gate_at_most(20.0F), gm_gate_open());
+    so(memcmp(made, sheet, sizeof made) == 0, "a sheet: at most, open");
+    static const uint8_t other[GM_SHEET_BYTES] = {0xFF, 0xFE, 0xFD, 0xFC, GM_GATE_OPEN, 0, 0, 0, 0, 0, 0, 0, 0,
+                                                  GM_GATE_BETWEEN, 0x80, 0, 0, 0, 0x3F, 0x4C, 0xCC, 0xCD};
+    gm_sheet_to_bytes(made, 0xFFFEFDFC, gm_gate_open(), gm_gate_between(-0.0F, 0.8F));
+    so(memcmp(made, other, sizeof made) == 0, "a sheet: open, between");
+    so(gm_judge(made, sizeof made, lot77) == GM_ACCEPTED, "a made sheet is legal");
+    gm_sheet_to_bytes(made, 20, gm_gate_between(2.0F, 1.0F), gm_gate_open());
+    so(gm_judge(made, sizeof made, lot77) == GM_SHEET_NOT_LEGAL, "a low limit above its high one is made, and not legal");
+}
+
+static void sentences(void) {
+    const char *none = gm_answer_text(GM_HELPED_ENOUGH + 1);
+    for (unsigned answer = 0; answer <= 256; answer++) {
+        bool known = answer <= GM_WRONG_LENGTH || answer == GM_HELPED_ENOUGH;
+        so(known == (strcmp(gm_answer_text(answer), none) != 0), "an answer has its sentence, another number has none");
+        for (unsigned less = 0; known && less < answer; less++) {
+            so(strcmp(gm_answer_text(answer), gm_answer_text(less)) != 0, "no two answers have one sentence");
+        }
+    }
+    so(strcmp(gm_answer_text(GM_HELPED_ENOUGH), "this asker was helped d times already") == 0, "the sentence of 14");
+    char version[32];
+    snprintf(version, sizeof version, "%d.%d.%d", GM_VERSION_MAJOR, GM_VERSION_MINOR, GM_VERSION_PATCH);
+    so(strcmp(version, GM_VERSION) == 0, "the version and its three numbers");
+}
+
+static void all(void) {
+    declarations();
+    sheets();
+    sentences();
     opening();
     no_legal_book();
     publishing();
@@ -271,5 +327,15 @@ int main(void) {
     with_one_down();
     judging_writing_reading();
     null_with_length_0();
+}
+
+/* In the plain float mode; in one where subnormals are zeros, as a house that is linked with -ffast-math has it, and numbers are rounded
+ * up; and back. */
+int main(void) {
+    static const uint32_t modes[] = {0x1F80, 0xDFC0, 0x1F80};
+    for (size_t i = 0; i < sizeof modes / sizeof *modes; i++) {
+        __asm__ volatile("ldmxcsr %0" : : "m"(modes[i]));
+        all();
+    }
     return wrong;
 }

@@ -1,5 +1,5 @@
-/* Four houses in one process: they open, publish, receive and store; one loses power twice, returns and is helped; and they write
- * an account of it.
+/* Four houses in one process: they open, publish, receive and store; one loses power twice, returns and is helped; another lies about
+ * what it declares; and they write an account of it.
  *
  * Each call works on a copy of the book. The copy is stored, with a delivery beside it, and only then does anything leave. What a
  * house sent can be read off its book, so that no message is stored: after a power cut the book says what is to be sent again.
@@ -15,18 +15,17 @@
 
 /* Among four houses one may be wrong where f is 0, and none where f is 1. All four are to be up at the end, so f is 0; and each may
  * return twice, so d is 2. */
-enum { HOUSES = 4, NUMBERS = 2, DOWN = 0, LIMIT = 2, SEASON = 2026, PUBLISHER = 2, NUMBER = 1, LOSES_POWER = 1, COPIES = 128 };
+enum { HOUSES = 4, NUMBERS = 2, DOWN = 0, LIMIT = 2, SEASON = 2026, PUBLISHER = 2, NUMBER = 1, LOSES_POWER = 1, LIAR = 3 };
+enum { COPIES = 128, LOTS = 2 };
 
-/* Cap 20 kilograms per colony; moisture at most 20.0; conductivity open. */
-static const uint8_t sheet[GM_SHEET_BYTES] = {0, 0, 0, 20, GM_GATE_AT_MOST, 0, 0, 0, 0, 0x41, 0xA0, 0, 0, GM_GATE_OPEN};
-
-/* Lot 77, 40 colonies, 800 kilograms, moisture 17.5, conductivity 0.5. */
-static const uint8_t lot77[GM_DECLARATION_BYTES] = {0, 0, 0, 77, 0, 0, 0, 40, 0, 0, 3, 0x20, 0x41, 0x8C, 0, 0, 0x3F, 0, 0, 0};
+/* Made by `declare` at the start: the lot that is published, one that weighs too much, and the two of the liar. */
+static uint8_t lot77[GM_DECLARATION_BYTES], heavy[GM_DECLARATION_BYTES], lot90[GM_DECLARATION_BYTES], twin[GM_DECLARATION_BYTES];
 
 struct house {
     uint32_t own;
     bool up;
-    bool entered; /* its register has lot 77 */
+    size_t entered; /* the lots in its register */
+    uint8_t lots[LOTS][GM_DECLARATION_BYTES];
     size_t len;
     uint8_t book[GM_LONGEST_BOOK];
 };
@@ -41,28 +40,8 @@ struct copy {
 static struct house houses[HOUSES];
 static struct copy carried[COPIES];
 static size_t sent, taken, requests, lost, deliveries;
+static bool lies;
 static const char *folder = ".";
-
-static const char *sentence(uint8_t answer) {
-    static const char *const sentences[] = {
-        "accepted",
-        "the lent bytes are no legal book",
-        "malformed message",
-        "season differs from the book's",
-        "house number, sender or entry number not in the book",
-        "not plausible",
-        "SEND not from the entry's sender",
-        "this kind was already accepted from this house on this entry, same declaration or not",
-        "already published at this number",
-        "n, S, own number, f or d not allowed",
-        "sheet not legal",
-        "buffer length is not the book's length",
-    };
-    if (answer == GM_HELPED_ENOUGH) {
-        return "this asker was helped d times already";
-    }
-    return answer < sizeof sentences / sizeof *sentences ? sentences[answer] : "no answer of this library";
-}
 
 static const char *kind_of(const uint8_t *bytes, size_t len) {
     switch (gm_read(bytes, len).kind) {
@@ -79,8 +58,12 @@ static const char *kind_of(const uint8_t *bytes, size_t len) {
     }
 }
 
-static uint32_t word(const uint8_t *bytes) {
-    return (uint32_t)bytes[0] << 24 | (uint32_t)bytes[1] << 16 | (uint32_t)bytes[2] << 8 | bytes[3];
+static void declare(uint8_t *to, uint32_t lot, uint32_t colonies, uint32_t kilograms) {
+    gm_declaration_to_bytes(to, &(gm_declaration){.lot = lot,
+                                                  .colonies = colonies,
+                                                  .kilograms = kilograms,
+                                                  .moisture = 17.5F,
+                                                  .conductivity = 0.5F});
 }
 
 /* ---- the house's own disk and register */
@@ -116,9 +99,16 @@ static bool store(uint32_t own, const uint8_t *book, size_t len, const gm_outcom
 }
 
 /* A delivery comes once, but after a power cut it may be here already. */
-static void enter(struct house *house) {
-    deliveries += house->entered ? 0 : 1;
-    house->entered = true;
+static void enter(struct house *house, const uint8_t *delivery) {
+    for (size_t lot = 0; lot < house->entered; lot++) {
+        if (memcmp(house->lots[lot], delivery, GM_DECLARATION_BYTES) == 0) {
+            return;
+        }
+    }
+    if (house->entered < LOTS) {
+        memcpy(house->lots[house->entered++], delivery, GM_DECLARATION_BYTES);
+        deliveries++;
+    }
 }
 
 /* What was stored last, if it is there to the byte; whether it is a legal book, gm_return says. */
@@ -133,7 +123,7 @@ static bool recover(struct house *house) {
     bool whole = (size_t)read(file, house->book, house->len) == house->len &&
                  (size_t)read(file, delivery, sizeof delivery) == sizeof delivery && read(file, &past_end, 1) == 0;
     if (whole && delivery[0] == 1) {
-        enter(house);
+        enter(house, delivery + 1);
     }
     return close(file) == 0 && whole;
 }
@@ -175,7 +165,7 @@ static bool start(struct house *house) {
     house->up = true;
     printf("house %u starts at once with the book and the delivery of its file\n", (unsigned)house->own);
     send_again(house);
-    return house->entered;
+    return house->entered > 0;
 }
 
 /* "On return a house sends again to all what it has sent and asks all for help." */
@@ -186,7 +176,7 @@ static bool come_back(struct house *house) {
     gm_return_answer back = gm_return(house->book, house->len);
     gm_waiting_answer next = gm_waiting(house->book, house->len);
     printf("house %u returns with the book of its file: %s; waiting: number %u of sender %u\n", (unsigned)house->own,
-           sentence(back.answer), (unsigned)next.number, (unsigned)next.sender);
+           gm_answer_text(back.answer), (unsigned)next.number, (unsigned)next.sender);
     if (back.answer != GM_ACCEPTED || !next.waits) {
         return false;
     }
@@ -209,7 +199,7 @@ static void help(const struct house *house, uint32_t asker) {
 /* ---- the account */
 
 static void tell(const gm_outcome *gave) {
-    printf("%s", sentence(gave->answer));
+    printf("%s", gm_answer_text(gave->answer));
     if (gave->answer != GM_ACCEPTED) {
         printf(" (answer %u)", (unsigned)gave->answer);
     }
@@ -217,8 +207,9 @@ static void tell(const gm_outcome *gave) {
         printf(", gives %s", kind_of(gave->message, GM_MESSAGE_BYTES));
     }
     if (gave->delivers) {
-        printf(", delivers lot %u: %u colonies, %u kg", (unsigned)word(gave->declaration), (unsigned)word(gave->declaration + 4),
-               (unsigned)word(gave->declaration + 8));
+        gm_declaration of;
+        gm_declaration_from_bytes(&of, gave->declaration);
+        printf(", delivers lot %u: %u colonies, %u kg", (unsigned)of.lot, (unsigned)of.colonies, (unsigned)of.kilograms);
     }
     if (gave->helps) {
         printf(", helps");
@@ -265,7 +256,7 @@ static bool settle(struct house *house, uint32_t from, const uint8_t *worked, co
         carry_to_all(house->own, gave->message, GM_MESSAGE_BYTES);
     }
     if (gave->delivers) {
-        enter(house);
+        enter(house, gave->declaration);
     }
     if (gave->helps) {
         help(house, from);
@@ -277,7 +268,9 @@ static bool publish(struct house *house, uint32_t number, const uint8_t *declara
     uint8_t worked[GM_LONGEST_BOOK];
     memcpy(worked, house->book, house->len);
     gm_outcome gave = gm_publish(worked, house->len, number, declaration);
-    printf("house %u publishes lot %u at number %u: ", (unsigned)house->own, (unsigned)word(declaration), (unsigned)number);
+    gm_declaration of;
+    gm_declaration_from_bytes(&of, declaration);
+    printf("house %u publishes lot %u at number %u: ", (unsigned)house->own, (unsigned)of.lot, (unsigned)number);
     return settle(house, house->own, worked, &gave);
 }
 
@@ -290,6 +283,9 @@ static bool receive(struct house *house, uint64_t from, const uint8_t *bytes, si
 }
 
 static bool open_all(void) {
+    /* cap 20 kilograms per colony; moisture at most 20.0; conductivity open */
+    uint8_t sheet[GM_SHEET_BYTES];
+    gm_sheet_to_bytes(sheet, 20, gm_gate_at_most(20.0F), gm_gate_open());
     gm_length_answer size = gm_length(HOUSES, NUMBERS);
     gm_outcome nothing = {0};
     if (size.answer != GM_ACCEPTED) {
@@ -303,7 +299,7 @@ static bool open_all(void) {
         house->up = true;
         house->len = size.length;
         uint8_t answer = gm_open(house->book, house->len, HOUSES, NUMBERS, own, DOWN, LIMIT, SEASON, sheet, sizeof sheet);
-        printf("house %u opens its book: %s\n", (unsigned)own, sentence(answer));
+        printf("house %u opens its book: %s\n", (unsigned)own, gm_answer_text(answer));
         if (answer != GM_ACCEPTED || !store(own, house->book, house->len, &nothing)) {
             return false;
         }
@@ -311,12 +307,15 @@ static bool open_all(void) {
     return true;
 }
 
-/* Brings each copy once. "What arrives meanwhile is lost." */
+/* Brings each copy once. "What arrives meanwhile is lost." What comes to the liar once it lies, nobody hears. */
 static bool bring_all(void) {
     for (; taken < sent; taken++) {
         const struct copy *copy = &carried[taken];
         struct house *house = &houses[copy->to];
         requests += copy->len == GM_REQUEST_BYTES ? 1 : 0;
+        if (lies && copy->to == LIAR) {
+            continue;
+        }
         if (!house->up) {
             printf("house %u is down: %s from house %u is lost\n", (unsigned)copy->to, kind_of(copy->bytes, copy->len),
                    (unsigned)copy->from);
@@ -325,7 +324,7 @@ static bool bring_all(void) {
             return false;
         }
     }
-    printf("%u copies and %u requests were carried, %u of them lost; %u houses delivered\n", (unsigned)(taken - requests),
+    printf("%u copies and %u requests were carried, %u of them lost; %u deliveries\n", (unsigned)(taken - requests),
            (unsigned)requests, (unsigned)lost, (unsigned)deliveries);
     return true;
 }
@@ -344,18 +343,43 @@ static bool repeat_the_request(void) {
 
 /* Four things that a house refuses; each leaves its book as it was. */
 static bool refuse(void) {
-    uint8_t heavy[GM_DECLARATION_BYTES];
-    memcpy(heavy, lot77, sizeof heavy);
-    heavy[11]++; /* 801 kilograms of 40 colonies */
     uint64_t wide = ((uint64_t)1 << 32) + PUBLISHER; /* cut to 32 bits it would be the publisher */
     const struct copy *send = &carried[0];
     return receive(&houses[0], PUBLISHER, send->bytes, send->len) && receive(&houses[0], wide, send->bytes, send->len) &&
            publish(&houses[PUBLISHER], NUMBER, lot77) && publish(&houses[PUBLISHER], 0, heavy);
 }
 
+/* A wrong house says of lot 90 one thing to houses 0 and 1 and another to house 2, and vouches for both. One of four may be wrong: the
+ * honest ones deliver one of the two, or none, and the same. */
+static bool lie(void) {
+    lies = true;
+    printf("house %d lies: to houses 0 and 1 lot 90 has 600 kg, to house 2 it has 500\n", LIAR);
+    for (uint8_t kind = GM_SEND; kind <= GM_READY; kind++) {
+        for (uint32_t to = 0; to < LIAR; to++) {
+            gm_written message = gm_write(kind, SEASON, LIAR, 0, to < 2 ? lot90 : twin);
+            carry(LIAR, to, message.message, GM_MESSAGE_BYTES);
+        }
+    }
+    if (!bring_all()) {
+        return false;
+    }
+    for (uint32_t own = 0; own < LIAR; own++) {
+        const struct house *house = &houses[own];
+        if (house->entered != 2 || memcmp(house->lots[1], houses[0].lots[1], GM_DECLARATION_BYTES) != 0) {
+            return false;
+        }
+    }
+    printf("houses 0, 1 and 2 delivered one declaration of lot 90, the same\n");
+    return true;
+}
+
 static bool run(void) {
+    declare(lot77, 77, 40, 800);
+    declare(heavy, 77, 40, 801);
+    declare(lot90, 90, 30, 600);
+    declare(twin, 90, 30, 500);
     return open_all() && publish(&houses[PUBLISHER], NUMBER, lot77) && bring_all() && come_back(&houses[LOSES_POWER]) &&
-           bring_all() && repeat_the_request() && refuse() &&
+           bring_all() && repeat_the_request() && refuse() && lie() &&
            !gm_waiting(houses[LOSES_POWER].book, houses[LOSES_POWER].len).waits;
 }
 

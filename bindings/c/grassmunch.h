@@ -1,4 +1,5 @@
 /* The ten calls of the house book, for C11 and C++17. docs/HOUSE.md says which call when; docs/BOOK.md gives the bytes of a book.
+ * After the ten calls come helpers that stand here alone: numbers and floats into bytes and back, a sentence for an answer, a walk.
  *
  * Sentences in quotes are document 01's, or request 2026-10's where they speak of f and d, a return, a request or help.
  * For every call:
@@ -15,6 +16,14 @@
 #include <stdbool.h>
 #include <stddef.h>
 #include <stdint.h>
+#include <string.h>
+
+/* The version: the first number changes where the bytes of a book or a message change, or a call. A season is finished with the first
+ * number that it was opened with (CHANGELOG.md). */
+#define GM_VERSION "2.1.0"
+#define GM_VERSION_MAJOR 2
+#define GM_VERSION_MINOR 1
+#define GM_VERSION_PATCH 0
 
 #ifdef __cplusplus
 extern "C" {
@@ -135,6 +144,132 @@ gm_written gm_write(uint8_t kind, uint32_t season, uint8_t sender, uint8_t numbe
 /* "Reading alone answers 2 or gives the same five things." Of a request it gives kind 9 and the season. Answers 2, else 0. */
 gm_read_answer gm_read(const uint8_t *message, size_t message_len);
 
+/* ---- helpers, over the C library's memcpy and the calls above alone
+ *
+ * A float is taken by its bits: nothing here adds, compares or rounds one, so that the bytes are the same in every float mode. A NaN's
+ * bits stay as they are. Whether a declaration is plausible and a sheet legal, the calls say. */
+
+/* The five things of a declaration: moisture in percent, conductivity in mS/cm. */
+typedef struct {
+    uint32_t lot;
+    uint32_t colonies;
+    uint32_t kilograms;
+    float moisture;
+    float conductivity;
+} gm_declaration;
+
+/* A gate's 9 bytes in a sheet: kind, low limit, high limit. The three functions below make them. */
+typedef struct {
+    uint8_t bytes[9];
+} gm_gate_bytes;
+
+static inline void gm_put_word(uint8_t to[4], uint32_t word) {
+    for (int place = 0; place < 4; place++) {
+        to[place] = (word >> (24 - 8 * place)) & 0xFF;
+    }
+}
+
+static inline uint32_t gm_get_word(const uint8_t from[4]) {
+    uint32_t word = 0;
+    for (int place = 0; place < 4; place++) {
+        word = word << 8 | from[place];
+    }
+    return word;
+}
+
+static inline void gm_put_float(uint8_t to[4], const float *from) {
+    uint32_t bits;
+    memcpy(&bits, from, sizeof bits);
+    gm_put_word(to, bits);
+}
+
+static inline void gm_get_float(float *to, const uint8_t from[4]) {
+    uint32_t bits = gm_get_word(from);
+    memcpy(to, &bits, sizeof bits);
+}
+
+/* A declaration's 20 bytes, as gm_publish, gm_judge and gm_write take them. */
+static inline void gm_declaration_to_bytes(uint8_t to[20], const gm_declaration *from) {
+    gm_put_word(to, from->lot);
+    gm_put_word(to + 4, from->colonies);
+    gm_put_word(to + 8, from->kilograms);
+    gm_put_float(to + 12, &from->moisture);
+    gm_put_float(to + 16, &from->conductivity);
+}
+
+/* The five things that 20 bytes say, as a delivery gives them: any 20 bytes are a declaration. */
+static inline void gm_declaration_from_bytes(gm_declaration *to, const uint8_t from[20]) {
+    to->lot = gm_get_word(from);
+    to->colonies = gm_get_word(from + 4);
+    to->kilograms = gm_get_word(from + 8);
+    gm_get_float(&to->moisture, from + 12);
+    gm_get_float(&to->conductivity, from + 16);
+}
+
+/* Between a low and a high limit; both count as inside. */
+static inline gm_gate_bytes gm_gate_between(float low, float high) {
+    gm_gate_bytes gate;
+    gate.bytes[0] = GM_GATE_BETWEEN;
+    gm_put_float(gate.bytes + 1, &low);
+    gm_put_float(gate.bytes + 5, &high);
+    return gate;
+}
+
+/* At most a limit, which counts as inside. */
+static inline gm_gate_bytes gm_gate_at_most(float limit) {
+    gm_gate_bytes gate = gm_gate_between(0, limit);
+    gate.bytes[0] = GM_GATE_AT_MOST;
+    return gate;
+}
+
+/* Any reading that is neither NaN nor infinite. */
+static inline gm_gate_bytes gm_gate_open(void) {
+    gm_gate_bytes gate = gm_gate_between(0, 0);
+    gate.bytes[0] = GM_GATE_OPEN;
+    return gate;
+}
+
+/* A sheet's 22 bytes, as gm_open and gm_judge take them: a cap in kilograms per colony, and a gate for each reading. */
+static inline void gm_sheet_to_bytes(uint8_t to[22], uint32_t cap, gm_gate_bytes moisture, gm_gate_bytes conductivity) {
+    gm_put_word(to, cap);
+    memcpy(to + 4, moisture.bytes, sizeof moisture.bytes);
+    memcpy(to + 13, conductivity.bytes, sizeof conductivity.bytes);
+}
+
+/* The sentence of an answer, never null. */
+static inline const char *gm_answer_text(unsigned answer) {
+    switch (answer) {
+    case GM_ACCEPTED:
+        return "accepted";
+    case GM_NO_LEGAL_BOOK:
+        return "the lent bytes are no legal book";
+    case GM_MALFORMED:
+        return "malformed message";
+    case GM_OTHER_SEASON:
+        return "season differs from the book's";
+    case GM_NOT_IN_BOOK:
+        return "house number, sender or entry number not in the book";
+    case GM_NOT_PLAUSIBLE:
+        return "not plausible";
+    case GM_NOT_FROM_SENDER:
+        return "SEND not from the entry's sender";
+    case GM_ALREADY_ACCEPTED:
+        return "this kind was already accepted from this house on this entry, same declaration or not";
+    case GM_ALREADY_PUBLISHED:
+        return "already published at this number";
+    case GM_NOT_ALLOWED:
+        return "n, S, own number, f or d not allowed";
+    case GM_SHEET_NOT_LEGAL:
+        return "sheet not legal";
+    case GM_WRONG_LENGTH:
+        return "buffer length is not the book's length";
+    case GM_HELPED_ENOUGH:
+        return "this asker was helped d times already";
+    default:
+        return "no answer of this library";
+    }
+}
+
 /* A wide house number for gm_receive. One that 32 bits do not hold becomes the largest that they do, which is in no book: it is
  * refused in the call's own order, where a number cut to 32 bits might name another house. */
 static inline uint32_t gm_house(uint64_t wide) {
@@ -187,6 +322,8 @@ static inline gm_walk gm_first_sent(const uint8_t *book, size_t len) {
 
 GM_ASSERT(sizeof(bool) == 1, "bool is one byte");
 GM_ASSERT(sizeof(size_t) == 8, "a length is 64 bits");
+GM_ASSERT(sizeof(float) == 4, "a float is a binary32");
+GM_ASSERT(sizeof(gm_gate_bytes) == 9, "gm_gate_bytes");
 GM_ASSERT(sizeof(gm_length_answer) == 16 && offsetof(gm_length_answer, length) == 8, "gm_length_answer");
 GM_ASSERT(sizeof(gm_outcome) == 60 && offsetof(gm_outcome, gives) == 1 && offsetof(gm_outcome, message) == 2 &&
               offsetof(gm_outcome, delivers) == 38 && offsetof(gm_outcome, declaration) == 39 &&

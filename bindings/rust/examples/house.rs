@@ -1,7 +1,7 @@
-//! Four houses in one process: they open, publish, receive and store; one loses power twice, returns and is helped; and they write
-//! an account of it.
+//! Four houses in one process: they open, publish, receive and store; one loses power twice, returns and is helped; another lies about
+//! what it declares; and they write an account of it.
 //!
-//! Each call works on a clone of the book. The clone is stored, with a delivery beside it, and only then does anything leave. What
+//! Each call works on a copy of the book. The copy is stored, with a delivery beside it, and only then does anything leave. What
 //! a house sent can be read off its book, so that no message is stored: after a power cut the book says what is to be sent again.
 //! The carrier, here the row `carried`, loses what comes to a house that is down; a house with neighbours puts its network there.
 //! The one argument is the folder for the books.
@@ -12,7 +12,7 @@ use std::io::Write;
 use std::path::{Path, PathBuf};
 
 use grassmunch::{
-    Book, Declaration, Entry, Gate, Heard, Kind, Message, Opening, Outcome, Refusal, Sheet,
+    Book, Declaration, Entry, Gate, Heard, Kind, Message, Opening, Outcome, Refusal, Sheet, Worked,
 };
 
 type Fallible<T> = Result<T, Box<dyn Error>>;
@@ -34,6 +34,7 @@ const OPENING: Opening = Opening {
 const PUBLISHER: usize = 2;
 const NUMBER: u32 = 1;
 const LOSES_POWER: usize = 1;
+const LIAR: usize = 3;
 
 /// A message or a request on its way.
 struct Copy {
@@ -54,7 +55,7 @@ impl Disk {
     }
 
     /// Whole or not at all: a new file, synced, then renamed over the old one.
-    fn store(&self, book: &Book, delivery: Option<Declaration>) -> Fallible<()> {
+    fn store(&self, book: &Book, delivery: Option<&Declaration>) -> Fallible<()> {
         let mut bytes = book.as_bytes().to_vec();
         bytes.push(delivery.is_some().into());
         bytes.extend(delivery.map_or([0; Declaration::BYTES], |delivery| *delivery.as_bytes()));
@@ -117,6 +118,8 @@ struct Valley {
     taken: usize,
     lost: usize,
     cuts: usize,
+    /// From here on the liar lies, and what comes to it nobody hears.
+    lies: bool,
 }
 
 fn kind_of(bytes: &[u8]) -> &'static str {
@@ -125,30 +128,23 @@ fn kind_of(bytes: &[u8]) -> &'static str {
             Kind::Send => "SEND",
             Kind::Echo => "ECHO",
             Kind::Ready => "READY",
+            _ => "a kind of a later version",
         },
         Ok(Heard::Request { .. }) => "a request",
-        Err(_) => "no message",
+        _ => "no message",
     }
 }
 
-fn tell(gave: &Result<Outcome, Refusal>) {
-    match gave {
-        Err(refusal) => print!("{} (answer {})", refusal.sentence(), refusal.number()),
-        Ok(gave) => {
-            print!("accepted");
-            if let Some(message) = &gave.message {
-                print!(", gives {}", kind_of(message));
-            }
-            if let Some(of) = gave.delivery {
-                let (lot, colonies, kilograms) = (of.lot(), of.colonies(), of.kilograms());
-                print!(", delivers lot {lot}: {colonies} colonies, {kilograms} kg");
-            }
-            if gave.helps {
-                print!(", helps");
-            }
-        }
+fn tell(gave: &Outcome) {
+    print!("accepted");
+    if let Some(message) = &gave.message {
+        print!(", gives {}", kind_of(message));
     }
-    println!();
+    if let Some(of) = gave.delivery {
+        let (lot, colonies, kilograms) = (of.lot(), of.colonies(), of.kilograms());
+        print!(", delivers lot {lot}: {colonies} colonies, {kilograms} kg");
+    }
+    println!("{}", if gave.helps { ", helps" } else { "" });
 }
 
 impl Valley {
@@ -169,37 +165,34 @@ impl Valley {
     }
 
     fn publish(&mut self, own: usize, number: u32, declaration: &Declaration) -> Fallible<()> {
-        let mut worked = self.up(own)?.clone();
-        let gave = worked.publish(number, declaration);
         let lot = declaration.lot();
         print!("house {own} publishes lot {lot} at number {number}: ");
-        self.settle(own, own, worked, gave)
+        self.call(own, own, |book| book.publish(number, declaration))
     }
 
     fn receive(&mut self, own: usize, from: u64, bytes: &[u8]) -> Fallible<()> {
-        let mut worked = self.up(own)?.clone();
-        let gave = worked.receive(from, bytes);
         print!("house {own} hears {} from house {from}: ", kind_of(bytes));
-        self.settle(own, from as usize, worked, gave)
+        self.call(own, from as usize, |book| book.receive(from, bytes))
     }
 
-    /// The clone is stored, with a delivery beside it; then it takes the book's place, and what the call gave leaves.
-    fn settle(
+    /// A call on a copy of the book. The copy is stored, with a delivery beside it; then it takes the book's place, and what the call
+    /// gave leaves.
+    fn call(
         &mut self,
         own: usize,
         from: usize,
-        worked: Book,
-        gave: Result<Outcome, Refusal>,
+        call: impl FnOnce(&mut Book) -> Result<Worked<'_>, Refusal>,
     ) -> Fallible<()> {
-        tell(&gave);
-        let Ok(gave) = gave else {
-            let book = self.up(own)?;
-            assert_eq!(&worked, book, "a refusal leaves the book as it was");
-            return Ok(());
+        let House { book, disk, .. } = &mut self.houses[own];
+        let worked = match call(book.as_mut().ok_or("house is down")?) {
+            Ok(worked) => worked,
+            Err(refusal) => {
+                println!("{} (answer {})", refusal.sentence(), refusal.number());
+                return Ok(());
+            }
         };
-        let house = &mut self.houses[own];
-        house.disk.store(&worked, gave.delivery)?;
-        house.book = Some(worked);
+        let gave = worked.store(|book, delivery| disk.store(book, delivery))?;
+        tell(&gave);
         if self.loses_power(own, &gave) {
             return gave.delivery.map_or(Ok(()), |_| self.start(own));
         }
@@ -282,11 +275,14 @@ impl Valley {
         Ok(())
     }
 
-    /// Brings each copy once. "What arrives meanwhile is lost."
+    /// Brings each copy once. "What arrives meanwhile is lost." What comes to the liar once it lies, nobody hears.
     fn bring_all(&mut self) -> Fallible<()> {
         while let Some(copy) = self.carried.get(self.taken) {
             let (from, to, bytes) = (copy.from, copy.to, copy.bytes.clone());
             self.taken += 1;
+            if self.lies && to == LIAR {
+                continue;
+            }
             if self.houses[to].book.is_some() {
                 self.receive(to, from as u64, &bytes)?;
             } else {
@@ -301,8 +297,36 @@ impl Valley {
         let lost = self.lost;
         let deliveries: usize = self.houses.iter().map(|house| house.register.len()).sum();
         println!(
-            "{copies} copies and {requests} requests were carried, {lost} of them lost; {deliveries} houses delivered"
+            "{copies} copies and {requests} requests were carried, {lost} of them lost; {deliveries} deliveries"
         );
+        Ok(())
+    }
+
+    /// A wrong house says of lot 90 one thing to houses 0 and 1 and another to house 2, and vouches for both. One of four may be wrong:
+    /// the honest ones deliver one of the two, or none, and the same.
+    fn lie(&mut self) -> Fallible<()> {
+        self.lies = true;
+        println!("house {LIAR} lies: to houses 0 and 1 lot 90 has 600 kg, to house 2 it has 500");
+        for &kind in Kind::ALL {
+            for to in 0..LIAR {
+                let kilograms = if to < 2 { 600 } else { 500 };
+                let message = Message {
+                    kind,
+                    season: OPENING.season,
+                    sender: LIAR as u8,
+                    number: 0,
+                    declaration: Declaration::new(90, 30, kilograms, 17.5, 0.5),
+                };
+                self.carry(LIAR, to, &message.to_bytes());
+            }
+        }
+        self.bring_all()?;
+        let first = &self.houses[0].register;
+        let mut honest = self.houses[..LIAR].iter();
+        if first.len() != 2 || !honest.all(|house| house.register == *first) {
+            return Err("the honest houses delivered different declarations".into());
+        }
+        println!("houses 0, 1 and 2 delivered one declaration of lot 90, the same");
         Ok(())
     }
 }
@@ -325,6 +349,7 @@ fn main() -> Fallible<()> {
         taken: 0,
         lost: 0,
         cuts: 0,
+        lies: false,
     };
 
     let lot77 = Declaration::new(77, 40, 800, 17.5, 0.5);
@@ -347,5 +372,5 @@ fn main() -> Fallible<()> {
     valley.receive(0, (1 << 32) + publisher, &send)?; // cut to 32 bits it would be the publisher
     valley.publish(PUBLISHER, NUMBER, &lot77)?;
     valley.publish(PUBLISHER, 0, &Declaration::new(77, 40, 801, 17.5, 0.5))?;
-    Ok(())
+    valley.lie()
 }

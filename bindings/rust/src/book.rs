@@ -1,6 +1,7 @@
 //! A book that owns its bytes.
 
-use crate::{Declaration, Kind, Message, Refusal, Sheet, ffi};
+use crate::{Declaration, Kind, Message, Refusal, Sheet, Worked, ffi};
+use std::fmt;
 
 /// What all honest houses open with, the same at each; its own number a house gives beside it.
 #[derive(Clone, Copy, Debug, PartialEq)]
@@ -19,8 +20,10 @@ pub struct Opening {
     pub sheet: Sheet,
 }
 
-/// What an accepted publication, message or request gave. Store the book, and a delivery beside it, before anything leaves.
+/// What an accepted publication, message or request gave. Store the book, and a delivery beside it, before anything leaves:
+/// [`Worked::store`] hands it out after that. A later version may give more.
 #[derive(Clone, Copy, Debug, Default, PartialEq, Eq)]
+#[non_exhaustive]
 #[must_use = "a message that does not leave is a promise not kept, and a delivery comes once"]
 pub struct Outcome {
     /// The message that goes to all n houses, its own included.
@@ -55,8 +58,9 @@ pub struct Entry {
 
 /// A legal book: n, S, own number, season, sheet, f, d, how often each asker was helped, and an entry for each sender and number.
 ///
-/// Work on a clone, store its bytes and a delivery, then put it in the old one's place and let the message leave. What this house
-/// sent can be read off the book at any time ([`Book::all_sent`]), so a message need not be stored beside it.
+/// [`publish`](Book::publish) and [`receive`](Book::receive) work on a copy: the book stays as it is until the copy is stored and
+/// takes its place. What this house sent can be read off the book at any time ([`Book::all_sent`]), so a message need not be stored
+/// beside it.
 ///
 /// ```
 /// use grassmunch::{Book, Declaration, Gate, Heard, Kind, Message, Opening, Refusal, Sheet};
@@ -65,20 +69,52 @@ pub struct Entry {
 /// let declaration = Declaration::new(77, 40, 800, 17.5, 0.5);
 /// let mut book = Book::open(&opening, 0)?;
 ///
+/// // whole or not at all, and on disk: here in a vector
+/// let mut kept = Vec::new();
+/// let mut store = |book: &Book, delivery: Option<&Declaration>| {
+///     kept = [book.as_bytes(), delivery.map_or(&[], |delivery| delivery.as_bytes())].concat();
+///     Ok::<(), Refusal>(())
+/// };
+///
 /// // one house alone: its SEND gives its ECHO, that its READY, and that delivers
-/// let send = book.publish(0, &declaration)?.message.unwrap();
-/// let echo = book.receive(0, &send)?.message.unwrap();
-/// let ready = book.receive(0, &echo)?.message.unwrap();
+/// let send = book.publish(0, &declaration)?.store(&mut store)?.message.unwrap();
+/// let echo = book.receive(0, &send)?.store(&mut store)?.message.unwrap();
+/// let ready = book.receive(0, &echo)?.store(&mut store)?.message.unwrap();
 /// assert!(matches!(Message::read(&ready)?, Heard::Message(Message { kind: Kind::Ready, .. })));
-/// let last = book.receive(0, &ready)?;
+/// let last = book.receive(0, &ready)?.store(&mut store)?;
 /// assert_eq!((last.message, last.delivery), (None, Some(declaration)));
 ///
-/// assert_eq!(book.receive(0, &ready), Err(Refusal::AlreadyAccepted));
-/// assert_eq!(Book::from_bytes(book.as_bytes().to_vec()), Ok(book));
+/// assert_eq!(book.receive(0, &ready).err(), Some(Refusal::AlreadyAccepted));
+/// let delivery = kept.split_off(kept.len() - Declaration::BYTES);
+/// assert_eq!(delivery, declaration.as_bytes());
+/// assert_eq!(Book::from_bytes(kept), Ok(book));
 /// # Ok::<(), Refusal>(())
 /// ```
-#[derive(Clone, Debug, PartialEq, Eq)]
+#[derive(Clone, PartialEq, Eq)]
 pub struct Book(Vec<u8>);
+
+/// What it was opened with, and its length; the bytes are [`Book::as_bytes`].
+///
+/// ```
+/// use grassmunch::{Book, Gate, Opening, Refusal, Sheet};
+/// let sheet = Sheet { cap: 20, moisture: Gate::Open, conductivity: Gate::Open };
+/// let book = Book::open(&Opening { n: 16, s: 4, f: 2, d: 8, season: 2026, sheet }, 5)?;
+/// assert_eq!(format!("{book:?}"), "Book { n: 16, s: 4, own: 5, season: 2026, f: 2, d: 8, bytes: 47171 }");
+/// # Ok::<(), Refusal>(())
+/// ```
+impl fmt::Debug for Book {
+    fn fmt(&self, f: &mut fmt::Formatter<'_>) -> fmt::Result {
+        f.debug_struct("Book")
+            .field("n", &self.houses())
+            .field("s", &self.numbers())
+            .field("own", &self.own())
+            .field("season", &self.season())
+            .field("f", &self.down())
+            .field("d", &self.limit())
+            .field("bytes", &self.0.len())
+            .finish()
+    }
+}
 
 impl Book {
     /// The length of the longest book, that of 16 houses with 4 numbers each.
@@ -162,7 +198,7 @@ impl Book {
         u32::from_be_bytes([self.0[3], self.0[4], self.0[5], self.0[6]])
     }
 
-    /// The sheet's 22 bytes, as opening was lent them.
+    /// The sheet's 22 bytes, as opening was lent them; [`Sheet::from_bytes`] tells what they say.
     pub fn sheet(&self) -> &[u8] {
         &self.0[7..7 + Sheet::BYTES]
     }
@@ -182,12 +218,16 @@ impl Book {
         &self.0[31..31 + usize::from(self.houses())]
     }
 
-    /// "Publishing marks the own entry and gives a SEND." Answers 1, 4, 5, 8.
-    pub fn publish(&mut self, number: u32, declaration: &Declaration) -> Result<Outcome, Refusal> {
-        Outcome::of(ffi::publish(&mut self.0, number, declaration.as_bytes()))
+    /// "Publishing marks the own entry and gives a SEND." Works on a copy. Answers 1, 4, 5, 8.
+    pub fn publish(
+        &mut self,
+        number: u32,
+        declaration: &Declaration,
+    ) -> Result<Worked<'_>, Refusal> {
+        Worked::on_copy(self, |copy| copy.publish_in_place(number, declaration))
     }
 
-    /// Receives one message, any bytes, from a house. Answers 1 to 7 in order; a request 1 to 4, and then 14.
+    /// Receives one message, any bytes, from a house. Works on a copy. Answers 1 to 7 in order; a request 1 to 4, and then 14.
     ///
     /// A house number wider than 32 bits is refused as any number not in the book is, and not cut:
     ///
@@ -195,9 +235,9 @@ impl Book {
     /// use grassmunch::{Book, Declaration, Gate, Opening, Refusal, Sheet};
     /// let sheet = Sheet { cap: 20, moisture: Gate::Open, conductivity: Gate::Open };
     /// let mut book = Book::open(&Opening { n: 1, s: 1, f: 0, d: 1, season: 2026, sheet }, 0)?;
-    /// let send = book.publish(0, &Declaration::new(77, 40, 800, 17.5, 0.5))?.message.unwrap();
-    /// assert_eq!(book.receive(1 << 32, &send), Err(Refusal::NotInBook));
-    /// assert_eq!(book.receive(1 << 32, &send[1..]), Err(Refusal::Malformed));
+    /// let send = book.publish_in_place(0, &Declaration::new(77, 40, 800, 17.5, 0.5))?.message.unwrap();
+    /// assert_eq!(book.receive(1 << 32, &send).err(), Some(Refusal::NotInBook));
+    /// assert_eq!(book.receive(1 << 32, &send[1..]).err(), Some(Refusal::Malformed));
     /// # Ok::<(), Refusal>(())
     /// ```
     ///
@@ -208,17 +248,32 @@ impl Book {
     /// let sheet = Sheet { cap: 20, moisture: Gate::Open, conductivity: Gate::Open };
     /// let opening = Opening { n: 2, s: 1, f: 0, d: 1, season: 2026, sheet };
     /// let mut helper = Book::open(&opening, 0)?;
-    /// let send = helper.publish(0, &Declaration::new(77, 40, 800, 17.5, 0.5))?.message.unwrap();
+    /// let send = helper.publish_in_place(0, &Declaration::new(77, 40, 800, 17.5, 0.5))?.message.unwrap();
     ///
     /// let request = Book::open(&opening, 1)?.come_back()?;
-    /// assert!(helper.receive(1, &request)?.helps);
+    /// assert!(helper.receive_in_place(1, &request)?.helps);
     /// assert_eq!(helper.all_sent().collect::<Vec<_>>(), [send]); // these go to house 1, and to no other
     ///
     /// assert_eq!(helper.helped(), [0, 1]);
-    /// assert_eq!(helper.receive(1, &request), Err(Refusal::HelpedEnough));
+    /// assert_eq!(helper.receive(1, &request).err(), Some(Refusal::HelpedEnough));
     /// # Ok::<(), Refusal>(())
     /// ```
-    pub fn receive(&mut self, house: u64, message: &[u8]) -> Result<Outcome, Refusal> {
+    pub fn receive(&mut self, house: u64, message: &[u8]) -> Result<Worked<'_>, Refusal> {
+        Worked::on_copy(self, |copy| copy.receive_in_place(house, message))
+    }
+
+    /// [`publish`](Book::publish) on the book itself, for a tool or a test that stores nothing. A house that works on its only copy
+    /// can lose it in a power cut.
+    pub fn publish_in_place(
+        &mut self,
+        number: u32,
+        declaration: &Declaration,
+    ) -> Result<Outcome, Refusal> {
+        Outcome::of(ffi::publish(&mut self.0, number, declaration.as_bytes()))
+    }
+
+    /// [`receive`](Book::receive) on the book itself, for a tool or a test that stores nothing.
+    pub fn receive_in_place(&mut self, house: u64, message: &[u8]) -> Result<Outcome, Refusal> {
         // the largest number is in no book, so the answer is the one of the call's own order
         let house = u32::try_from(house).unwrap_or(u32::MAX);
         Outcome::of(ffi::receive(&mut self.0, house, message))
@@ -230,7 +285,7 @@ impl Book {
     /// use grassmunch::{Book, Declaration, Gate, Opening, Refusal, Sheet};
     /// let sheet = Sheet { cap: 20, moisture: Gate::Open, conductivity: Gate::Open };
     /// let mut book = Book::open(&Opening { n: 2, s: 1, f: 0, d: 1, season: 2026, sheet }, 0)?;
-    /// let send = book.publish(0, &Declaration::new(77, 40, 800, 17.5, 0.5))?.message.unwrap();
+    /// let send = book.publish_in_place(0, &Declaration::new(77, 40, 800, 17.5, 0.5))?.message.unwrap();
     ///
     /// // the house was down: to all n houses goes what it sent, and then the request
     /// let mut to_all: Vec<Vec<u8>> = book.all_sent().map(Vec::from).collect();
@@ -250,7 +305,7 @@ impl Book {
     /// use grassmunch::{Book, Declaration, Entry, Gate, Kind, Opening, Refusal, Sheet};
     /// let sheet = Sheet { cap: 20, moisture: Gate::Open, conductivity: Gate::Open };
     /// let mut book = Book::open(&Opening { n: 2, s: 1, f: 0, d: 1, season: 2026, sheet }, 0)?;
-    /// let send = book.publish(0, &Declaration::new(77, 40, 800, 17.5, 0.5))?.message;
+    /// let send = book.publish_in_place(0, &Declaration::new(77, 40, 800, 17.5, 0.5))?.message;
     /// assert_eq!(book.sent(Kind::Send, Entry { number: 0, sender: 0 }), Ok(send));
     /// assert_eq!(book.sent(Kind::Echo, Entry { number: 0, sender: 0 }), Ok(None));
     /// assert_eq!(book.sent(Kind::Echo, Entry { number: 0, sender: 2 }), Err(Refusal::NotInBook));
@@ -277,10 +332,10 @@ impl Book {
     /// let mut book = Book::open(&Opening { n: 1, s: 2, f: 0, d: 1, season: 2026, sheet }, 0)?;
     /// let mut sent = Vec::new();
     /// for (number, lot) in [(0, 77), (1, 78)] {
-    ///     let mut gave = book.publish(number, &Declaration::new(lot, 40, 800, 17.5, 0.5))?;
+    ///     let mut gave = book.publish_in_place(number, &Declaration::new(lot, 40, 800, 17.5, 0.5))?;
     ///     while let Some(message) = gave.message {
     ///         sent.push(message);
-    ///         gave = book.receive(0, &message)?;
+    ///         gave = book.receive_in_place(0, &message)?;
     ///     }
     /// }
     /// assert_eq!(sent.len(), 6); // SEND, ECHO and READY of each
@@ -288,7 +343,7 @@ impl Book {
     /// # Ok::<(), Refusal>(())
     /// ```
     pub fn all_sent(&self) -> impl Iterator<Item = [u8; Message::BYTES]> {
-        let on = |entry| Kind::ALL.map(|kind| self.sent(kind, entry));
+        let on = move |entry| Kind::ALL.iter().map(move |kind| self.sent(*kind, entry));
         let entries = (0..self.numbers())
             .flat_map(|number| (0..self.houses()).map(move |sender| Entry { number, sender }));
         // the bytes are a legal book's and the entry is in it, so that each is answered 0
@@ -303,8 +358,8 @@ impl Book {
     /// let sheet = Sheet { cap: 20, moisture: Gate::Open, conductivity: Gate::Open };
     /// let mut book = Book::open(&Opening { n: 1, s: 1, f: 0, d: 1, season: 2026, sheet }, 0)?;
     /// assert_eq!(book.waiting(), Ok(None));
-    /// let send = book.publish(0, &Declaration::new(77, 40, 800, 17.5, 0.5))?.message.unwrap();
-    /// let _echo = book.receive(0, &send)?;
+    /// let send = book.publish_in_place(0, &Declaration::new(77, 40, 800, 17.5, 0.5))?.message.unwrap();
+    /// let _echo = book.receive_in_place(0, &send)?;
     /// assert_eq!(book.waiting(), Ok(Some(Entry { number: 0, sender: 0 })));
     /// # Ok::<(), Refusal>(())
     /// ```

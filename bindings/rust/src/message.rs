@@ -2,8 +2,9 @@
 
 use crate::{Declaration, Refusal, ffi};
 
-/// What a message says of its declaration.
+/// What a message says of its declaration. A later version may have more kinds: a `match` needs its `_`.
 #[derive(Clone, Copy, Debug, PartialEq, Eq, Hash)]
+#[non_exhaustive]
 pub enum Kind {
     /// 1: the sender publishes it.
     Send = 1,
@@ -15,15 +16,17 @@ pub enum Kind {
 
 impl Kind {
     /// The three kinds of message, in order.
-    pub const ALL: [Kind; 3] = [Kind::Send, Kind::Echo, Kind::Ready];
+    pub const ALL: &'static [Kind] = &[Kind::Send, Kind::Echo, Kind::Ready];
 
     fn of(number: u8) -> Option<Kind> {
-        Kind::ALL.into_iter().find(|kind| *kind as u8 == number)
+        let same = |kind: &Kind| *kind as u8 == number;
+        Kind::ALL.iter().copied().find(same)
     }
 }
 
-/// What a house hears, as [`Message::read`] tells it apart.
+/// What a house hears, as [`Message::read`] tells it apart. A later version may hear more.
 #[derive(Clone, Copy, Debug, PartialEq, Eq, Hash)]
+#[non_exhaustive]
 pub enum Heard {
     /// A message on an entry.
     Message(Message),

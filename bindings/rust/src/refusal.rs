@@ -2,7 +2,8 @@
 
 use std::fmt;
 
-/// Why a call was refused. Answer 0, accepted, is `Ok`; a refusal left the book byte for byte.
+/// Why a call was refused. Answer 0, accepted, is `Ok`; a refusal left the book byte for byte. A later version may have more answers:
+/// a `match` needs its `_`.
 ///
 /// ```
 /// use grassmunch::Refusal;
@@ -47,10 +48,10 @@ impl Refusal {
     ///
     /// ```
     /// use grassmunch::Refusal;
-    /// let numbers = Refusal::ALL.map(Refusal::number);
-    /// assert_eq!(numbers, [1, 2, 3, 4, 5, 6, 7, 8, 9, 10, 11, 14]);
+    /// let numbers = Refusal::ALL.iter().map(|refusal| refusal.number());
+    /// assert!(numbers.eq([1, 2, 3, 4, 5, 6, 7, 8, 9, 10, 11, 14]));
     /// ```
-    pub const ALL: [Refusal; 12] = [
+    pub const ALL: &'static [Refusal] = &[
         NoLegalBook,
         Malformed,
         OtherSeason,
@@ -110,9 +111,8 @@ impl Refusal {
         if answer == 0 {
             return Ok(());
         }
-        let known = Refusal::ALL
-            .into_iter()
-            .find(|refusal| refusal.number() == answer);
+        let same = |refusal: &Refusal| refusal.number() == answer;
+        let known = Refusal::ALL.iter().copied().find(same);
         Err(known.unwrap_or(Unknown(answer)))
     }
 }

@@ -19,6 +19,21 @@ pub enum Gate {
 }
 
 impl Gate {
+    /// The gate of 9 bytes that are the one form of a gate.
+    fn of(bytes: &[u8]) -> Gate {
+        let limit = |at: usize| {
+            f32::from_be_bytes([bytes[at], bytes[at + 1], bytes[at + 2], bytes[at + 3]])
+        };
+        match bytes[0] {
+            0 => Gate::Open,
+            1 => Gate::AtMost(limit(5)),
+            _ => Gate::Between {
+                low: limit(1),
+                high: limit(5),
+            },
+        }
+    }
+
     /// Kind, low and high; "sheet limits are kept as their bits", and a limit that the kind does not use is zero.
     fn kept(self) -> (u8, u32, u32) {
         match self {
@@ -62,6 +77,39 @@ impl Sheet {
             place[5..].copy_from_slice(&high.to_be_bytes());
         }
         bytes
+    }
+
+    /// The sheet of 22 bytes, or answer 10: the sheet is legal, and the bytes are its one form. The archive says so.
+    ///
+    /// ```
+    /// use grassmunch::{Gate, Refusal, Sheet};
+    /// let between = Gate::Between { low: 0.1, high: 0.8 };
+    /// let sheet = Sheet { cap: 20, moisture: Gate::AtMost(20.0), conductivity: between };
+    /// assert_eq!(Sheet::from_bytes(&sheet.to_bytes()), Ok(sheet));
+    /// let open = Sheet { moisture: Gate::Open, conductivity: Gate::Open, ..sheet };
+    /// assert_eq!(Sheet::from_bytes(&open.to_bytes()), Ok(open));
+    ///
+    /// // a limit that is not finite, one that its kind does not use, a kind that is none, and 21 bytes
+    /// let nan = Sheet { moisture: Gate::AtMost(f32::NAN), ..sheet };
+    /// assert_eq!(Sheet::from_bytes(&nan.to_bytes()), Err(Refusal::SheetNotLegal));
+    /// for (place, byte) in [(5, 1), (4, 0), (4, 3)] {
+    ///     let mut bytes = sheet.to_bytes();
+    ///     bytes[place] = byte;
+    ///     assert_eq!(Sheet::from_bytes(&bytes), Err(Refusal::SheetNotLegal));
+    /// }
+    /// assert_eq!(Sheet::from_bytes(&sheet.to_bytes()[1..]), Err(Refusal::SheetNotLegal));
+    /// ```
+    pub fn from_bytes(bytes: &[u8]) -> Result<Sheet, Refusal> {
+        // judging answers 10 before 5, so that any declaration will do
+        let judged = Refusal::of(ffi::judge(bytes, &[0; Declaration::BYTES]));
+        if judged == Err(Refusal::SheetNotLegal) {
+            return Err(Refusal::SheetNotLegal);
+        }
+        Ok(Sheet {
+            cap: u32::from_be_bytes([bytes[0], bytes[1], bytes[2], bytes[3]]),
+            moisture: Gate::of(&bytes[4..13]),
+            conductivity: Gate::of(&bytes[13..]),
+        })
     }
 
     /// "Judging takes a sheet and a declaration and answers 10, then 5, else 0."
