@@ -6,7 +6,7 @@ set -uo pipefail
 cd "$(dirname "${BASH_SOURCE[0]}")/.." || exit 1
 archive=target/staticlib/libhouse.a
 
-if [ ! -f "$archive" ] && ! said=$(./build 2>&1); then
+if ! said=$(bash .ci/archive 2>&1); then
     echo "$said"
     echo 'mode: build failed'
     exit 1
