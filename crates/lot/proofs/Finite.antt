@@ -31,7 +31,8 @@ field-finite s (suc x) t = go (eqb (suc x) 255) (eqb t 0)
 
 pub finite-bits : (b : ℕ) → finite (ofBits binary32 b) ≡ ltb (b % 0x8000_0000) 0x7f80_0000
 unfolding ofBits
-finite-bits b = field-finite (leb 0x8000_0000 b) (b % 0x8000_0000 / 0x80_0000) (b % 0x80_0000) ∙ go (eqb (b % 0x8000_0000 / 0x80_0000) 255) refl
+finite-bits b =
+    field-finite (leb 0x8000_0000 b) (b % 0x8000_0000 / 0x80_0000) (b % 0x80_0000) ∙ go (eqb (b % 0x8000_0000 / 0x80_0000) 255) refl
   where
     go : (t : Bool) → eqb (b % 0x8000_0000 / 0x80_0000) 255 ≡ t → not t ≡ ltb (b % 0x8000_0000) 0x7f80_0000
     go true e = let f = eqb-true (b % 0x8000_0000 / 0x80_0000) 255 e in sym (le-ltb (b % 0x8000_0000) 0x7f80_0000 (omega arith))

@@ -33,7 +33,7 @@ not-ltb a b = go (ltb b a) refl
     go true e = sym (lt-leb a b (ltb-true b a e))
     go false e = sym (le-leb a b (ltb-false b a e))
 
--- ---- a finite pattern's size, in units of the smallest float: the digits, or a leading one and the digits, shifted by the exponent's field
+-- ---- a finite pattern's size in units of the smallest float: the digits, or a leading one and the digits, shifted by the exponent
 
 unitsOf : (field digits : ℕ) → ℕ
 unitsOf zero t = t
@@ -99,7 +99,8 @@ units-back i j l = go (ltb i j) refl
 
 -- ---- a finite pattern has that size
 
-ofFields-finite : (s : Bool) (x t : ℕ) → finite (ofFields binary32 s x t) ≡ true → HasValue (ofFields binary32 s x t) s (unitsOf x t) (2 ^ 149)
+ofFields-finite : (s : Bool) (x t : ℕ) → finite (ofFields binary32 s x t) ≡ true
+    → HasValue (ofFields binary32 s x t) s (unitsOf x t) (2 ^ 149)
 unfolding ofFields finite unitsOf
 ofFields-finite s zero t h =
     let e : t * 1 ≡ t = omega arith in
@@ -152,7 +153,8 @@ lt-sized (fin u m e) (fin w n d) s t a b c C h k =
     let f : m * up e * down d * c ≡ a * (down e * down d) =
     mul-right-comm (m * up e) (down d) c ∙ ap (λ (x : ℕ). x * down d) (h .1) ∙ mul-assoc a (down e) (down d) in
     let g : n * up d * down e * c ≡ b * (down e * down d) =
-    mul-right-comm (n * up d) (down e) c ∙ ap (λ (x : ℕ). x * down e) (k .1) ∙ mul-right-comm b (down d) (down e) ∙ mul-assoc b (down e) (down d) in
+    mul-right-comm (n * up d) (down e) c ∙ ap (λ (x : ℕ). x * down e) (k .1) ∙ mul-right-comm b (down d) (down e)
+    ∙ mul-assoc b (down e) (down d) in
     ap (λ (x : Bool). below x (m * up e * down d) w (n * up d * down e)) (h .0)
     ∙ ap (λ (x : Bool). below s (m * up e * down d) x (n * up d * down e)) (k .0)
     ∙ below-same s t (m * up e * down d) (n * up d * down e) a b c (down e * down d) C (mul-pos (down-pos e) (down-pos d)) f g

@@ -26,7 +26,8 @@ returns c = rw (c .enum-told .given .1)
 
 returns-2 : tie.Need-returns-2
 returns-2 c =
-    at-most-legal _ (sym (ap limitsFinite (c .enum-told2 .given .1)) ∙ c .before .before .pre) ∙ sym (ap gateLegal (c .enum-told2 .given .1))
+    let g = c .enum-told2 .given .1 in
+    at-most-legal _ (sym (ap limitsFinite g) ∙ c .before .before .pre) ∙ sym (ap gateLegal g)
 
 returns-3 : tie.Need-returns-3
 returns-3 c =
