@@ -45,6 +45,16 @@ tally-at P [] i m e t = absurd (let z : _≡_ {A = ℕ} 0 1 = cc in omega arith)
 tally-at P (x ∷ l) zero m e t = let z : x ≡ m = cc in omega (arith, bit-one (P x) (rw z t))
 tally-at P (x ∷ l) (suc i) m e t = omega (arith, tally-at P l i m e t)
 
+-- where some pass a test, there is one
+pub find : {A : Type 0} (P : A → Bool) (l : List A) → 0 < tally P l → (i : ℕ) × (m : A) × (at l i ≡ some m) × T (P m)
+find P [] h = absurd (omega arith)
+find {A = A} P (m ∷ l) h = go (P m) refl (λ z. find P l z)
+  where
+    go : (b : Bool) → P m ≡ b → (0 < tally P l → (i : ℕ) × (x : A) × (at l i ≡ some x) × T (P x))
+        → (i : ℕ) × (x : A) × (at (m ∷ l) i ≡ some x) × T (P x)
+    go true e f = (0, m, refl, rw e tt)
+    go false e f = let r = f (omega (arith, ap bit e)) in (suc (r .0), r .1, r .2, r .3)
+
 -- one copy is changed
 pub tally-change : {A : Type 0} (P : A → Bool) (f : A → A) (l : List A) (i : ℕ) (m : A) → at l i ≡ some m
     → tally P (changeAt f l i) + bit (P m) ≡ tally P l + bit (P (f m))

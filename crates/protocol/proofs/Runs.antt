@@ -79,7 +79,7 @@ module _ (B : Wall) (j c : ℕ) (Ψ : (ℕ → Entry) → Type 0)
       same true x y a d = a
       same false x y a d = d
 
-  step-holds : (a : Step) (s : State) → Holds s → Holds (step B a s)
+  pub step-holds : (a : Step) (s : State) → Holds s → Holds (step B a s)
   unfolding step consumes arrives asked comes
   step-holds (publish r c₂ v) s H =
       if-holds (isUp B s r) _ s
