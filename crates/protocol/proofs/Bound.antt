@@ -179,10 +179,10 @@ none-listed none e = refl
 none-listed (some v) e = absurd (omega (arith, ap length e))
 
 -- a first plausible publication is accepted
-first-accepted : (B : Wall) (j c : ℕ) (b : Book) (v : Decl) → T (right B j) → c < B .numbers → T (B .rules .ok v)
+publishable : (B : Wall) (j c : ℕ) (b : Book) (v : Decl) → T (right B j) → c < B .numbers → T (B .rules .ok v)
     → b j c .published ≡ none → outcome (B .rules) (B .numbers) j (publishing c v) b .answer ≡ 0
 unfolding outcome publish publishAnswer publishes
-first-accepted B j c b v g l ok e =
+publishable B j c b v g l ok e =
     rw (true-of (ltb j (n B)) (and-l (ltb j (n B)) (B .honest j) g), lt-ltb c (B .numbers) l, true-of (B .rules .ok v) ok, e)
 
 pub safe : (B : Wall) (j c : ℕ) (s : State) → Inv B j c (view j c s) → Safe B j c s
@@ -198,7 +198,7 @@ safe B j c s I =
           (answers B s i m e g (subst (λ (x : ℕ). Inv B x (m .number) (view x (m .number) s)) z
           (subst (λ (x : ℕ). Inv B j x (view j x s)) z₂ I)));
       fills = λ l r. run-fills B l s r j c;
-      publishable = λ g l v ok e. first-accepted B j c (s .gave .books j) v g l ok
+      publishable = λ g l v ok e. publishable B j c (s .gave .books j) v g l ok
           (none-listed (s .gave .books j j c .published) (sym (I .books .published j) ∙ e));
     }
 

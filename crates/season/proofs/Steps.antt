@@ -30,7 +30,7 @@ use Rattle.counter.specs.Again.{returned}
 use Rattle.season.specs.Run.{Houses, isHonest, isWrong, isUp, Open, opens, Copy, State, start, namedBy, nothing, entry, sends, ended}
 use Rattle.season.specs.Run.{publicationOf, Step, publish, consume, wrong, crash, comeback, help, publishes}
 use Rattle.season.specs.Run.{receives, consumedCopy, consumeAt, consumes, goesDown, toAll, again, comes, taken, asks}
-use Rattle.season.specs.Run.{step, run}
+use Rattle.season.specs.Run.{underWrong, step, run}
 use Rattle.season.specs.Claims.{consumption}
 use Rattle.season.proofs.Mail.{asked-is, Says, says-consumed, Asks, asks-consumed, Mails, Both, mails-at, mails-append}
 use Rattle.season.proofs.Mail.{mails-changed, mails-requests}
@@ -255,18 +255,18 @@ module _ (H : Houses) where
           asks-means i (at (s .power .requests) i) (at (z .power .requests) i)
               (mails-at (Asks (H .season)) (s .power .requests) (z .power .requests) (M .requests) i),
         )
-    step-means (wrong p r message) = go (isUp H s r && isWrong H p) refl
+    step-means (wrong p r message) = go (underWrong H s p r) refl
       where
         after : State
         after = receives H r p message s (s .mail)
 
-        test : protocol.isUp (wall H) z r && isWrong H p ≡ isUp H s r && isWrong H p
+        test : protocol.underWrong (wall H) z p r ≡ underWrong H s p r
         test = ap (λ (t : Bool). t && isWrong H p) (up-is r)
 
         Ends : Bool → Type 0
         Ends t = Means H (cond t after s) z ⊎ ((x : protocol.Step) × Means H (cond t after s) (protocol.step (wall H) x z))
 
-        go : (t : Bool) → (isUp H s r && isWrong H p) ≡ t → Ends t
+        go : (t : Bool) → underWrong H s p r ≡ t → Ends t
         go false e = inl M
         go true e =
             ⊎-elim inl
