@@ -15,20 +15,16 @@ use Rattle.protocol.specs.Entry.{SEND, ECHO, READY}
 use Rattle.protocol.specs.Steps.{Say, say}
 use Rattle.protocol.specs.Book.{sameEntry, outcome}
 use Rattle.protocol.specs.Run.{n, Wall, Copy, Request, Power, State, Step, consume, help, right, isUp, h, at, consumedCopy, consumeAt}
-use Rattle.protocol.specs.Run.{posted, opens, called, arrives, consumes, helpAnswer, helps, consumedRequest, taken, asked, step, run}
-use Rattle.protocol.specs.Run.{tally, onIt, upCopy, upRequest, Drained}
+use Rattle.protocol.specs.Run.{posted, opens, called, arrives, consumes, helpAnswer, helps, consumedRequest, taken, asked}
+use Rattle.protocol.specs.Run.{step, run, tally, onIt, upCopy, upRequest, Drained}
 use Rattle.protocol.specs.Claims.{consumption, Drainable}
 use Rattle.protocol.proofs.Basics.{true-of, false-of, and-l, and-r, and-false}
-use Rattle.protocol.proofs.Mail.{find, tally-mono, tally-append, tally-change, tally-toAll}
+use Rattle.protocol.proofs.Mail.{bit-one, find, tally-mono, tally-append, tally-change, tally-toAll}
 use Rattle.protocol.proofs.Sums.{total, total-has}
 use Rattle.protocol.proofs.Invariant.{Inv, load}
-use Rattle.protocol.proofs.Views.{view}
+use Rattle.protocol.proofs.Views.{noted-none, view}
 use Rattle.protocol.proofs.Runs.{step-holds}
 use Rattle.protocol.proofs.Bound.{gave-le, kinds-le}
-
-bit-one : (a : Bool) → T a → bit a ≡ 1
-bit-one true t = refl
-bit-one false t = absurd t
 
 bit-none : (a b : Bool) → b ≡ false → bit (a && b) ≡ 0
 bit-none a b e = rw (and-false a b e)
@@ -49,20 +45,26 @@ module _ (B : Wall) (j c : ℕ) where
   abbrev requests-left : State → ℕ
   requests-left s = tally (waiting s) (s .power .requests)
 
-  -- no request is sent or consumed, and no house goes down or returns
-  record Still (s s₂ : State) : Type 0 where
-    requests : s₂ .power .requests ≡ s .power .requests
+  -- no house goes down, returns or publishes
+  record Quiet (s s₂ : State) : Type 0 where
     down : s₂ .power .down ≡ s .power .down
     returned : s₂ .power .returned ≡ s .power .returned
+    publications : s₂ .gave .publications ≡ s .gave .publications
+
+  -- and no request is sent or consumed
+  record Still (s s₂ : State) : Type 0 where
+    requests : s₂ .power .requests ≡ s .power .requests
+    quiet : Quiet s s₂
 
   helps-still : (r p : ℕ) (s : State) → Still s (helps B r p s)
   unfolding helps
   helps-still r p s =
-      go (eqb (helpAnswer (n B) (B .limit) p (s .power .helped r p)) 0) _ (record { requests = refl; down = refl; returned = refl })
+      go (eqb (helpAnswer (n B) (B .limit) p (s .power .helped r p)) 0) _
+      (record { requests = refl; quiet = record { down = refl; returned = refl; publications = refl } })
     where
       go : (b : Bool) (s₂ : State) → Still s s₂ → Still s (cond b s₂ s)
       go true s₂ K = K
-      go false s₂ K = record { requests = refl; down = refl; returned = refl }
+      go false s₂ K = record { requests = refl; quiet = record { down = refl; returned = refl; publications = refl } }
 
   -- the request consumed, and no more
   taken-by : (s : State) (i : ℕ) (m : Request) → at (s .power .requests) i ≡ some m → T (waiting s m)
@@ -80,7 +82,7 @@ module _ (B : Wall) (j c : ℕ) where
   one-less : (s s₂ : State) (i : ℕ) (m : Request) → at (s .power .requests) i ≡ some m → T (waiting s m)
       → Still (taken i s) s₂ → suc (requests-left s₂) ≡ requests-left s
   one-less s s₂ i m e t K =
-      rw (K .requests, K .down)
+      rw (K .requests, K .quiet .down)
       (omega (
         arith,
         tally-change (waiting s) consumedRequest (s .power .requests) i m e,
@@ -104,6 +106,7 @@ module _ (B : Wall) (j c : ℕ) where
   record Read (s s₂ : State) : Type 0 where
     more : tally read (s₂ .mail) ≡ suc (tally read (s .mail))
     power : s₂ .power ≡ s .power
+    publications : s₂ .gave .publications ≡ s .gave .publications
 
   read-by : (s : State) (i : ℕ) (m : Copy) → at (s .mail) i ≡ some m → T (unread s m) → Read s (step B (consume i) s)
   unfolding step consumes arrives called
@@ -131,6 +134,7 @@ module _ (B : Wall) (j c : ℕ) where
           marked (onIt j c m) here,
         );
         power = refl;
+        publications = noted-none (s .gave .publications) (m .to) (m .sender) (m .number);
       })
     where
       marked : (a : Bool) → T a → bit (a && true) ≡ 1
@@ -164,13 +168,19 @@ module _ (B : Wall) (j c : ℕ) where
   -- these steps drain the entry
   record Drains (s : State) (l : List Step) : Type 0 where
     drained : Drained B j c (run B l s)
-    down : run B l s .power .down ≡ s .power .down
-    returned : run B l s .power .returned ≡ s .power .returned
+    quiet : Quiet s (run B l s)
 
-  first : (s : State) (a : Step) (l : List Step) → step B a s .power .down ≡ s .power .down
-      → step B a s .power .returned ≡ s .power .returned → Drains (step B a s) l → Drains s (a ∷ l)
+  first : (s : State) (a : Step) (l : List Step) → Quiet s (step B a s) → Drains (step B a s) l → Drains s (a ∷ l)
   unfolding run
-  first s a l d r D = record { drained = D .drained; down = D .down ∙ d; returned = D .returned ∙ r }
+  first s a l Q D =
+      record {
+        drained = D .drained;
+        quiet = record {
+          down = D .quiet .down ∙ Q .down;
+          returned = D .quiet .returned ∙ Q .returned;
+          publications = D .quiet .publications ∙ Q .publications;
+        };
+      }
 
   -- with as much fuel as copies may still be consumed
   drain-copies : (fuel : ℕ) (s : State) → Inv B j c (view j c s) → most (s .power) < tally read (s .mail) + fuel → requests-left s ≡ 0
@@ -179,7 +189,13 @@ module _ (B : Wall) (j c : ℕ) where
   drain-copies zero s I l e = absurd (omega (arith, read-most s I))
   drain-copies (suc fuel) s I l e =
       zero-or-more (tally (unread s) (s .mail))
-      (λ z. ([], record { drained = record { copies = z; requests = e }; down = refl; returned = refl }))
+      (λ z. (
+        [],
+        record {
+          drained = record { copies = z; requests = e };
+          quiet = record { down = refl; returned = refl; publications = refl };
+        },
+      ))
       (λ some-left. next (find (unread s) (s .mail) some-left) (λ s I l e. drain-copies fuel s I l e))
     where
       next : (i : ℕ) × (m : Copy) × (at (s .mail) i ≡ some m) × T (unread s m)
@@ -191,8 +207,13 @@ module _ (B : Wall) (j c : ℕ) where
           let D = drain (step B (consume (x .0)) s) (still-held (consume (x .0)) s I)
           (omega (arith, l, K .more, ap most (K .power))) (rw (K .power) e) in (
             x .0 ∷ D .0,
-            first s (consume (x .0)) (consumption [] (D .0)) (ap (λ (w : Power). w .down) (K .power))
-                (ap (λ (w : Power). w .returned) (K .power)) (D .1),
+            first s (consume (x .0)) (consumption [] (D .0))
+                (record {
+                  down = ap (λ (w : Power). w .down) (K .power);
+                  returned = ap (λ (w : Power). w .returned) (K .power);
+                  publications = K .publications;
+                })
+                (D .1),
           )
 
   -- with as much fuel as requests are left
@@ -204,8 +225,12 @@ module _ (B : Wall) (j c : ℕ) where
       let K = taken-by s (x .0) (x .1) (x .2) (x .3) in
       let s₂ : State = step B (help (x .0)) s in
       let D = drain-all fuel s₂ (still-held (help (x .0)) s I)
-      (omega (arith, e, one-less s s₂ (x .0) (x .1) (x .2) (x .3) K)) in
-      (x .0 ∷ D .0, D .1, first s (help (x .0)) (consumption (D .0) (D .1)) (K .down) (K .returned) (D .2))
+      (omega (arith, e, one-less s s₂ (x .0) (x .1) (x .2) (x .3) K)) in (
+        x .0 ∷ D .0,
+        D .1,
+        first s (help (x .0)) (consumption (D .0) (D .1))
+            (record { down = K .quiet .down; returned = K .quiet .returned; publications = K .quiet .publications }) (D .2),
+      )
 
   pub drainable : (s : State) → Inv B j c (view j c s) → Drainable B j c s
   drainable s I =
@@ -214,6 +239,7 @@ module _ (B : Wall) (j c : ℕ) where
         requests = D .0;
         copies = D .1;
         drained = D .2 .drained;
-        down = D .2 .down;
-        returned = D .2 .returned;
+        down = D .2 .quiet .down;
+        returned = D .2 .quiet .returned;
+        publications = D .2 .quiet .publications;
       }

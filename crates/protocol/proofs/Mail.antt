@@ -12,7 +12,7 @@ use Rattle.card.proofs.Counting.{count-mono}
 use Rattle.protocol.specs.Entry.{Decl, Kind, SEND, ECHO, READY, isKind}
 use Rattle.protocol.specs.Run.{Copy, at, changeAt, copyTo, toAll, tally, onIt, copiesOf}
 
-bit-one : (a : Bool) → T a → bit a ≡ 1
+pub bit-one : (a : Bool) → T a → bit a ≡ 1
 bit-one true t = refl
 bit-one false t = absurd t
 

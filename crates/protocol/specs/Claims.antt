@@ -78,13 +78,14 @@ module _ (B : Wall) (j c : ℕ) where
     pub publishable : T (right B j) → c < B .numbers → (v : Decl) → T (B .rules .ok v) → s .gave .publications j j c ≡ []
         → outcome (B .rules) (B .numbers) j (publishing c v) (s .gave .books j) .answer ≡ 0
 
-  -- Some requests and some copies consumed, the entry is drained; the same houses are up, and returned as often.
+  -- Some requests and some copies consumed, the entry is drained; no house went down, returned or published for it.
   pub record Drainable (s : State) : Type 0 where
     pub requests : List ℕ
     pub copies : List ℕ
     pub drained : Drained B j c (run B (consumption requests copies) s)
     pub down : run B (consumption requests copies) s .power .down ≡ s .power .down
     pub returned : run B (consumption requests copies) s .power .returned ≡ s .power .returned
+    pub publications : run B (consumption requests copies) s .gave .publications ≡ s .gave .publications
 
   -- with any number of wrong houses, each honest house returning at most d times
   pub record Bounded (s : State) : Type 0 where

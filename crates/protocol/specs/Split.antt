@@ -29,7 +29,8 @@ unfolding consumeFrom
 steps =
     split 0 ++ (wrong 3 0 ECHO 3 0 lie ∷ wrong 3 1 ECHO 3 0 lie ∷ wrong 3 2 ECHO 3 0 lie ∷ wrong 3 0 READY 3 0 lot
     ∷ wrong 3 2 READY 3 0 lie ∷ consumeFrom 0 12)
-    ++ (split 1 ++ (wrong 3 0 ECHO 3 1 lot ∷ wrong 3 2 ECHO 3 1 lie ∷ wrong 3 1 READY 3 1 lot ∷ wrong 3 2 READY 3 1 lie ∷ consumeFrom 12 24))
+    ++ (split 1 ++ (wrong 3 0 ECHO 3 1 lot ∷ wrong 3 2 ECHO 3 1 lie ∷ wrong 3 1 READY 3 1 lot ∷ wrong 3 2 READY 3 1 lie
+    ∷ consumeFrom 12 24))
 
 unfoldable pub end : State
 unfolding four steps

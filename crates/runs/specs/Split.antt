@@ -19,8 +19,8 @@ unfoldable pub houses : Houses
 unfolding sample
 houses = sample 4 0 0 (λ p. ltb 0 p)
 
--- Houses 1 and 2 hear a SEND of the lot, house 3 one of the lie. The liar sends house 1 an ECHO of the lot, house 2 a READY of it, and house
--- 3 both of the lie. Every copy comes.
+-- Houses 1 and 2 hear a SEND of the lot, house 3 one of the lie. The liar sends house 1 an ECHO of the lot, house 2 a READY of it, and
+-- house 3 both of the lie. Every copy comes.
 unfoldable pub steps : List Step
 unfolding consumeFrom
 steps =

@@ -290,6 +290,7 @@ module _ (H : Houses) (O : Open H) (l : List Step) (j c : ℕ) (hj : j < H .n) (
         drained = drained-from H s₂ z₂ N j c (D .drained);
         down = sym (N .down) ∙ D .down ∙ M .down;
         returned = sym (N .returned) ∙ D .returned ∙ M .returned;
+        publications = sym (N .gave .publications) ∙ D .publications ∙ M .gave .publications;
       }
 
   -- ---- the claims

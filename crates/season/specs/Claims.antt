@@ -98,13 +98,14 @@ module _ (H : Houses) (j c : ℕ) where
     pub publishable : T (isHonest H j) → (v : List ℕ) → IsDecl v → judged (H .sheet) v ≡ 0 → s .gave .publications j j c ≡ []
         → published (s .gave .books j) c v .given .answer ≡ 0
 
-  -- Some requests and some copies consumed, the entry is drained; the same houses are up, and returned as often.
+  -- Some requests and some copies consumed, the entry is drained; no house went down, returned or published for it.
   pub record Drainable (s : State) : Type 0 where
     pub requests : List ℕ
     pub copies : List ℕ
     pub drained : Drained H j c (run H (consumption requests copies) s)
     pub down : run H (consumption requests copies) s .power .down ≡ s .power .down
     pub returned : run H (consumption requests copies) s .power .returned ≡ s .power .returned
+    pub publications : run H (consumption requests copies) s .gave .publications ≡ s .gave .publications
 
   -- with any number of wrong houses, each honest house returning at most d times
   pub record Bounded (s : State) : Type 0 where
