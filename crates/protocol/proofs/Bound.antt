@@ -6,17 +6,20 @@ use mathlib.Core.Bool.{Bool, true, false, not, cond, _&&_, and-true}
 use mathlib.Core.Logic.{inl, inr, ⊎-elim}
 use mathlib.Core.Option.{Option, none, some}
 use mathlib.Core.List.{List, [], _∷_}
-use Prim.Native.Nat.{ℕ, suc, _+_, _*_, _≤_}
+use Prim.Native.Nat.{ℕ, suc, _+_, _*_, _≤_, _<_}
 use native.Mathlib.Nat.{mul-le-mul-left}
 use native.Mathlib.Omega.{arith}
-use lib.Dec.{T, eqb, eqb→eq, eqb-refl}
+use lib.Dec.{T, eqb, ltb, eqb→eq, eqb-refl}
 use lib.ListN.{length}
+use borrow.Author.Tests.{lt-ltb}
 use Rattle.card.specs.Count.{bit, count}
 use Rattle.card.proofs.Counting.{count-mono, count-not, count-none, count-one}
 use Rattle.protocol.specs.Entry.{Decl, Kind, SEND, ECHO, READY, heard, own, isKind, isSome}
+use Rattle.protocol.specs.Steps.{publish, publishAnswer, publishes}
+use Rattle.protocol.specs.Book.{Book, publishing, outcome}
 use Rattle.protocol.specs.Run.{n, Wall, Copy, State, Limited, right, h, at, onIt, copiesOf}
 use Rattle.protocol.specs.Claims.{Safe, Bounded, Single}
-use Rattle.protocol.proofs.Basics.{not-of, and-l, and-r, and-mk, isKind-refl, some-of}
+use Rattle.protocol.proofs.Basics.{true-of, not-of, and-l, and-r, and-mk, isKind-refl, some-of}
 use Rattle.protocol.proofs.Moves.{listOf}
 use Rattle.protocol.proofs.Slots.{run-fills}
 use Rattle.protocol.proofs.Mail.{copies-kinds, copies-split, tally-at, tally-same}
@@ -171,6 +174,17 @@ module _ (B : Wall) (j c : ℕ) (s : View) (I : Inv B j c s) where
   pub delivered-of : (r : ℕ) (v : Decl) → s .deliveries r ≡ v ∷ [] → s .house r .delivered ≡ some v
   delivered-of r v e = one-of (s .house r .delivered) v (sym (I .books .delivered r) ∙ e)
 
+none-listed : (o : Option Decl) → listOf o ≡ [] → o ≡ none
+none-listed none e = refl
+none-listed (some v) e = absurd (omega (arith, ap length e))
+
+-- a first plausible publication is accepted
+publishable : (B : Wall) (j c : ℕ) (b : Book) (v : Decl) → T (right B j) → c < B .numbers → T (B .rules .ok v)
+    → b j c .published ≡ none → outcome (B .rules) (B .numbers) j (publishing c v) b .answer ≡ 0
+unfolding outcome publish publishAnswer publishes
+publishable B j c b v g l ok e =
+    rw (true-of (ltb j (n B)) (and-l (ltb j (n B)) (B .honest j) g), lt-ltb c (B .numbers) l, true-of (B .rules .ok v) ok, e)
+
 pub safe : (B : Wall) (j c : ℕ) (s : State) → Inv B j c (view j c s) → Safe B j c s
 safe B j c s I =
     record {
@@ -184,6 +198,8 @@ safe B j c s I =
           (answers B s i m e g (subst (λ (x : ℕ). Inv B x (m .number) (view x (m .number) s)) z
           (subst (λ (x : ℕ). Inv B j x (view j x s)) z₂ I)));
       fills = λ l r. run-fills B l s r j c;
+      publishable = λ g l v ok e. publishable B j c (s .gave .books j) v g l ok
+          (none-listed (s .gave .books j j c .published) (sym (I .books .published j) ∙ e));
     }
 
 -- with d = 0 each message goes once to each house, so a copy that is not consumed is not heard yet

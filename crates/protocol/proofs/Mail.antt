@@ -12,7 +12,7 @@ use Rattle.card.proofs.Counting.{count-mono}
 use Rattle.protocol.specs.Entry.{Decl, Kind, SEND, ECHO, READY, isKind}
 use Rattle.protocol.specs.Run.{Copy, at, changeAt, copyTo, toAll, tally, onIt, copiesOf}
 
-bit-one : (a : Bool) → T a → bit a ≡ 1
+pub bit-one : (a : Bool) → T a → bit a ≡ 1
 bit-one true t = refl
 bit-one false t = absurd t
 
@@ -44,6 +44,16 @@ pub tally-at : {A : Type 0} (P : A → Bool) (l : List A) (i : ℕ) (m : A) → 
 tally-at P [] i m e t = absurd (let z : _≡_ {A = ℕ} 0 1 = cc in omega arith)
 tally-at P (x ∷ l) zero m e t = let z : x ≡ m = cc in omega (arith, bit-one (P x) (rw z t))
 tally-at P (x ∷ l) (suc i) m e t = omega (arith, tally-at P l i m e t)
+
+-- where some pass a test, there is one
+pub find : {A : Type 0} (P : A → Bool) (l : List A) → 0 < tally P l → (i : ℕ) × (m : A) × (at l i ≡ some m) × T (P m)
+find P [] h = absurd (omega arith)
+find {A = A} P (m ∷ l) h = go (P m) refl (λ z. find P l z)
+  where
+    go : (b : Bool) → P m ≡ b → (0 < tally P l → (i : ℕ) × (x : A) × (at l i ≡ some x) × T (P x))
+        → (i : ℕ) × (x : A) × (at (m ∷ l) i ≡ some x) × T (P x)
+    go true e f = (0, m, refl, rw e tt)
+    go false e f = let r = f (omega (arith, ap bit e)) in (suc (r .0), r .1, r .2, r .3)
 
 -- one copy is changed
 pub tally-change : {A : Type 0} (P : A → Bool) (f : A → A) (l : List A) (i : ℕ) (m : A) → at l i ≡ some m

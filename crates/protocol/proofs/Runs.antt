@@ -12,9 +12,9 @@ use Rattle.card.proofs.Counting.{count-none}
 use Rattle.protocol.specs.Entry.{Decl, Kind, SEND, ECHO, READY, Entry, fresh, heard, own, isSome, upd}
 use Rattle.protocol.specs.Steps.{Out}
 use Rattle.protocol.specs.Book.{sameEntry, Call, publishing, receiving, senderOf, numberOf}
-use Rattle.protocol.specs.Run.{n, isWrong, isUp, Wall, Copy, Request, State, Step, publish, consume, wrong, crash, comeback, help}
+use Rattle.protocol.specs.Run.{n, isUp, Wall, Copy, Request, State, Step, publish, consume, wrong, crash, comeback, help}
 use Rattle.protocol.specs.Run.{plead, right, start, at, consumedCopy, consumeAt, posted, opens, called, arrives, consumes, comes}
-use Rattle.protocol.specs.Run.{helpAnswer, helps, taken, asked, step, run, onIt, copiesOf}
+use Rattle.protocol.specs.Run.{helpAnswer, helps, taken, asked, underWrong, step, run, onIt, copiesOf}
 use Rattle.protocol.proofs.Basics.{bcase, T-of, false-of, and-l, and-r, and-false, none-some, Heeded}
 use Rattle.protocol.proofs.Mail.{tally-append, tally-change}
 use Rattle.protocol.proofs.Invariant.{View, Inv, Act, act-inv, else-inv}
@@ -79,7 +79,7 @@ module _ (B : Wall) (j c : ℕ) (Ψ : (ℕ → Entry) → Type 0)
       same true x y a d = a
       same false x y a d = d
 
-  step-holds : (a : Step) (s : State) → Holds s → Holds (step B a s)
+  pub step-holds : (a : Step) (s : State) → Holds s → Holds (step B a s)
   unfolding step consumes arrives asked comes
   step-holds (publish r c₂ v) s H =
       if-holds (isUp B s r) _ s
@@ -107,7 +107,7 @@ module _ (B : Wall) (j c : ℕ) (Ψ : (ℕ → Entry) → Type 0)
           (unused m e) H))
           (λ t. H)
   step-holds (wrong p r k j₂ c₂ v) s H =
-      if-holds (isUp B s r && isWrong B p) _ s
+      if-holds (underWrong B s p r) _ s
       (λ t. call-holds r (receiving p k j₂ c₂ v) s (s .mail)
       (plain-act B r (receiving p k j₂ c₂ v) s (and-l (right B r) _ (and-l (isUp B s r) _ (T-of t)))
       (λ l q w b g. T-not (right B p) (and-r (isUp B s r) _ (T-of t)) (rw (b .1) at g)))
@@ -129,7 +129,7 @@ module _ (B : Wall) (j c : ℕ) (Ψ : (ℕ → Entry) → Type 0)
           (taken-nearly B j c s i m e (H .0) (false-of (m .consumed) (and-r (right B (m .to)) _ (T-of t))))))
           (λ t. H)
   step-holds (plead p r) s H =
-      if-holds (isUp B s r && isWrong B p) _ s
+      if-holds (underWrong B s p r) _ s
       (λ t. helps-holds r p s s (and-l (right B r) _ (and-l (isUp B s r) _ (T-of t))) (H .1)
       (pleaded B j c s r p (T-not (right B p) (and-r (isUp B s r) _ (T-of t))) (H .0)))
       (λ t. H)

@@ -24,6 +24,7 @@ use Rattle.protocol.proofs.Invariant.{View, Inv}
 use Rattle.protocol.proofs.Views.{view}
 use Rattle.protocol.proofs.Runs.{holds-from-start}
 use Rattle.protocol.proofs.Bound.{count-all, one-of, delivered-of, sent-le, safe, bounded, single}
+use Rattle.protocol.proofs.Draining.{drainable}
 use Rattle.protocol.proofs.Agreement.{Backed, backed, deliver-agree, deliver-authentic}
 use Rattle.protocol.proofs.Totality.{reach, published-ready, delivered-ready-up, ready-delivered, cost-is, readies-are}
 
@@ -160,6 +161,7 @@ pub season : (B : Wall) (t : ℕ) (l : List Step) (j c : ℕ) → Season B j c (
 season B t l j c =
     record {
       safe = safe B j c s I;
+      drainable = drainable B j c s I;
       bounded = bounded B j c s I;
       agreed = λ Y. agreed B j c t s I Y (backed B t Y j c l);
       complete = λ Y L Z D. complete B j c t s I Y (backed B t Y j c l) Z L D;
@@ -225,6 +227,7 @@ claims =
           let P = parted n t f d numbers ok honest fits in
           record {
             safe = S .safe;
+            drainable = S .drainable;
             bounded = S .bounded;
             agreed = λ few. S .agreed (C few);
             complete = λ few L low. S .complete (C few) L (P few e low);

@@ -7,9 +7,9 @@ use mathlib.Core.List.{List, [], _∷_}
 use Prim.Native.Nat.{ℕ}
 use lib.Dec.{eqb, eqb→eq}
 use Rattle.protocol.specs.Book.{PerEntry, Book, sameEntry, place, Call, publishing, receiving, senderOf, numberOf, outcome, after}
-use Rattle.protocol.specs.Run.{n, isWrong, Wall, Copy, Request, State, Step, publish, consume, wrong, crash, comeback, help, plead}
+use Rattle.protocol.specs.Run.{n, Wall, Copy, Request, State, Step, publish, consume, wrong, crash, comeback, help, plead}
 use Rattle.protocol.specs.Run.{right, isUp, at, consumeAt, opens, called, arrives, consumes, comes, helpAnswer, helps, taken, asked}
-use Rattle.protocol.specs.Run.{step, run}
+use Rattle.protocol.specs.Run.{underWrong, step, run}
 use Rattle.protocol.specs.Claims.{Filled}
 use Rattle.protocol.proofs.Basics.{T-of, and-l, and-r, upd-all}
 use Rattle.protocol.proofs.Moves.{filled-refl, filled-trans}
@@ -62,7 +62,7 @@ module _ (B : Wall) where
           (if-fills (s .power .down (m .to)) s _ _ (same-fills s) (called-fills (m .to) (opens m) s (consumeAt (s .mail) i)))
           (same-fills s)
   step-fills (wrong p r k j c v) s =
-      if-fills (isUp B s r && isWrong B p) s _ s (called-fills r (receiving p k j c v) s (s .mail)) (same-fills s)
+      if-fills (underWrong B s p r) s _ s (called-fills r (receiving p k j c v) s (s .mail)) (same-fills s)
   step-fills (crash r) s = if-fills (isUp B s r) s _ s (same-fills s) (same-fills s)
   step-fills (comeback r) s = if-fills (right B r && s .power .down r) s _ s (same-fills s) (same-fills s)
   step-fills (help i) s = go (at (s .power .requests) i)
@@ -72,7 +72,7 @@ module _ (B : Wall) where
       go (some m) =
           if-fills (right B (m .to) && not (m .consumed)) s _ s
           (if-fills (s .power .down (m .to)) s _ _ (same-fills s) (helps-fills (m .to) (m .from) (taken i s))) (same-fills s)
-  step-fills (plead p r) s = if-fills (isUp B s r && isWrong B p) s _ s (helps-fills r p s) (same-fills s)
+  step-fills (plead p r) s = if-fills (underWrong B s p r) s _ s (helps-fills r p s) (same-fills s)
 
   pub run-fills : (l : List Step) (s : State) → Fills s (run B l s)
   unfolding run

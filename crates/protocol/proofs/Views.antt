@@ -7,11 +7,11 @@ use mathlib.Core.List.{List, _++_}
 use Prim.Native.Nat.{ℕ}
 use lib.Dec.{T, eqb, eqb→eq}
 use Rattle.card.proofs.Counting.{count-none}
-use Rattle.protocol.specs.Entry.{upd}
+use Rattle.protocol.specs.Entry.{Decl, upd}
 use Rattle.protocol.specs.Steps.{Say, say, Out}
 use Rattle.protocol.specs.Book.{PerEntry, sameEntry, place, Call, inBook, senderOf, numberOf, outcome, after, publication}
-use Rattle.protocol.specs.Run.{n, Wall, Copy, State, posted, push, called, onIt, copiesOf}
-use Rattle.protocol.proofs.Basics.{T-of, true-of}
+use Rattle.protocol.specs.Run.{n, Wall, Copy, State, posted, push, noted, called, onIt, copiesOf}
+use Rattle.protocol.proofs.Basics.{T-of, true-of, and-l, and-r, upd-all}
 use Rattle.protocol.proofs.Calls.{Done, outcome-done, outcome-booked}
 use Rattle.protocol.proofs.Mail.{tally-toAll}
 use Rattle.protocol.proofs.Invariant.{View, acted}
@@ -55,6 +55,18 @@ pub posted-elsewhere : (j₂ c₂ r : ℕ) (x : Option Say) (n j c : ℕ) (P : C
 posted-elsewhere j₂ c₂ r none n j c P e = refl
 posted-elsewhere j₂ c₂ r (some (say k v)) n j c P e =
     tally-toAll (λ m. onIt j c m && P m) j₂ c₂ r k v n ∙ count-none _ n (λ q h. rw e)
+
+-- noting nothing changes nothing
+pub noted-none : (f : ℕ → PerEntry (List Decl)) (r j c : ℕ) → noted f r j c none ≡ f
+noted-none f r j c = fun-ext (λ q. upd-all (λ q x. x ≡ f q) f r (place (f r) j c (f r j c)) same (λ q. refl) q)
+  where
+    same : place (f r) j c (f r j c) ≡ f r
+    same = fun-ext (λ j₂. fun-ext (λ c₂. go j₂ c₂ (sameEntry j c j₂ c₂) refl))
+      where
+        go : (j₂ c₂ : ℕ) (t : Bool) → sameEntry j c j₂ c₂ ≡ t → cond t (f r j c) (f r j₂ c₂) ≡ f r j₂ c₂
+        go j₂ c₂ true q =
+            rw (eqb→eq j₂ j (and-l (eqb j₂ j) (eqb c₂ c) (T-of q)), eqb→eq c₂ c (and-r (eqb j₂ j) (eqb c₂ c) (T-of q)))
+        go j₂ c₂ false q = refl
 
 module _ (B : Wall) (r : ℕ) (a : Call) (s : State) where
   abbrev pub out : Out

@@ -10,9 +10,9 @@ use lib.Dec.{T}
 use lib.ListN.{length}
 use Rattle.protocol.specs.Entry.{Decl, Entry, Rules, heard}
 use Rattle.protocol.specs.Steps.{Out}
-use Rattle.protocol.specs.Book.{Book, Call, senderOf, numberOf, outcome, after}
+use Rattle.protocol.specs.Book.{Book, Call, publishing, senderOf, numberOf, outcome, after}
 use Rattle.protocol.specs.Run.{n, Wall, Copy, State, Step, right, isUp, h, start, run, at, opens, onIt, copies, readies, between}
-use Rattle.protocol.specs.Run.{consumedBetween, isBetween, copiesOf, Drained, Limited}
+use Rattle.protocol.specs.Run.{consumedBetween, isBetween, copiesOf, consume, help, Drained, Limited}
 use Rattle.protocol.specs.Thresholds.{wallOf, AtMost, Tolerated, TakePart, downs}
 
 -- An accepted publication or message changes the named entry alone. Two books that agree on one entry give the same answer, message
@@ -36,6 +36,12 @@ pub record Filled (e e₂ : Entry) : Type 0 where
   pub readySent : Stays (e .readySent) (e₂ .readySent)
   pub delivered : Stays (e .delivered) (e₂ .delivered)
   pub published : Stays (e .published) (e₂ .published)
+
+-- the steps that consume the requests at these places, and then the copies at those
+abbrev pub consumption : (requests copies : List ℕ) → List Step
+consumption [] [] = []
+consumption [] (i ∷ k) = consume i ∷ consumption [] k
+consumption (i ∷ l) k = help i ∷ consumption l k
 
 module _ (B : Wall) (j c : ℕ) where
   -- house r delivered v on this entry, and nothing else
@@ -68,6 +74,18 @@ module _ (B : Wall) (j c : ℕ) where
         ⊎ ((consuming s m .answer ≡ 7) × (heard (m .kind) (m .from) (s .gave .books (m .to) j c) ≡ some (m .decl)))
     -- Calls only ever fill empty slots, whatever steps come.
     pub fills : (l : List Step) (r : ℕ) → Filled (s .gave .books r j c) (run B l s .gave .books r j c)
+    -- An honest sender's first plausible declaration at a number of the book is accepted.
+    pub publishable : T (right B j) → c < B .numbers → (v : Decl) → T (B .rules .ok v) → s .gave .publications j j c ≡ []
+        → outcome (B .rules) (B .numbers) j (publishing c v) (s .gave .books j) .answer ≡ 0
+
+  -- Some requests and some copies consumed, the entry is drained; no house went down, returned or published for it.
+  pub record Drainable (s : State) : Type 0 where
+    pub requests : List ℕ
+    pub copies : List ℕ
+    pub drained : Drained B j c (run B (consumption requests copies) s)
+    pub down : run B (consumption requests copies) s .power .down ≡ s .power .down
+    pub returned : run B (consumption requests copies) s .power .returned ≡ s .power .returned
+    pub publications : run B (consumption requests copies) s .gave .publications ≡ s .gave .publications
 
   -- with any number of wrong houses, each honest house returning at most d times
   pub record Bounded (s : State) : Type 0 where
@@ -110,6 +128,7 @@ module _ (B : Wall) (j c : ℕ) where
   -- in any order of calls; `Few` says that at most t houses are wrong, `Part` that at most f honest ones are down
   pub record Season (Few : Type 0) (Part : State → Type 0) (l : List Step) : Type 0 where
     pub safe : Safe (run B l start)
+    pub drainable : Drainable (run B l start)
     pub bounded : Limited B (run B l start .power) → Bounded (run B l start)
     pub agreed : Few → Agreed (run B l start)
     pub complete : Few → Limited B (run B l start .power) → Part (run B l start) → Drained B j c (run B l start)

@@ -5,4 +5,5 @@ pub mod Run
 pub mod Thresholds
 pub mod Claims
 pub mod Example
+pub mod Split
 pub mod Needed

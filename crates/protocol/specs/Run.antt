@@ -268,18 +268,22 @@ asked B i (some m) s =
     cond (right B (m .to) && not (m .consumed))
     (cond (s .power .down (m .to)) (taken i s) (helps B (m .to) (m .from) (taken i s))) s
 
+-- house r is up, and p is a wrong house's number or a number not below n
+abbrev pub underWrong : Wall → State → (from house : ℕ) → Bool
+underWrong B s p r = isUp B s r && isWrong B p
+
 -- A step that is none of these changes nothing.
 unfoldable pub step : Wall → Step → State → State
 unfolding comes helps asked
 step B (publish r c v) s = cond (isUp B s r) (called B r (publishing c v) s (s .mail)) s
 step B (consume i) s = consumes B i (at (s .mail) i) s
 step B (wrong p r k j c v) s =
-    cond (isUp B s r && isWrong B p) (called B r (receiving p k j c v) s (s .mail)) s
+    cond (underWrong B s p r) (called B r (receiving p k j c v) s (s .mail)) s
 step B (crash r) s =
     cond (isUp B s r) (record { gave = s .gave; mail = s .mail; power = setDown (s .power) r true }) s
 step B (comeback r) s = cond (right B r && s .power .down r) (comes B r s) s
 step B (help i) s = asked B i (at (s .power .requests) i) s
-step B (plead p r) s = cond (isUp B s r && isWrong B p) (helps B r p s) s
+step B (plead p r) s = cond (underWrong B s p r) (helps B r p s) s
 
 unfoldable pub run : Wall → List Step → State → State
 run B [] s = s

@@ -2,3 +2,5 @@ pub mod Sample
 pub mod PowerCut
 pub mod Liar
 pub mod Plain
+pub mod Split
+pub mod Claims

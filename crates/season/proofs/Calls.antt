@@ -2,7 +2,7 @@
 -- before, they mean the same afterwards.
 -- Assumes nothing.
 use Prim.Native.Nat.{ℕ, zero, suc, _<_}
-use mathlib.Core.Path.{_≡_, refl, sym, ap, _∙_, fun-ext, subst}
+use mathlib.Core.Path.{_≡_, refl, sym, ap, _∙_, subst}
 use mathlib.Core.Bool.{Bool, true, false, cond}
 use mathlib.Core.List.{List, [], _++_, append-nil}
 use mathlib.Core.Option.{Option, none, some}
@@ -16,16 +16,16 @@ use Rattle.meaning.specs.Book.{Care, Meaning, nOf, numbersOf, ownOf, seasonOf, 
 use Rattle.meaning.specs.Book.{look, meant}
 use Rattle.meaning.specs.Legal.{legal, IsDecl, IsSlot, IsEntry}
 use Rattle.meaning.proofs.Meant.{meant-is-book}
-use Rattle.meaning.proofs.Entries.{same-entry}
 use Rattle.meaning.proofs.Stores.{Stored}
 use Rattle.protocol.specs.Entry.{Decl, Kind, SEND, ECHO, READY, Entry, own, upd}
 use Rattle.protocol.specs.Steps.{say, Out}
-use Rattle.protocol.specs.Book.{Book, sameEntry, place, Call, publishing, senderOf, numberOf, outcome, after, publication}
+use Rattle.protocol.specs.Book.{Book, place, Call, publishing, senderOf, numberOf, outcome, after, publication}
 use Rattle.protocol.specs.Run.{Wall, noted}
 use Rattle.protocol.specs.Run as protocol
 use Rattle.protocol.specs.Thresholds.{rulesOf, wallOf}
 use Rattle.protocol.proofs.Basics.{upd-all}
 use Rattle.protocol.proofs.Calls.{outcome-done}
+use Rattle.protocol.proofs.Views.{noted-none}
 use Rattle.entry.specs.declared.Outcome.{Outcome}
 use Rattle.entry.specs.Entered.{result, giving, helping, okBy, rulesBy, kindNumber, letters}
 use Rattle.counter.specs.Call.{refusal, stepOf, called, requestAnswer, requested}
@@ -54,14 +54,7 @@ publication-of c v o = go (o .answer)
 -- noting nothing changes nothing
 noting-none : (f : Noted) (r : ℕ) (e : Named) → noting f r e none ≡ f
 noting-none f r nothing = refl
-noting-none f r (entry j c) = fun-ext (λ q. upd-all (λ q x. x ≡ f q) f r (place (f r) j c (f r j c)) same (λ q. refl) q)
-  where
-    same : place (f r) j c (f r j c) ≡ f r
-    same = fun-ext (λ j₂. fun-ext (λ c₂. go j₂ c₂ (sameEntry j c j₂ c₂) refl))
-      where
-        go : (j₂ c₂ : ℕ) (t : Bool) → sameEntry j c j₂ c₂ ≡ t → cond t (f r j c) (f r j₂ c₂) ≡ f r j₂ c₂
-        go j₂ c₂ true q = let p = same-entry j c j₂ c₂ q in rw (p .0, p .1)
-        go j₂ c₂ false q = refl
+noting-none f r (entry j c) = noted-none f r j c
 
 -- what a request answers
 requested-answer : (b : List ℕ) (p season : ℕ) → requested b p season .given .answer ≡ requestAnswer b p season

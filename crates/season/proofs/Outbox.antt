@@ -1,25 +1,26 @@
 -- The book is its own outbox: what an honest house sent is what its book gives, and what its book gives it sent to all.
 -- Assumes nothing.
-use Prim.Native.Nat.{ℕ, zero, suc, _*_, _<_}
+use Prim.Native.Nat.{ℕ, _≤_, _<_}
 use mathlib.Core.Path.{_≡_, refl, sym, ap, _∙_, subst}
 use mathlib.Core.Bool.{Bool, true, false, cond, _&&_, true≢false}
-use mathlib.Core.List.{List, [], _∷_}
+use mathlib.Core.List.{List}
 use mathlib.Core.Option.{Option, none, some}
 use native.Mathlib.Nat.{mul-le-mul-left}
 use native.Mathlib.Omega.{arith}
 use lib.Dec.{T, eqb, ltb, eqb→eq, eqb-refl, ltb→lt}
-use Rattle.card.specs.Count.{bit, count}
+use Rattle.card.specs.Count.{count}
 use Rattle.card.proofs.Counting.{count-pos}
 use Rattle.message.specs.Message.{readOf}
 use Rattle.message.specs.Message as message
 use Rattle.meaning.specs.Book.{look}
 use Rattle.meaning.specs.Legal.{legal}
-use Rattle.protocol.specs.Entry.{Decl, Kind, Entry, own, isKind, isSome}
+use Rattle.protocol.specs.Entry.{Decl, Kind, SEND, ECHO, READY, Entry, own, isKind, isSome}
 use Rattle.protocol.specs.Steps.{say}
-use Rattle.protocol.specs.Run.{at, tally}
+use Rattle.protocol.specs.Run.{at}
 use Rattle.protocol.specs.Run as protocol
 use Rattle.protocol.specs.Thresholds.{rulesOf, wallOf}
-use Rattle.protocol.proofs.Basics.{T-of, and-l, and-r, and-mk, isKind-eq, isSome-of}
+use Rattle.protocol.proofs.Basics.{and-l, and-r, and-mk, isKind-eq, isSome-of}
+use Rattle.protocol.proofs.Mail.{find}
 use Rattle.protocol.proofs.Again.{entry-refl, way}
 use Rattle.protocol.proofs.Invariant.{Inv, true-copy}
 use Rattle.protocol.proofs.Views.{view}
@@ -28,19 +29,9 @@ use Rattle.counter.specs.declared.Sent.{Sent}
 use Rattle.counter.specs.Again.{sending, saidOf, sentOf}
 use Rattle.counter.proofs.Again.{kind-number}
 use Rattle.season.specs.Run.{Houses, isHonest, Copy, State}
-use Rattle.season.specs.Claims.{Outgoing, SentTo}
+use Rattle.season.specs.Claims.{OfSeason, Outgoing, SentTo}
 use Rattle.season.proofs.Mail.{Says, Both, mails-at}
 use Rattle.season.proofs.Calls.{wall, IsOf, Means, sent-is}
-
--- where some copy passes a test, there is one
-find : {A : Type 0} (P : A → Bool) (l : List A) → 0 < tally P l → (i : ℕ) × (m : A) × (at l i ≡ some m) × T (P m)
-find P [] h = absurd (omega arith)
-find {A = A} P (m ∷ l) h = go (P m) refl (λ z. find P l z)
-  where
-    go : (b : Bool) → P m ≡ b → (0 < tally P l → (i : ℕ) × (x : A) × (at l i ≡ some x) × T (P x))
-        → (i : ℕ) × (x : A) × (at (m ∷ l) i ≡ some x) × T (P x)
-    go true e f = (0, m, refl, T-of e)
-    go false e f = let r = f (omega (arith, ap bit e)) in (suc (r .0), r .1, r .2, r .3)
 
 -- another kind gives nothing
 known-kind : (b : List ℕ) (kind j c : ℕ) → sentOf b kind j c .gives ≡ true → message.isKind kind ≡ true
@@ -89,6 +80,31 @@ module _ (H : Houses) (s : State) (z : protocol.State) (M : Means H s z)
           let lc = ltb→lt (x .number) (H .numbers) (and-r (ltb (x .sender) (H .n)) (ltb (x .number) (H .numbers)) (o .3)) in (
             rw (S .from) (o .0),
             rw (S .read, S .from, S .message) (gives (x .from) (o .0) (x .kind) (x .sender) (x .number) lj lc (x .decl) said-it),
+          )
+
+  -- a copy says what its sender gave, on an entry of the book
+  pub reads : (i : ℕ) (m : Copy) → at (s .mail) i ≡ some m → OfSeason H (readOf (m .message) .five)
+  unfolding wallOf rulesOf
+  reads i m e = go (at (z .mail) i) refl (rw e at (mails-at (Says (H .season)) (s .mail) (z .mail) (M .mail) i))
+    where
+      kind : (k : Kind) → (1 ≤ kindNumber k) × (kindNumber k ≤ 3)
+      kind SEND = (omega arith, omega arith)
+      kind ECHO = (omega arith, omega arith)
+      kind READY = (omega arith, omega arith)
+
+      go : (x : Option protocol.Copy) → at (z .mail) i ≡ x → Both (Says (H .season)) (some m) x → OfSeason H (readOf (m .message) .five)
+      go none f S = absurd S
+      go (some x) f S =
+          let I = held (x .sender) (x .number) in
+          let said-it = true-copy (wall H) (x .sender) (x .number) (view (x .sender) (x .number) z) I i x f
+          (entry-refl (x .sender) (x .number)) in
+          let o = I .books .owner (x .from) (x .kind) (x .decl) said-it in
+          rw (S .read) (
+            kind (x .kind) .0,
+            kind (x .kind) .1,
+            refl,
+            ltb→lt (x .sender) (H .n) (and-l (ltb (x .sender) (H .n)) (ltb (x .number) (H .numbers)) (o .3)),
+            ltb→lt (x .number) (H .numbers) (and-r (ltb (x .sender) (H .n)) (ltb (x .number) (H .numbers)) (o .3)),
           )
 
   module _ (j c : ℕ) (lj : j < H .n) (lc : c < H .numbers) where

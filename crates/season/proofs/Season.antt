@@ -22,16 +22,14 @@ use Rattle.sheet.specs.Kept.{sheetAt, isSheet, judged}
 use Rattle.message.specs.Message.{readOf}
 use Rattle.meaning.specs.Legal.{IsDecl}
 use Rattle.meaning.proofs.Opening.{opened-facts, allowed-facts}
-use Rattle.protocol.specs.Entry.{Decl, READY, Rules, heard, isKind}
-use Rattle.protocol.specs.Steps.{publish, publishAnswer, publishes}
-use Rattle.protocol.specs.Book.{Book, inBook, Call, publishing, receiving, outcome}
+use Rattle.protocol.specs.Entry.{READY, heard, isKind}
+use Rattle.protocol.specs.Book.{Call, publishing, receiving, outcome}
 use Rattle.protocol.specs.Run.{at, tally}
 use Rattle.protocol.specs.Run as protocol
 use Rattle.protocol.specs.Claims as protocol-claims
 use Rattle.protocol.specs.Thresholds.{rulesOf, wallOf, AtMost, downs}
 use Rattle.protocol.specs.Thresholds as thresholds
-use Rattle.protocol.proofs.Basics.{true-of, not-of, and-l, and-r, and-mk}
-use Rattle.protocol.proofs.Moves.{listOf}
+use Rattle.protocol.proofs.Basics.{T-of, true-of, not-of, and-l, and-r, and-mk}
 use Rattle.protocol.proofs.Again.{entry-refl}
 use Rattle.protocol.proofs.Mail.{tally-at}
 use Rattle.protocol.proofs.Invariant.{Inv}
@@ -46,12 +44,12 @@ use Rattle.season.specs.Run.{Houses, isHonest, isUp, Open, Copy, Noted, 
 use Rattle.season.specs.Run.{copies, readies, isBetween, between, consumedBetween, upBetween, Drained, Limited}
 use Rattle.season.specs.Run as season
 use Rattle.season.specs.Claims.{Stands, Delivered, Published, Safe, Bounded, Agreed, Complete, Single, Exact, Few, Season}
-use Rattle.season.specs.Claims.{Claims}
+use Rattle.season.specs.Claims.{consumption, Drainable, Claims}
 use Rattle.season.proofs.Mail.{kind-of-number, Says, says-on-it, says-ready, Asks, Both, mails-at, mails-tally}
 use Rattle.season.proofs.Calls.{wall, Means, answer-is, asked-answer}
-use Rattle.season.proofs.Outbox.{outbox, sent}
+use Rattle.season.proofs.Outbox.{reads, outbox, sent}
 use Rattle.season.proofs.Steps as steps-proofs
-use Rattle.season.proofs.Steps.{copy-called, up-is, season-means}
+use Rattle.season.proofs.Steps.{copy-called, up-is, consumption-means, season-means}
 
 -- what the steps take for plausible, judging answers 0
 judged-zero : (sheet v : List ℕ) → isSheet sheet ≡ true → T (okBy (sheetAt sheet 0) v) → judged sheet v ≡ 0
@@ -67,16 +65,6 @@ judged-ok sheet v s d e = rw (decl-true v d) (go (plausible (sheetAt sheet 0) (d
     go : (t : Bool) → _≡_ {A = ℕ} (cond t 0 5) 0 → t ≡ true
     go true e = refl
     go false e = absurd (omega arith)
-
--- a first plausible publication is accepted
-first-accepted : (R : Rules) (S own c : ℕ) (v : Decl) (b : Book) → inBook R S own c ≡ true → R .ok v ≡ true → b own c .published ≡ none
-    → outcome R S own (publishing c v) b .answer ≡ 0
-unfolding outcome publish publishAnswer publishes
-first-accepted R S own c v b i g e = rw (i, g, e)
-
-none-listed : (o : Option Decl) → listOf o ≡ [] → o ≡ none
-none-listed none e = refl
-none-listed (some x) e = absurd (omega (arith, ap length e))
 
 module _ (H : Houses) (s : State) (z : protocol.State) (M : Means H s z) where
   honest-both : (x y u w : ℕ) → x ≡ u → y ≡ w → isHonest H x && isHonest H y ≡ isHonest H u && isHonest H w
@@ -279,18 +267,31 @@ module _ (H : Houses) (O : Open H) (l : List Step) (j c : ℕ) (hj : j < H .n) (
 
   -- ---- an honest sender's first plausible declaration is accepted
 
-  unpublished : s .gave .publications j j c ≡ [] → z .gave .books j j c .published ≡ none
-  unpublished first =
-      none-listed (z .gave .books j j c .published) (sym (held .books .published j) ∙ publications-same H s z M j c ∙ first)
-
   first-published : T (isHonest H j) → (v : List ℕ) → IsDecl v → judged (H .sheet) v ≡ 0 → s .gave .publications j j c ≡ []
       → published (s .gave .books j) c v .given .answer ≡ 0
   unfolding published wallOf rulesOf
   first-published honest v d e first =
       rw (M .gave .books j honest .legal)
       (answer-is H j s z M honest (publishing c v)
-      ∙ first-accepted (wall H .rules) (wall H .numbers) j c v (z .gave .books j) (rw (lt-ltb j (H .n) hj, lt-ltb c (H .numbers) hc))
-      (judged-ok (H .sheet) v (sheet-is j honest) d e) (unpublished first))
+      ∙ any j c .safe .publishable honest hc v (T-of (judged-ok (H .sheet) v (sheet-is j honest) d e))
+      (publications-same H s z M j c ∙ first))
+
+  -- ---- what the protocol's run consumes to be drained, this one consumes
+
+  drainable : Drainable H j c s
+  drainable =
+      let D = any j c .drainable in
+      let s₂ : State = run H (consumption (D .requests) (D .copies)) s in
+      let z₂ : protocol.State = protocol.run (wall H) (protocol-claims.consumption (D .requests) (D .copies)) z in
+      let N = consumption-means H (D .requests) (D .copies) s z M in
+      record {
+        requests = D .requests;
+        copies = D .copies;
+        drained = drained-from H s₂ z₂ N j c (D .drained);
+        down = sym (N .down) ∙ D .down ∙ M .down;
+        returned = sym (N .returned) ∙ D .returned ∙ M .returned;
+        publications = sym (N .gave .publications) ∙ D .publications ∙ M .gave .publications;
+      }
 
   -- ---- the claims
 
@@ -303,6 +304,7 @@ module _ (H : Houses) (O : Open H) (l : List Step) (j c : ℕ) (hj : j < H .n) (
         published-once = subst (λ (d : List (List ℕ)). length d ≤ 1) (publications-same H s z M j c) (P .published-once);
         plausible = λ r v t e. judged-zero (H .sheet) v (sheet-is r t) (P .plausible r v (delivered-to r v e));
         accepted = accepted′;
+        mail = reads H s z M all-held;
         outbox = outbox H s z M all-held;
         sent = sent H s z M all-held j c hj hc;
         returns = λ r t. rw (M .gave .books r t .legal);
@@ -394,6 +396,7 @@ pub claims : Claims
 claims H O l j c hj hc =
     record {
       safe = safe H O l j c hj hc;
+      drainable = drainable H O l j c hj hc;
       bounded = bounded H O l j c hj hc;
       agreed = agreed H O l j c hj hc;
       complete = complete H O l j c hj hc;

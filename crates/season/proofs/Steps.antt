@@ -21,6 +21,7 @@ use Rattle.protocol.specs.Entry.{Decl, fresh, upd}
 use Rattle.protocol.specs.Book.{Call, publishing, receiving, senderOf, numberOf, publication}
 use Rattle.protocol.specs.Run.{at}
 use Rattle.protocol.specs.Run as protocol
+use Rattle.protocol.specs.Claims as protocol-claims
 use Rattle.protocol.specs.Thresholds.{wallOf, rulesOf}
 use Rattle.protocol.proofs.Basics.{T-of, and-l}
 use Rattle.entry.specs.Entered.{kindOf}
@@ -29,7 +30,8 @@ use Rattle.counter.specs.Again.{returned}
 use Rattle.season.specs.Run.{Houses, isHonest, isWrong, isUp, Open, opens, Copy, State, start, namedBy, nothing, entry, sends, ended}
 use Rattle.season.specs.Run.{publicationOf, Step, publish, consume, wrong, crash, comeback, help, publishes}
 use Rattle.season.specs.Run.{receives, consumedCopy, consumeAt, consumes, goesDown, toAll, again, comes, taken, asks}
-use Rattle.season.specs.Run.{step, run}
+use Rattle.season.specs.Run.{underWrong, step, run}
+use Rattle.season.specs.Claims.{consumption}
 use Rattle.season.proofs.Mail.{asked-is, Says, says-consumed, Asks, asks-consumed, Mails, Both, mails-at, mails-append}
 use Rattle.season.proofs.Mail.{mails-changed, mails-requests}
 use Rattle.season.proofs.Calls.{publication-of, wall, IsOf, Means, call-means, sends-is, refusal-means, again-means, request-means}
@@ -253,18 +255,18 @@ module _ (H : Houses) where
           asks-means i (at (s .power .requests) i) (at (z .power .requests) i)
               (mails-at (Asks (H .season)) (s .power .requests) (z .power .requests) (M .requests) i),
         )
-    step-means (wrong p r message) = go (isUp H s r && isWrong H p) refl
+    step-means (wrong p r message) = go (underWrong H s p r) refl
       where
         after : State
         after = receives H r p message s (s .mail)
 
-        test : protocol.isUp (wall H) z r && isWrong H p ≡ isUp H s r && isWrong H p
+        test : protocol.underWrong (wall H) z p r ≡ underWrong H s p r
         test = ap (λ (t : Bool). t && isWrong H p) (up-is r)
 
         Ends : Bool → Type 0
         Ends t = Means H (cond t after s) z ⊎ ((x : protocol.Step) × Means H (cond t after s) (protocol.step (wall H) x z))
 
-        go : (t : Bool) → (isUp H s r && isWrong H p) ≡ t → Ends t
+        go : (t : Bool) → underWrong H s p r ≡ t → Ends t
         go false e = inl M
         go true e =
             ⊎-elim inl
@@ -289,6 +291,19 @@ module _ (H : Houses) where
       ⊎-elim (λ N. run-means l (step H a s) z N)
       (λ x. let rest = run-means l (step H a s) (protocol.step (wall H) (x .0) z) (x .1) in (x .0 ∷ rest .0, rest .1))
       (step-means s z M a)
+
+  -- what is consumed at the bytes is consumed in the protocol, at the same places
+  pub consumption-means : (l k : List ℕ) (s : State) (z : protocol.State) → Means H s z
+      → Means H (run H (consumption l k) s) (protocol.run (wall H) (protocol-claims.consumption l k) z)
+  unfolding run protocol.run step protocol.step
+  consumption-means [] [] s z M = M
+  consumption-means [] (i ∷ k) s z M =
+      consumption-means [] k (step H (consume i) s) (protocol.step (wall H) (protocol.consume i) z)
+      (consumes-means s z M i (at (s .mail) i) (at (z .mail) i) (mails-at (Says (H .season)) (s .mail) (z .mail) (M .mail) i))
+  consumption-means (i ∷ l) k s z M =
+      consumption-means l k (step H (help i) s) (protocol.step (wall H) (protocol.help i) z)
+      (asks-means s z M i (at (s .power .requests) i) (at (z .power .requests) i)
+      (mails-at (Asks (H .season)) (s .power .requests) (z .power .requests) (M .requests) i))
 
   -- ---- the start
 

@@ -21,7 +21,7 @@ use Rattle.entry.specs.Entered.{kindOf}
 use Rattle.counter.specs.Call.{published, received}
 use Rattle.counter.specs.Again.{returned, sending, sentOf}
 use Rattle.season.specs.Run.{Houses, isHonest, isWrong, isUp, h, Open, Copy, State, Step, start, run, copies, readies, between}
-use Rattle.season.specs.Run.{isBetween, consumedBetween, copiesOf, Drained, Limited, downs}
+use Rattle.season.specs.Run.{consume, help, isBetween, consumedBetween, copiesOf, Drained, Limited, downs}
 
 -- at most t of them wrong, t the largest that fits n and f
 abbrev pub Few : Houses → Type 0
@@ -36,6 +36,18 @@ Stands b p (some m) = heard (kindOf (m .kind)) p (look b (m .sender) (m .number)
 abbrev pub Outgoing : List ℕ → Option Five → (message : List ℕ) → Type 0
 Outgoing b none message = ⊥
 Outgoing b (some m) message = sentOf b (m .kind) (m .sender) (m .number) ≡ sending 0 (some message)
+
+-- it reads as a SEND, an ECHO or a READY of the season, on an entry of the book
+abbrev pub OfSeason : Houses → Option Five → Type 0
+OfSeason H none = ⊥
+OfSeason H (some m) =
+    (1 ≤ m .kind) × (m .kind ≤ 3) × (m .season ≡ H .season) × (m .sender < H .n) × (m .number < H .numbers)
+
+-- the steps that consume the requests at these places, and then the copies at those
+abbrev pub consumption : (requests copies : List ℕ) → List Step
+consumption [] [] = []
+consumption [] (i ∷ k) = consume i ∷ consumption [] k
+consumption (i ∷ l) k = help i ∷ consumption l k
 
 -- a copy of the message, from house r to house q
 pub record SentTo (s : State) (r q : ℕ) (message : List ℕ) : Type 0 where
@@ -72,6 +84,8 @@ module _ (H : Houses) (j c : ℕ) where
         → (received (s .gave .books (m .to)) (m .from) (m .message) .given .answer ≡ 0)
         ⊎ ((received (s .gave .books (m .to)) (m .from) (m .message) .given .answer ≡ 7)
         × Stands (s .gave .books (m .to)) (m .from) (readOf (m .message) .five))
+    -- Every copy in the mail reads, of the season, on an entry of the book.
+    pub mail : (i : ℕ) (m : Copy) → at (s .mail) i ≡ some m → OfSeason H (readOf (m .message) .five)
     -- The book is its own outbox: it gives every message that its house sent,
     pub outbox : (i : ℕ) (m : Copy) → at (s .mail) i ≡ some m
         → T (isHonest H (m .from)) × Outgoing (s .gave .books (m .from)) (readOf (m .message) .five) (m .message)
@@ -83,6 +97,15 @@ module _ (H : Houses) (j c : ℕ) where
     -- An honest sender's first plausible declaration at a number of the book is accepted.
     pub publishable : T (isHonest H j) → (v : List ℕ) → IsDecl v → judged (H .sheet) v ≡ 0 → s .gave .publications j j c ≡ []
         → published (s .gave .books j) c v .given .answer ≡ 0
+
+  -- Some requests and some copies consumed, the entry is drained; no house went down, returned or published for it.
+  pub record Drainable (s : State) : Type 0 where
+    pub requests : List ℕ
+    pub copies : List ℕ
+    pub drained : Drained H j c (run H (consumption requests copies) s)
+    pub down : run H (consumption requests copies) s .power .down ≡ s .power .down
+    pub returned : run H (consumption requests copies) s .power .returned ≡ s .power .returned
+    pub publications : run H (consumption requests copies) s .gave .publications ≡ s .gave .publications
 
   -- with any number of wrong houses, each honest house returning at most d times
   pub record Bounded (s : State) : Type 0 where
@@ -135,6 +158,7 @@ module _ (H : Houses) (j c : ℕ) where
   -- in any order of calls
   pub record Season (l : List Step) : Type 0 where
     pub safe : Safe (run H l (start H))
+    pub drainable : Drainable (run H l (start H))
     pub bounded : Limited H (run H l (start H)) → Bounded (run H l (start H))
     pub agreed : Few H → Agreed (run H l (start H))
     pub complete : Few H → Limited H (run H l (start H)) → downs H (run H l (start H)) ≤ H .down → Drained H j c (run H l (start H))

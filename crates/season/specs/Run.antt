@@ -255,12 +255,16 @@ asks H i (some m) s =
     cond (isHonest H (m .to) && not (m .consumed))
     (cond (s .power .down (m .to)) (taken i s) (receives H (m .to) (m .from) (m .message) (taken i s) (s .mail))) s
 
+-- house r is up, and p is a wrong house's number or a number not below n
+abbrev pub underWrong : Houses → State → (from house : ℕ) → Bool
+underWrong H s p r = isUp H s r && isWrong H p
+
 -- A step that is none of these changes nothing.
 unfoldable pub step : Houses → Step → State → State
 unfolding publishes receives consumes comes asks
 step H (publish r c v) s = cond (isUp H s r) (publishes H r c v s) s
 step H (consume i) s = consumes H i (at (s .mail) i) s
-step H (wrong p r message) s = cond (isUp H s r && isWrong H p) (receives H r p message s (s .mail)) s
+step H (wrong p r message) s = cond (underWrong H s p r) (receives H r p message s (s .mail)) s
 step H (crash r) s = cond (isUp H s r) (goesDown r s) s
 step H (comeback r) s = cond (isHonest H r && s .power .down r) (comes H r s) s
 step H (help i) s = asks H i (at (s .power .requests) i) s

@@ -1,0 +1,62 @@
+-- The run with a lying sender, computed at the bytes: the premises of the claims are met, and so what they claim comes of it.
+-- Assumes nothing.
+use mathlib.Core.Path.{_≡_, refl, sym, ap, subst}
+use mathlib.Core.List.{List, [], _∷_}
+use Prim.Native.Nat.{ℕ, _≤_}
+use lib.Dec.{ltb, lit<, lit≤}
+use lib.Ieee.{ofBits, le}
+use Rattle.card.specs.Card.{tolerated, fitting, downOk, mostDown, quorum, amplify, deliver}
+use Rattle.card.specs.Card as card
+use Rattle.lot.specs.Declaration.{declarationAt, bytesOf}
+use Rattle.lot.specs.Sheet.{plausible}
+use Rattle.sheet.specs.Kept.{sheetBytes, sheetAt, isSheet}
+use Rattle.message.specs.Message.{wire, readOf, requestOf, requestWire, isKind}
+use Rattle.protocol.specs.Entry.{same}
+use Rattle.protocol.specs.Steps.{publishes, takesSend, takesEcho, takesReady, recording, receive, publish}
+use Rattle.protocol.specs.Book.{outcome}
+use Rattle.protocol.specs.Run.{helpAnswer}
+use Rattle.protocol.specs.Thresholds.{rulesOf}
+use Rattle.meaning.specs.Slot.{slotAt}
+use Rattle.meaning.specs.Layout.{numbersOk, mostLimit, lengthOf, entrySlot}
+use Rattle.meaning.specs.Book.{helpedOf, countHelp, meant, write}
+use Rattle.meaning.specs.Legal.{legal}
+use Rattle.meaning.specs.Opening.{opened}
+use Rattle.counter.specs.Call.{published, received}
+use Rattle.counter.specs.Again.{returned, sentOf}
+use Rattle.season.specs.Run.{run}
+use Rattle.runs.specs.Sample.{sample, lot}
+use Rattle.runs.specs.Split.{houses, steps, end, Seen, seen, met, Met}
+use Rattle.season.specs.Claims.{Everywhere}
+use Rattle.season.proofs.Season.{claims}
+use Rattle.runs.proofs.Sample.{sample-open}
+
+computed : seen end ≡ met
+unfolding end seen run published received opened card.houses numbersOk mostLimit downOk mostDown legal meant write sheetAt sheetBytes
+    isSheet slotAt entrySlot lengthOf helpedOf countHelp returned sentOf plausible declarationAt readOf requestOf requestWire wire
+    bytesOf outcome publish publishes receive recording takesSend takesEcho takesReady helpAnswer rulesOf tolerated fitting quorum
+    amplify deliver same le ofBits isKind
+computed = refl
+
+abbrev first : List (List (List ℕ)) → List (List ℕ)
+first [] = []
+first (x ∷ l) = x
+
+pub split : Met
+unfolding houses sample seen fitting tolerated card.houses downOk mostDown mostLimit
+split =
+    record {
+      computed = computed;
+      opened = sample-open 4 0 0 (λ p. ltb 0 p) refl refl refl;
+      few = lit≤ tt;
+      limited = λ r t. subst (λ (f : ℕ → ℕ). f r ≤ 0) (sym (ap (λ (x : Seen). x .returned) computed)) (lit≤ tt);
+      low = subst (λ (x : ℕ). x ≤ 0) (sym (ap (λ (x : Seen). x .down) computed)) (lit≤ tt);
+      drained = record { copies = ap (λ (x : Seen). x .left) computed; requests = ap (λ (x : Seen). x .requests) computed };
+      delivered = ap (λ (x : Seen). first (x .deliveries)) computed;
+    }
+
+-- house 3 heard the lie and delivers the lot, by the claims too: house 1 did
+pub followed : Everywhere houses 0 0 end lot
+unfolding end houses
+followed =
+    claims houses (split .opened) steps 0 0 (lit< tt) (lit< tt) .complete (split .few) (split .limited) (split .low) (split .drained)
+    .all 1 lot tt (split .delivered)
