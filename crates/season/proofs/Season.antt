@@ -4,7 +4,7 @@ use Prim.Native.Nat.{ℕ, _*_, _≤_, _<_}
 use mathlib.Core.Path.{_≡_, refl, sym, ap, ap₂, subst, _∙_}
 use mathlib.Core.Logic.{_⊎_, inl, inr, ⊎-elim}
 use mathlib.Core.Bool.{Bool, true, false, not, cond, _&&_}
-use mathlib.Core.List.{List, []}
+use mathlib.Core.List.{List, [], _∷_, _++_}
 use mathlib.Core.Option.{Option, none, some}
 use native.Mathlib.Omega.{arith}
 use lib.Dec.{T, eqb, ltb, eqb-refl, ltb→lt}
@@ -40,11 +40,11 @@ use Rattle.entry.specs.Entered.{Result, isDecl, okBy}
 use Rattle.counter.specs.Call.{published, received}
 use Rattle.counter.specs.Again.{returned}
 use Rattle.counter.proofs.Declarations.{decl-true}
-use Rattle.season.specs.Run.{Houses, isHonest, isUp, Open, Copy, Noted, State, Step, start, run, onIt, isReady, copiesOf}
+use Rattle.season.specs.Run.{Houses, isHonest, isUp, Open, Copy, Noted, State, Step, start, step, run, onIt, isReady, copiesOf}
 use Rattle.season.specs.Run.{copies, readies, isBetween, between, consumedBetween, upBetween, Drained, Limited}
 use Rattle.season.specs.Run as season
 use Rattle.season.specs.Claims.{Stands, Delivered, Published, Safe, Bounded, Agreed, Complete, Single, Exact, Few, Season}
-use Rattle.season.specs.Claims.{consumption, Drainable, Claims}
+use Rattle.season.specs.Claims.{consumption, Drainable, Deliverable, Claims}
 use Rattle.season.proofs.Mail.{kind-of-number, Says, says-on-it, says-ready, Asks, Both, mails-at, mails-tally}
 use Rattle.season.proofs.Calls.{wall, Means, answer-is, asked-answer}
 use Rattle.season.proofs.Outbox.{reads, outbox, sent}
@@ -392,6 +392,31 @@ module _ (H : Houses) (O : Open H) (l : List Step) (j c : ℕ) (hj : j < H .n) (
         all-readies = λ D q v t e. readies-counted H s z M j c ∙ P .all-readies (drained-to H s z M j c D) q v (delivered-to q v e);
       }
 
+-- one list of steps after another
+run-append : (H : Houses) (l k : List Step) (s : State) → run H (l ++ k) s ≡ run H k (run H l s)
+unfolding run
+run-append H [] k s = refl
+run-append H (a ∷ l) k s = run-append H l k (step H a s)
+
+module _ (H : Houses) (O : Open H) (l : List Step) (j c : ℕ) (hj : j < H .n) (hc : c < H .numbers) where
+  -- drained, all that are up delivered what is published; and nothing that `complete` asks for changed on the way
+  deliverable : Few H → Limited H (run H l (start H)) → season.downs H (run H l (start H)) ≤ H .down → T (isUp H (run H l (start H)) j)
+      → (v : List ℕ) → Published H j c (run H l (start H)) v → Deliverable H j c (run H l (start H)) v
+  deliverable few L low g v e =
+      let D = drainable H O l j c hj hc in
+      let k : List Step = consumption (D .requests) (D .copies) in
+      let C = subst (λ (x : State). Limited H x → season.downs H x ≤ H .down → Drained H j c x → Complete H j c x)
+      (run-append H l k (start H)) (complete H O (l ++ k) j c hj hc few)
+      (λ r t. subst (λ (f : ℕ → ℕ). f r ≤ H .limit) (sym (D .returned)) (L r t))
+      (subst (λ (f : ℕ → Bool). count (λ p. isHonest H p && f p) (H .n) ≤ H .down) (sym (D .down)) low)
+      (D .drained) in
+      record {
+        requests = D .requests;
+        copies = D .copies;
+        everywhere = λ r t. C .equal (subst (λ (f : ℕ → Bool). T (isHonest H j && not (f j))) (sym (D .down)) g) r t
+            ∙ ap (λ (f : Noted). f j j c) (D .publications) ∙ e;
+      }
+
 pub claims : Claims
 claims H O l j c hj hc =
     record {
@@ -400,6 +425,7 @@ claims H O l j c hj hc =
       bounded = bounded H O l j c hj hc;
       agreed = agreed H O l j c hj hc;
       complete = complete H O l j c hj hc;
+      deliverable = deliverable H O l j c hj hc;
       single = single H O l j c hj hc;
       exact = exact H O l j c hj hc;
     }

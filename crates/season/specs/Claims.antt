@@ -131,6 +131,12 @@ module _ (H : Houses) (j c : ℕ) where
     -- an entry that one honest house delivered, up or not, is delivered by all that are up.
     pub all : (q : ℕ) (v : List ℕ) → T (isHonest H q) → Delivered s q v → Everywhere s v
 
+  -- Some requests and some copies consumed, v is delivered at all that are up.
+  pub record Deliverable (s : State) (v : List ℕ) : Type 0 where
+    pub requests : List ℕ
+    pub copies : List ℕ
+    pub everywhere : Everywhere (run H (consumption requests copies) s) v
+
   -- with d = 0, so that no house returns or is helped, and any number of wrong houses: what 01 says of each copy
   pub record Single (s : State) : Type 0 where
     -- In any order of calls the honest houses send at most n + 2hn messages on one entry,
@@ -163,6 +169,9 @@ module _ (H : Houses) (j c : ℕ) where
     pub agreed : Few H → Agreed (run H l (start H))
     pub complete : Few H → Limited H (run H l (start H)) → downs H (run H l (start H)) ≤ H .down → Drained H j c (run H l (start H))
         → Complete (run H l (start H))
+    -- drained or not, what a sender that is up published can be delivered still
+    pub deliverable : Few H → Limited H (run H l (start H)) → downs H (run H l (start H)) ≤ H .down → T (isUp H (run H l (start H)) j)
+        → (v : List ℕ) → Published (run H l (start H)) v → Deliverable (run H l (start H)) v
     pub single : H .limit ≡ 0 → Limited H (run H l (start H)) → Single (run H l (start H))
     pub exact : Few H → H .limit ≡ 0 → Limited H (run H l (start H)) → downs H (run H l (start H)) ≡ 0 → Exact (run H l (start H))
 
