@@ -1,7 +1,8 @@
 //! Judging at the edges: kilograms as exact numbers, readings and limits as floats.
 
 use super::forms::{
-    declaration, fresh, fresh_book, honey, message, open_sheet, sheet, EDGE_READINGS, OPEN, SEASON,
+    declaration, fresh, fresh_book, honey, message, open_sheet, sheet, twins, EDGE_READINGS, OPEN,
+    SEASON,
 };
 use crate::{Gate, Kind, Library};
 
@@ -193,12 +194,9 @@ fn sheet_is(library: &mut impl Library, bytes: &[u8], legal: bool) {
 /// "Two declarations are the same exactly when all 20 bytes are": ECHOes and READYs of +0.0 and of -0.0
 /// are counted apart, and so are those that differ in any one bit.
 pub fn counted_apart(library: &mut impl Library) {
-    let plus = declaration(77, 40, 800, [0x418C_0000, 0x0000_0000]);
-    apart(
-        library,
-        &plus,
-        &declaration(77, 40, 800, [0x418C_0000, 0x8000_0000]),
-    );
+    for [one, other] in twins() {
+        apart(library, &one, &other);
+    }
     for bit in 0..160 {
         let mut other = honey(77, 40, 400);
         other[bit / 8] ^= 0x80 >> (bit % 8);

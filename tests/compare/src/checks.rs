@@ -3,10 +3,11 @@
 use crate::linked::Linked;
 use crate::{drawn, edges, entries};
 use reference::testing::both::Both;
+use reference::testing::scheduler::attacks;
 use reference::testing::season::moments::{Moment, Tally};
 use reference::testing::season::Rules;
 use reference::testing::{
-    books, openings, pairs, readings, refusals, requests, returns, rows, scheduler, trips,
+    books, openings, pairs, readings, refusals, requests, returns, rows, scheduler, trips, vouchers,
 };
 use reference::Reference;
 
@@ -33,9 +34,14 @@ pub const COUNTED: [Check; 21] = [
         pairs::opening(pair);
         pairs::judging(pair);
     }),
-    ("the attack of two wrong houses of four", |pair, _, _| {
-        assert_eq!(scheduler::directed_disagreement(pair), [2]);
-    }),
+    (
+        "the attacks of t wrong houses and one more",
+        |pair, _, _| {
+            attacks::splits(pair);
+            attacks::withheld_readies(pair);
+            attacks::silences(pair);
+        },
+    ),
     ("directed seasons with crashes", |pair, _, _| {
         scheduler::directed::crashes(pair);
     }),
@@ -45,9 +51,7 @@ pub const COUNTED: [Check; 21] = [
     }),
     ("the counts for every n and f", |pair, seed, _| {
         rows::another_f(pair);
-        for round in 0..4 {
-            rows::thresholds(pair, seed + round);
-        }
+        vouchers::every_count(pair, seed);
     }),
     ("all sizes", |pair, _, _| edges::sizes(pair)),
     ("foreign numbers", |pair, _, _| edges::strangers(pair)),
@@ -96,7 +100,7 @@ pub const COUNTED: [Check; 21] = [
 ];
 
 /// Checks that draw their cases: more with a larger size.
-pub const DRAWN: [Check; 13] = [
+pub const DRAWN: [Check; 14] = [
     ("calls on any legal book", |pair, seed, scale| {
         refusals::calls(pair, seed, 200 * scale);
     }),
@@ -145,6 +149,18 @@ pub const DRAWN: [Check; 13] = [
             scheduler::seasons(pair, seed, n, s, scale.div_ceil(8) as u64);
         }
     }),
+    (
+        "t wrong houses, one less, none, one more",
+        |pair, seed, _| {
+            for n in 1..=16 {
+                let s = if n < 8 { 1 + n % 4 } else { 1 };
+                let tally = scheduler::hostile(pair, seed, n, s);
+                let seen = |moment| tally.of(moment) > 0;
+                assert!(n < 2 || seen(Moment::TooManyWrong), "n = {n}: {tally}");
+                assert!(n < 4 || seen(Moment::WrongAndCrash), "n = {n}: {tally}");
+            }
+        },
+    ),
     ("a season of the largest book", |pair, seed, _| {
         let rules = Rules::new(16, 4, &[3, 7, 11]).with(3, 2);
         let tally = scheduler::season_within(pair, seed, rules);
