@@ -17,7 +17,7 @@ pub type Pair = Both<Linked, Reference>;
 /// A name, and a check that takes a seed and how large it is to be.
 pub type Check = (&'static str, fn(&mut Pair, u64, usize));
 
-/// Checks that are the same at any size; the seed is for noise.
+/// Checks that are the same at any size, the quickest first; the seed is for noise.
 pub const COUNTED: [Check; 21] = [
     ("the rows and run cases of document 01", |pair, _, _| {
         rows::card(pair);
@@ -34,24 +34,12 @@ pub const COUNTED: [Check; 21] = [
         pairs::opening(pair);
         pairs::judging(pair);
     }),
-    (
-        "the attacks of t wrong houses and one more",
-        |pair, _, _| {
-            attacks::splits(pair);
-            attacks::withheld_readies(pair);
-            attacks::silences(pair);
-        },
-    ),
     ("directed seasons with crashes", |pair, _, _| {
         scheduler::directed::crashes(pair);
     }),
     ("lengths of books", |pair, _, _| openings::lengths(pair)),
     ("openings with every f and d", |pair, _, _| {
         openings::every_f_and_d(pair);
-    }),
-    ("the counts for every n and f", |pair, seed, _| {
-        rows::another_f(pair);
-        vouchers::every_count(pair, seed);
     }),
     ("all sizes", |pair, _, _| edges::sizes(pair)),
     ("foreign numbers", |pair, _, _| edges::strangers(pair)),
@@ -69,9 +57,6 @@ pub const COUNTED: [Check; 21] = [
     }),
     ("every bit of a book", |pair, seed, _| {
         edges::damaged_books(pair, seed);
-    }),
-    ("every state of one entry", |pair, seed, _| {
-        entries::states(pair, seed, 5);
     }),
     ("requests of every form and count", |pair, seed, _| {
         requests::one_form(pair, seed);
@@ -97,6 +82,21 @@ pub const COUNTED: [Check; 21] = [
     ("declarations counted apart", |pair, _, _| {
         readings::counted_apart(pair);
     }),
+    ("the counts for every n and f", |pair, seed, _| {
+        rows::another_f(pair);
+        vouchers::every_count(pair, seed);
+    }),
+    ("every state of one entry", |pair, seed, _| {
+        entries::states(pair, seed, 5);
+    }),
+    (
+        "the attacks of t wrong houses and one more",
+        |pair, _, _| {
+            attacks::splits(pair);
+            attacks::withheld_readies(pair);
+            attacks::silences(pair);
+        },
+    ),
 ];
 
 /// Checks that draw their cases: more with a larger size.
