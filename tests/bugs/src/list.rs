@@ -1,4 +1,5 @@
-//! The list of bugs: `file:`, `after:` and `old:` name a place, and each `new:` line below them is a bug there.
+//! The lists. Of bugs: `file:`, `after:` and `old:` name a place, and each `new:` line below them is a bug there.
+//! Of changes that make no difference: `same:` lines, in which `*` stands for anything.
 
 /// A bug, numbered from 1.
 pub struct Bug<'a> {
@@ -32,4 +33,25 @@ pub fn bugs(list: &str) -> Vec<Bug<'_>> {
         }
     }
     bugs
+}
+
+/// Whether a text is as a pattern says.
+#[allow(dead_code, reason = "the build script has no use for it")]
+pub fn matches(pattern: &str, text: &str) -> bool {
+    let mut parts = pattern.split('*');
+    let first = parts.next().unwrap_or_default();
+    let Some(mut rest) = text.strip_prefix(first) else {
+        return false;
+    };
+    let parts: Vec<&str> = parts.collect();
+    let Some((last, middle)) = parts.split_last() else {
+        return rest.is_empty();
+    };
+    for part in middle {
+        let Some(at) = rest.find(part) else {
+            return false;
+        };
+        rest = &rest[at + part.len()..];
+    }
+    rest.ends_with(last)
 }

@@ -25,6 +25,18 @@ pub struct Trials {
 const PATIENCE: &str = "3";
 
 impl Trials {
+    pub fn new(compare: &str, kept: &str) -> Self {
+        Trials {
+            compare: compare.into(),
+            kept: kept.into(),
+        }
+    }
+
+    /// Where a copy of the driver may stand for one run.
+    pub fn copy(&self, name: usize) -> PathBuf {
+        self.kept.join(format!("{name}.driver"))
+    }
+
     /// Runs the comparison with the driver that these words start.
     pub fn run(&self, name: usize, words: &[String]) -> Verdict {
         let said = self.kept.join(format!("{name}.said"));
@@ -42,6 +54,7 @@ impl Trials {
             .expect("the comparison runs");
         let lines = std::fs::read(&said).expect("what was said");
         std::fs::remove_file(&said).expect("what was said is there");
+        let _ = std::fs::remove_file(self.copy(name));
         if status.success() {
             return Verdict::Missed;
         }
@@ -56,10 +69,12 @@ impl Trials {
         Verdict::Caught(check.unwrap_or_else(|| panic!("the comparison itself: {lines}")))
     }
 
-    /// Runs all of these, as many at once as there are processors, and gives what was said of each.
+    /// Runs all of these, as many at once as there are processors, and gives what was said of each. Those that
+    /// are missed are named at once.
     pub fn run_all<T: Sync>(
         &self,
         all: &[T],
+        name: impl Fn(&T) -> String + Sync,
         words: impl Fn(usize, &T) -> Vec<String> + Sync,
     ) -> Vec<Verdict> {
         let next = AtomicUsize::new(0);
@@ -70,6 +85,9 @@ impl Trials {
                 all.get(place).map(|one| (place, one))
             } {
                 let verdict = self.run(place, &words(place, one));
+                if verdict == Verdict::Missed {
+                    println!("missed: {}", name(one));
+                }
                 verdicts.lock().expect("the verdicts")[place] = verdict;
             }
         };
@@ -83,8 +101,8 @@ impl Trials {
     }
 }
 
-/// How many each check caught, most first, and how many were missed.
-pub fn summary(verdicts: &[Verdict]) -> String {
+/// Says how many each check caught, most first, and how many were missed; gives whether any was.
+pub fn report(what: &str, verdicts: &[Verdict]) -> bool {
     let mut checks: Vec<(usize, &str)> = vec![];
     for verdict in verdicts {
         let Verdict::Caught(check) = verdict else {
@@ -96,8 +114,11 @@ pub fn summary(verdicts: &[Verdict]) -> String {
         }
     }
     checks.sort_by(|one, other| other.cmp(one));
-    let lines = checks
-        .iter()
-        .map(|(count, check)| format!("{count:>6} by {check}\n"));
-    lines.collect()
+    for (count, check) in &checks {
+        println!("{count:>6} by {check}");
+    }
+    let caught: usize = checks.iter().map(|(count, _)| count).sum();
+    let (all, missed) = (verdicts.len(), verdicts.len() - caught);
+    println!("planted: {all} {what}, {caught} caught, {missed} missed");
+    missed > 0
 }

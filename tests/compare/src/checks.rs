@@ -18,13 +18,16 @@ pub type Pair = Both<Linked, Reference>;
 pub type Check = (&'static str, fn(&mut Pair, u64, usize));
 
 /// Checks that are the same at any size, the quickest first; the seed is for noise.
-pub const COUNTED: [Check; 21] = [
+pub const COUNTED: [Check; 22] = [
     ("the rows and run cases of document 01", |pair, _, _| {
         rows::card(pair);
         rows::judged(pair);
         rows::messages(pair);
         assert_eq!(rows::copies(pair, &[]), 36, "four honest houses");
         assert_eq!(rows::copies(pair, &[3]), 28, "three honest houses");
+    }),
+    ("bytes that are all unlike", |pair, _, _| {
+        edges::unlike_bytes(pair);
     }),
     ("each pair of errors", |pair, _, _| {
         pairs::receiving(pair);
