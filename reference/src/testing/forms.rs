@@ -56,9 +56,10 @@ pub fn honey(lot: u32, colonies: u32, kilograms: u32) -> Declaration {
     )
 }
 
-/// Pairs of plausible declarations that are easily taken for one: the sign of a zero apart, in each reading;
-/// the largest lot beside others; and the last bit of the kilograms apart.
-pub fn twins() -> [[Declaration; 2]; 5] {
+/// Pairs of plausible declarations that are easily taken for one, or for none: the sign of a zero apart, in each
+/// reading; the largest lot beside others; the last bit of the kilograms apart; and all zeros, as an empty slot
+/// has them.
+pub fn twins() -> [[Declaration; 2]; 6] {
     let zero = |moisture, conductivity| declaration(77, 40, 800, [moisture, conductivity]);
     let usual = [17.5f32.to_bits(), 0.5f32.to_bits()];
     [
@@ -67,6 +68,7 @@ pub fn twins() -> [[Declaration; 2]; 5] {
         [honey(u32::MAX, 40, 800), honey(0, 40, 800)],
         [honey(0x7FFF_FFFF, 40, 800), honey(u32::MAX, 40, 800)],
         [honey(77, 40, 800), honey(77, 40, 799)],
+        [declaration(0, 0, 0, [0; 2]), declaration(1, 0, 0, [0; 2])],
     ]
 }
 

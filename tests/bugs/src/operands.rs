@@ -15,7 +15,7 @@ pub struct Change {
     /// Where the bytes stand when the program runs, and what they are changed to.
     pub at: u64,
     pub bytes: Vec<u8>,
-    /// In which function, which instruction there (the how many-th with this text, from 1), and how changed.
+    /// Which instruction, and how changed.
     pub name: String,
 }
 
@@ -32,36 +32,44 @@ pub fn changes(all: &[Instruction], clang: &str, objdump: &str, kept: &Path) -> 
         }
     }
     let texts = texts(&candidates, clang, objdump, kept);
-    let mut ordinals: HashMap<(&str, &str), usize> = HashMap::new();
-    let ordinal = all.iter().map(|instruction| {
-        let place = (&*instruction.function, &*instruction.text);
-        let count = ordinals.entry(place).or_default();
-        *count += 1;
-        (instruction.at, *count)
-    });
-    let ordinal: HashMap<u64, usize> = ordinal.collect();
-    let mut before: HashMap<u64, &str> = HashMap::new();
-    let mut last = "";
-    for instruction in all {
-        before.insert(instruction.at, last);
-        if !keeps_flags(&instruction.text) {
-            last = &instruction.text;
-        }
-    }
+    let names = names(all);
     let mut changes = vec![];
     for (place, (old, bytes)) in candidates.into_iter().enumerate() {
         let new = texts.get(&place).and_then(|new| change(&old.text, new));
-        let Some(how) = new.filter(|how| !is_no_change(before.get(&old.at).copied(), how)) else {
+        let name = &names[&old.at];
+        let Some(how) = new.filter(|how| !is_no_change(name, how)) else {
             continue;
         };
-        let (function, text, which) = (&old.function, &old.text, ordinal[&old.at]);
         changes.push(Change {
             at: old.at,
             bytes,
-            name: format!("{function}: {text} ({which}), {how}"),
+            name: format!("{name}, {how}"),
         });
     }
     changes
+}
+
+/// A name for each instruction by its address: its function, its text, behind which instruction where it has a
+/// condition, and the how many-th of these it is, from 1.
+fn names(all: &[Instruction]) -> HashMap<u64, String> {
+    let mut counts: HashMap<String, usize> = HashMap::new();
+    let mut last = "";
+    let mut names = HashMap::new();
+    for instruction in all {
+        let (function, text) = (&instruction.function, &instruction.text);
+        let has_condition = is_conditional(text);
+        let name = match has_condition {
+            true => format!("{function}: {text} after {last}"),
+            false => format!("{function}: {text}"),
+        };
+        let count = counts.entry(name.clone()).or_default();
+        *count += 1;
+        names.insert(instruction.at, format!("{name} ({count})"));
+        if !keeps_flags(text) {
+            last = text;
+        }
+    }
+    names
 }
 
 /// The instruction's bytes with one byte changed: by one, or in its last four bits to a near condition.
@@ -125,31 +133,29 @@ fn is_near(old: &str, new: &str) -> bool {
     }
 }
 
+/// Whether an instruction looks at a condition.
+fn is_conditional(text: &str) -> bool {
+    let kinds = ["j", "set", "cmov"];
+    kinds.iter().any(|kind| text.starts_with(kind)) && text != "jmp"
+}
+
 /// Whether conditions stand after this instruction as before it.
 fn keeps_flags(text: &str) -> bool {
-    let kinds = ["mov", "lea ", "bswap ", "push ", "pop ", "set", "cmov", "j"];
-    kinds.iter().any(|kind| text.starts_with(kind)) && text != "jmp"
+    let kinds = ["mov", "xorps ", "lea ", "bswap ", "push ", "pop ", "jmp"];
+    kinds.iter().any(|kind| text.starts_with(kind)) || is_conditional(text)
 }
 
 /// Whether a change of a condition is none: behind an instruction by which nothing is below, equal is not above,
 /// and not equal is above.
-fn is_no_change(before: Option<&str>, how: &str) -> bool {
-    let before = before.unwrap_or_default();
-    let clears = ["test ", "and ", "or ", "xor "]
-        .iter()
-        .any(|kind| before.starts_with(kind));
-    let with_zero = before.starts_with("cmp ") && before.ends_with(",0x0");
-    let unsigned = [
-        "made jbe",
-        "made ja",
-        "made setbe",
-        "made seta",
-        "made cmovbe",
-        "made cmova",
-    ];
-    let unsigned = unsigned
-        .iter()
-        .any(|kind| how.split(' ').eq(kind.split(' ')));
+fn is_no_change(name: &str, how: &str) -> bool {
+    let Some((_, before)) = name.split_once(" after ") else {
+        return false;
+    };
+    let clears = ["test ", "and ", "or ", "xor "];
+    let clears = clears.iter().any(|kind| before.starts_with(kind));
+    let with_zero = before.starts_with("cmp ") && before.contains(",0x0 (");
+    let how = how.strip_prefix("made ").unwrap_or_default();
+    let unsigned = ["jbe", "ja", "setbe", "seta", "cmovbe", "cmova"].contains(&how);
     (clears || with_zero) && unsigned
 }
 
