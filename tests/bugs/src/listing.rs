@@ -69,28 +69,43 @@ fn plain<'a>(mut words: impl Iterator<Item = &'a str>) -> String {
         return mnemonic;
     }
     let operands: String = words.take_while(|word| !word.starts_with('#')).collect();
+    let operands = operands.to_lowercase();
     if mnemonic == "nop" || mnemonic == "data16" || operands.contains("nop") {
         return "nop".to_string();
     }
-    let operands = operands.to_lowercase().replace("+0x0]", "]");
-    let mut operands = operands.replace("ptr[", " ptr [").replace("*1", "");
-    for times in ["2", "4", "8"] {
-        let (before, after) = (format!("{times}*"), format!("*{times}"));
-        if let Some((head, tail)) = operands.clone().split_once(&before) {
-            let end = tail
-                .find(|c: char| !c.is_alphanumeric())
-                .unwrap_or(tail.len());
-            operands = format!("{head}{}{after}{}", &tail[..end], &tail[end..]);
-        }
-    }
-    if let Some(negative) = operands
-        .find("0xffffffff")
-        .filter(|at| operands.len() >= at + 18)
-    {
-        let (head, number) = (&operands[..negative], &operands[negative + 2..]);
-        if let Ok(number) = u64::from_str_radix(number, 16) {
-            operands = format!("{head}-{:#x}", number.wrapping_neg());
-        }
-    }
+    let same = [("+0x0]", "]"), ("ptr[", " ptr ["), ("*1", "")];
+    let operands = same
+        .iter()
+        .fold(operands, |operands, (from, to)| operands.replace(from, to));
+    let operands = negative(&register_first(&operands));
     format!("{mnemonic} {operands}").trim_end().to_string()
+}
+
+/// `2*rax` as `rax*2`.
+fn register_first(operands: &str) -> String {
+    let Some((head, tail)) = operands.split_once('*') else {
+        return operands.to_string();
+    };
+    let times = head.chars().next_back().filter(|c| "248".contains(*c));
+    let (Some(times), Some(before)) = (times, head.get(..head.len() - 1)) else {
+        return operands.to_string();
+    };
+    if before.ends_with(char::is_alphanumeric) {
+        return operands.to_string();
+    }
+    let end = tail.find(|c: char| !c.is_alphanumeric());
+    let (register, rest) = tail.split_at(end.unwrap_or(tail.len()));
+    format!("{before}{register}*{times}{rest}")
+}
+
+/// A last number of 64 bits that is nearly all ones, as a negative one.
+fn negative(operands: &str) -> String {
+    let (head, number) = operands.split_at(operands.len().saturating_sub(16));
+    let head = head.strip_suffix("0x");
+    match (head, u64::from_str_radix(number, 16)) {
+        (Some(head), Ok(number)) if number >> 63 == 1 => {
+            format!("{head}-{:#x}", number.wrapping_neg())
+        }
+        _ => operands.to_string(),
+    }
 }

@@ -1,7 +1,9 @@
 //! Runs the comparison over libraries with one bug each, and says which it does not catch.
 //!
 //! `bugs reference COMPARE KEPT OVER` plants the bugs of a list in the reference. `bugs archive COMPARE KEPT
-//! CLANG OBJDUMP ARCHIVE WORDS..` changes one operand in copies of the driver, which the last word names.
+//! CLANG OBJDUMP ARCHIVE WORDS..` changes one operand in copies of the driver, which the last word names; with
+//! `bugs same ..` those changes are run that are listed as making no difference. `bugs changes KEPT CLANG OBJDUMP
+//! ARCHIVE DRIVER` prints all changes, and runs none.
 #![forbid(unsafe_code)]
 
 mod list;
@@ -20,9 +22,10 @@ fn main() {
     let words: Vec<String> = std::env::args().skip(1).collect();
     let missed = match words.iter().map(String::as_str).collect::<Vec<_>>()[..] {
         ["reference", compare, kept, over] => reference(&Trials::new(compare, kept), over),
-        ["archive", compare, kept, clang, objdump, archive, _, ..] => {
+        [what @ ("archive" | "same"), compare, kept, clang, objdump, archive, _, ..] => {
             let trials = Trials::new(compare, kept);
-            archive_changes(&trials, [clang, objdump, archive], &words[6..])
+            let tools = [clang, objdump, archive];
+            archive_changes(&trials, what == "same", tools, &words[6..])
         }
         ["changes", kept, clang, objdump, archive, driver] => {
             for change in changes([clang, objdump, archive, driver], Path::new(kept)) {
@@ -30,7 +33,7 @@ fn main() {
             }
             false
         }
-        _ => panic!("bugs reference COMPARE KEPT OVER | bugs archive COMPARE KEPT CLANG OBJDUMP ARCHIVE WORDS.."),
+        _ => panic!("bugs reference .. | bugs archive .. | bugs changes .."),
     };
     std::process::exit(i32::from(missed));
 }
@@ -41,14 +44,16 @@ fn reference(trials: &Trials, over: &str) -> bool {
     let none = trials.run(0, &words(0));
     assert_eq!(none, Verdict::Missed, "with no bug there is no difference");
     let bugs = list::bugs(BUGS);
-    let name = |bug: &list::Bug| {
-        let (number, file, new) = (bug.number, bug.file, bug.new);
-        format!(
-            "bug {number} in {file}: {} {} made {new}",
-            bug.after, bug.old
-        )
+    let tell = |bug: &list::Bug, verdict: &Verdict| {
+        if *verdict == Verdict::Missed {
+            let (number, file, after, old) = (bug.number, bug.file, bug.after, bug.old);
+            println!(
+                "missed: bug {number} in {file}: {after} {old} made {}",
+                bug.new
+            );
+        }
     };
-    let verdicts = trials.run_all(&bugs, name, |_, bug| words(bug.number));
+    let verdicts = trials.run_all(&bugs, |_, bug| words(bug.number), tell);
     trial::report("bugs in the reference", &verdicts)
 }
 
@@ -64,39 +69,51 @@ fn changes([clang, objdump, archive, driver]: [&str; 4], kept: &Path) -> Vec<ope
 }
 
 /// Copies of the driver with one operand of the archive's code changed. Whether one is missed that is not in
-/// the list of those that make no difference.
+/// the list of those that make no difference; or, of those in the list, whether one is caught.
 fn archive_changes(
     trials: &Trials,
+    listed: bool,
     [clang, objdump, archive]: [&str; 3],
     words: &[String],
 ) -> bool {
     let (driver, others) = words.split_last().expect("the words that run the driver");
     let changes = changes([clang, objdump, archive, driver], &trials.kept);
-    let same: Vec<&str> = SAME
-        .lines()
-        .filter_map(|line| line.strip_prefix("same: "))
-        .collect();
+    let same = SAME.lines().filter_map(|line| line.strip_prefix("same: "));
+    let same: Vec<&str> = same.collect();
     for pattern in &same {
-        if !changes
-            .iter()
-            .any(|change| list::matches(pattern, &change.name))
-        {
+        let is_there = |change: &operands::Change| list::matches(pattern, &change.name);
+        if !changes.iter().any(is_there) {
             println!("listed, and no longer there: {pattern}");
         }
     }
     let is_same = |change: &operands::Change| same.iter().any(|p| list::matches(p, &change.name));
-    let (known, new): (Vec<_>, Vec<_>) = changes.into_iter().partition(is_same);
-    println!(
-        "planted: {} changes make no difference and are not run",
-        known.len()
-    );
+    let (run, left): (Vec<_>, Vec<_>) = changes
+        .into_iter()
+        .partition(|change| is_same(change) == listed);
+    println!("planted: {} to run, {} not", run.len(), left.len());
     let program = program::Program::read(Path::new(driver));
-    let name = |change: &operands::Change| change.name.clone();
-    let verdicts = trials.run_all(&new, name, |place, change| {
+    let words = |place: usize, at: u64, bytes: &[u8]| {
         let copy = trials.copy(place);
-        program.write(&copy, change.at, &change.bytes);
+        program.write(&copy, at, bytes);
         let copy = copy.to_string_lossy().into_owned();
-        others.iter().cloned().chain([copy]).collect()
-    });
-    trial::report("changes of one operand of the archive", &verdicts)
+        others.iter().cloned().chain([copy]).collect::<Vec<_>>()
+    };
+    let none = trials.run(0, &words(0, run[0].at, &[]));
+    assert_eq!(
+        none,
+        Verdict::Missed,
+        "with no change there is no difference"
+    );
+    let tell = |change: &operands::Change, verdict: &Verdict| match verdict {
+        Verdict::Missed if !listed => println!("missed: {}", change.name),
+        Verdict::Caught(_) if listed => println!("listed, and caught: {}", change.name),
+        _ => (),
+    };
+    let change = |place, change: &operands::Change| words(place, change.at, &change.bytes);
+    let verdicts = trials.run_all(&run, change, tell);
+    let missed = trial::report("changes of one operand of the archive", &verdicts);
+    match listed {
+        true => verdicts.iter().any(|verdict| *verdict != Verdict::Missed),
+        false => missed,
+    }
 }

@@ -21,8 +21,8 @@ pub struct Trials {
     pub kept: PathBuf,
 }
 
-/// A call that takes longer has gone astray.
-const PATIENCE: &str = "3";
+/// So many seconds for a call, at first and where it took longer.
+const PATIENCE: [u32; 2] = [3, 20];
 
 impl Trials {
     pub fn new(compare: &str, kept: &str) -> Self {
@@ -37,15 +37,28 @@ impl Trials {
         self.kept.join(format!("{name}.driver"))
     }
 
-    /// Runs the comparison with the driver that these words start.
+    /// Runs the comparison with the driver that these words start. A call that does not end is tried again, with
+    /// more patience.
     pub fn run(&self, name: usize, words: &[String]) -> Verdict {
+        let [first, second] = PATIENCE;
+        let (verdict, ends) = self.run_once(name, words, first);
+        let verdict = match ends {
+            true => verdict,
+            false => self.run_once(name, words, second).0,
+        };
+        let _ = std::fs::remove_file(self.copy(name));
+        verdict
+    }
+
+    /// The verdict, and whether each call ended.
+    fn run_once(&self, name: usize, words: &[String], patience: u32) -> (Verdict, bool) {
         let said = self.kept.join(format!("{name}.said"));
         let file = std::fs::File::create(&said).expect("a file for what is said");
         let status = Command::new(&self.compare)
             .arg("gate")
             .args(words)
             .env("RUST_BACKTRACE", "0")
-            .env("COMPARE_PATIENCE", PATIENCE)
+            .env("COMPARE_PATIENCE", patience.to_string())
             .stdin(Stdio::null())
             .stdout(Stdio::null())
             .stderr(file)
@@ -54,9 +67,8 @@ impl Trials {
             .expect("the comparison runs");
         let lines = std::fs::read(&said).expect("what was said");
         std::fs::remove_file(&said).expect("what was said is there");
-        let _ = std::fs::remove_file(self.copy(name));
         if status.success() {
-            return Verdict::Missed;
+            return (Verdict::Missed, true);
         }
         let lines = String::from_utf8_lossy(&lines);
         let mut checks = lines.lines().filter_map(|line| {
@@ -66,16 +78,17 @@ impl Trials {
             Some(check.to_string())
         });
         let check = checks.next();
-        Verdict::Caught(check.unwrap_or_else(|| panic!("the comparison itself: {lines}")))
+        let check = check.unwrap_or_else(|| panic!("the comparison itself: {lines}"));
+        (Verdict::Caught(check), !lines.contains("no whole reply"))
     }
 
-    /// Runs all of these, as many at once as there are processors, and gives what was said of each. Those that
-    /// are missed are named at once.
+    /// Runs all of these, as many at once as there are processors, and gives what was said of each, which is also
+    /// told at once.
     pub fn run_all<T: Sync>(
         &self,
         all: &[T],
-        name: impl Fn(&T) -> String + Sync,
         words: impl Fn(usize, &T) -> Vec<String> + Sync,
+        tell: impl Fn(&T, &Verdict) + Sync,
     ) -> Vec<Verdict> {
         let next = AtomicUsize::new(0);
         let verdicts = Mutex::new(vec![Verdict::Missed; all.len()]);
@@ -85,9 +98,7 @@ impl Trials {
                 all.get(place).map(|one| (place, one))
             } {
                 let verdict = self.run(place, &words(place, one));
-                if verdict == Verdict::Missed {
-                    println!("missed: {}", name(one));
-                }
+                tell(one, &verdict);
                 verdicts.lock().expect("the verdicts")[place] = verdict;
             }
         };
