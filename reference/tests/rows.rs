@@ -1,6 +1,6 @@
 //! Document 01's rows and run cases.
 
-use reference::testing::rows;
+use reference::testing::{rows, vouchers};
 use reference::{Counts, Reference};
 
 #[test]
@@ -44,9 +44,7 @@ fn the_honest_houses_that_are_up_are_enough() {
 
 #[test]
 fn the_counts_on_any_legal_book() {
-    for seed in 2026..2030 {
-        rows::thresholds(&mut Reference, seed);
-    }
+    vouchers::every_count(&mut Reference, 2026);
 }
 
 #[test]

@@ -1,16 +1,16 @@
 //! Whole seasons with wrong houses, and with houses that crash and return; and libraries with a slip each,
 //! to see that the claims see it.
 
+mod common;
+
+use common::{Slipped, Slips};
 use reference::testing::both::Both;
 use reference::testing::claims::Fault;
 use reference::testing::random::Random;
 use reference::testing::scheduler::{self, directed};
 use reference::testing::season::moments::Tally;
 use reference::testing::season::Rules;
-use reference::{
-    Counts, Declaration, Library, Message, Outcome, ReadAnswer, Reference, Returned, SentAnswer,
-    Waiting, Written,
-};
+use reference::{Counts, Declaration, Message, Outcome, Reference, Returned, SentAnswer};
 use std::collections::HashSet;
 
 #[test]
@@ -29,20 +29,22 @@ fn up_to_seven_houses() {
 fn eight_to_sixteen_houses() {
     let mut tally = scheduler::seasons(&mut Reference, 2026, 16, 4, 1);
     for n in 8..=16 {
-        tally.add_all(&scheduler::seasons(&mut Reference, 2026, n, 1, 8));
+        tally.add_all(&scheduler::seasons(&mut Reference, 2026, n, 1, 16));
     }
     let missing = tally.missing();
     assert!(missing.is_empty(), "it never came about: {missing:?}");
 }
 
 #[test]
-fn two_wrong_of_four_disagree() {
-    assert!(scheduler::disagreements(&mut Reference, 2026, 100) > 0);
+fn t_wrong_one_less_none_and_one_more() {
+    for (n, s) in (1..=16).map(|n| (n, 1)).chain([(5, 2), (7, 3), (4, 4)]) {
+        scheduler::hostile(&mut Reference, 2026, n, s);
+    }
 }
 
 #[test]
-fn the_attack_of_two_wrong_of_four() {
-    assert_eq!(scheduler::directed_disagreement(&mut Reference), [2]);
+fn two_wrong_of_four_disagree() {
+    assert!(scheduler::disagreements(&mut Reference, 2026, 100) > 0);
 }
 
 #[test]
@@ -231,11 +233,7 @@ impl Slipping {
     }
 }
 
-impl Library for Slipping {
-    fn length(&mut self, n: u32, s: u32) -> (u8, usize) {
-        reference::length(n, s)
-    }
-
+impl Slips for Slipping {
     fn open(
         &mut self,
         book: &mut [u8],
@@ -311,22 +309,6 @@ impl Library for Slipping {
             _ => sent,
         }
     }
-
-    fn waiting(&mut self, book: &[u8]) -> Waiting {
-        reference::waiting(book)
-    }
-
-    fn judge(&mut self, sheet: &[u8], v: &Declaration) -> u8 {
-        reference::judge(sheet, v)
-    }
-
-    fn write(&mut self, kind: u8, season: u32, sender: u8, number: u8, v: &Declaration) -> Written {
-        reference::write(kind, season, sender, number, v)
-    }
-
-    fn read(&mut self, message: &[u8]) -> ReadAnswer {
-        reference::read(message)
-    }
 }
 
 /// Whether seasons with at most t wrong houses show this fault.
@@ -342,7 +324,7 @@ fn shows(slip: Slip, fault: Fault) -> bool {
     (0..1_200).any(|seed| {
         let (n, f, d, wrong) = sizes[seed as usize % sizes.len()];
         let mut random = Random::new(seed);
-        let mut library = Slipping::new(slip);
+        let mut library = Slipped(Slipping::new(slip));
         let rules = Rules::new(n, 1, wrong).with(f, d);
         let mut season = scheduler::run(&mut library, &mut random, rules);
         let findings = season.findings();
@@ -410,10 +392,4 @@ fn every_fault_of_a_crash_can_be_seen() {
             assert!(shows(slip, fault), "{slip:?} does not show {fault:?}");
         }
     }
-}
-
-#[test]
-#[should_panic(expected = "NotDelivered")]
-fn three_readies_of_six_are_too_few() {
-    directed::three_readies_of_six(&mut Slipping::new(Slip::DeliversEarly));
 }

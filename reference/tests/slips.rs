@@ -1,14 +1,14 @@
 //! Libraries with a slip each, to see that the checks see it.
 
+mod common;
+
+use common::{Slipped, Slips};
 use reference::testing::both::Both;
 use reference::testing::claims::Fault;
 use reference::testing::random::Random;
 use reference::testing::scheduler;
 use reference::testing::season::Rules;
-use reference::{
-    Declaration, Library, Message, Outcome, ReadAnswer, Reference, Returned, SentAnswer, Waiting,
-    Written,
-};
+use reference::{Message, Outcome, Reference, Waiting};
 
 #[derive(Clone, Copy, Debug, PartialEq)]
 enum Slip {
@@ -88,43 +88,13 @@ fn clear(book: &mut [u8], message: &Message, from_end: usize) {
     book[31 + n + 21 * slot..][..21].fill(0);
 }
 
-impl Library for Slipping {
-    fn length(&mut self, n: u32, s: u32) -> (u8, usize) {
-        reference::length(n, s)
-    }
-
-    fn open(
-        &mut self,
-        book: &mut [u8],
-        n: u32,
-        s: u32,
-        own: u32,
-        f: u32,
-        d: u32,
-        season: u32,
-        sheet: &[u8],
-    ) -> u8 {
-        reference::open(book, n, s, own, f, d, season, sheet)
-    }
-
-    fn publish(&mut self, book: &mut [u8], number: u32, v: &Declaration) -> Outcome {
-        reference::publish(book, number, v)
-    }
-
+impl Slips for Slipping {
     fn receive(&mut self, book: &mut [u8], house: u32, message: &[u8]) -> Outcome {
         if self.slip == Slip::RefusesAll {
             return reference::receive(&mut [], house, message);
         }
         let outcome = reference::receive(book, house, message);
         self.slips(book, message, outcome)
-    }
-
-    fn come_back(&mut self, book: &[u8]) -> Returned {
-        reference::come_back(book)
-    }
-
-    fn sent(&mut self, book: &[u8], kind: u8, sender: u32, number: u32) -> SentAnswer {
-        reference::sent(book, kind, sender, number)
     }
 
     fn waiting(&mut self, book: &[u8]) -> Waiting {
@@ -137,25 +107,13 @@ impl Library for Slipping {
             _ => waiting,
         }
     }
-
-    fn judge(&mut self, sheet: &[u8], v: &Declaration) -> u8 {
-        reference::judge(sheet, v)
-    }
-
-    fn write(&mut self, kind: u8, season: u32, sender: u8, number: u8, v: &Declaration) -> Written {
-        reference::write(kind, season, sender, number, v)
-    }
-
-    fn read(&mut self, message: &[u8]) -> ReadAnswer {
-        reference::read(message)
-    }
 }
 
 /// Whether seasons of four houses, one of them wrong, show this fault.
 fn shows(slip: Slip, fault: Fault) -> bool {
     (0..60).any(|seed| {
         let mut random = Random::new(seed);
-        let mut library = Slipping::new(slip);
+        let mut library = Slipped(Slipping::new(slip));
         let mut season = scheduler::run(&mut library, &mut random, Rules::new(4, 1, &[2]));
         season
             .findings()
@@ -189,7 +147,7 @@ fn every_fault_can_be_seen() {
 fn two_libraries_that_differ_in_an_answer() {
     let mut both = Both {
         first: Reference,
-        second: Slipping::new(Slip::ReadyOnSend),
+        second: Slipped(Slipping::new(Slip::ReadyOnSend)),
     };
     scheduler::seasons(&mut both, 2026, 4, 1, 1);
 }
@@ -199,7 +157,7 @@ fn two_libraries_that_differ_in_an_answer() {
 fn two_libraries_that_differ_in_a_byte() {
     let mut both = Both {
         first: Reference,
-        second: Slipping::new(Slip::Scribbles),
+        second: Slipped(Slipping::new(Slip::Scribbles)),
     };
     scheduler::seasons(&mut both, 2026, 4, 1, 1);
 }

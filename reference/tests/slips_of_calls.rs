@@ -2,12 +2,15 @@
 //! caught by a check that knows the answer, and again by drawn calls beside a library that does not
 //! slip.
 
+mod common;
+
+use common::{Slipped, Slips};
 use reference::testing::both::Both;
 use reference::testing::forms::slots_from;
-use reference::testing::{books, openings, pairs, refusals, requests, returns, rows};
+use reference::testing::{books, openings, pairs, refusals, requests, returns, rows, vouchers};
 use reference::{
-    read_request, request, Counts, Declaration, Library, Message, Outcome, ReadAnswer, Reference,
-    Returned, SentAnswer, Waiting, Written,
+    read_request, request, Counts, Declaration, Message, Outcome, Reference, Returned, SentAnswer,
+    Waiting,
 };
 use std::panic::{catch_unwind, AssertUnwindSafe};
 
@@ -230,11 +233,7 @@ impl Slipping {
     }
 }
 
-impl Library for Slipping {
-    fn length(&mut self, n: u32, s: u32) -> (u8, usize) {
-        reference::length(n, s)
-    }
-
+impl Slips for Slipping {
     fn open(
         &mut self,
         book: &mut [u8],
@@ -337,18 +336,6 @@ impl Library for Slipping {
         let mut book = book.to_vec();
         self.on_book(&mut book, |book| reference::waiting(book))
     }
-
-    fn judge(&mut self, sheet: &[u8], v: &Declaration) -> u8 {
-        reference::judge(sheet, v)
-    }
-
-    fn write(&mut self, kind: u8, season: u32, sender: u8, number: u8, v: &Declaration) -> Written {
-        reference::write(kind, season, sender, number, v)
-    }
-
-    fn read(&mut self, message: &[u8]) -> ReadAnswer {
-        reference::read(message)
-    }
 }
 
 /// The sentence that a check panics with, where it does.
@@ -359,7 +346,7 @@ fn said(check: impl FnOnce()) -> Option<String> {
 }
 
 /// A check of one library, under its name.
-type Check = (&'static str, fn(&mut Slipping));
+type Check = (&'static str, fn(&mut Slipped<Slipping>));
 
 const OPENINGS: Check = ("openings with every f and d", |library| {
     openings::every_f_and_d(library);
@@ -371,7 +358,7 @@ const CARD: Check = ("the counts for every n and f", |library| {
     rows::card(library);
 });
 const THRESHOLDS: Check = ("the counts on any legal book", |library| {
-    rows::thresholds(library, 2026);
+    vouchers::every_count(library, 2026);
 });
 const FORM: Check = ("the one form of a request", |library| {
     requests::one_form(library, 2026);
@@ -484,7 +471,7 @@ const CAUGHT: [(Slip, Check, &str); 32] = [
 #[test]
 fn every_slip_is_caught() {
     for (slip, (name, check), sentence) in CAUGHT {
-        let said = said(|| check(&mut Slipping { slip }));
+        let said = said(|| check(&mut Slipped(Slipping { slip })));
         let said = said.unwrap_or_else(|| panic!("{slip:?} is not seen by: {name}"));
         assert!(said.contains(sentence), "{slip:?}, by {name}: {said}");
     }
@@ -494,7 +481,7 @@ fn every_slip_is_caught() {
 fn a_return_in_another_season_is_caught() {
     for (_, check) in [TRIPS, ANY_SENT] {
         let slip = Slip::ThisSeason;
-        let said = said(|| check(&mut Slipping { slip })).expect("a slip that is seen");
+        let said = said(|| check(&mut Slipped(Slipping { slip }))).expect("a slip that is seen");
         assert!(said.contains("season"), "{said}");
     }
 }
@@ -503,7 +490,11 @@ fn a_return_in_another_season_is_caught() {
 fn no_slip_is_let_pass() {
     for (name, check) in ALL {
         let slip = Slip::None;
-        assert_eq!(said(|| check(&mut Slipping { slip })), None, "{name}");
+        assert_eq!(
+            said(|| check(&mut Slipped(Slipping { slip }))),
+            None,
+            "{name}"
+        );
     }
 }
 
@@ -523,11 +514,11 @@ fn every_slip_differs_from_no_slip() {
         let drawn = || {
             let mut both = Both {
                 first: Reference,
-                second: Slipping { slip },
+                second: Slipped(Slipping { slip }),
             };
             openings::openings(&mut both, 2026, 1_000);
             returns::any_book(&mut both, 2026, 200);
-            refusals::calls(&mut both, 2026, 1_000);
+            refusals::calls(&mut both, 2026, 4_000);
         };
         let said = said(drawn).unwrap_or_else(|| panic!("{slip:?} is not seen"));
         let differs = ["the two libraries differ", "byte of the book that differs"];

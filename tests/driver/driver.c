@@ -5,10 +5,11 @@
 // many calls came before it (4), the length of the answer (1), the answer field by field, and then the book, the
 // bytes and the declaration as they are afterwards. Numbers are big-endian. What a call does not take is not used.
 //
-// Each argument is lent with its last byte against a wall: to read or write behind it ends the program.
+// Each argument is lent with its last byte against a wall, and so is the room for an answer that does not come in
+// registers: to read or write behind it ends the program.
 //
-// Each call is made three times, on the same arguments: in the plain float mode, in one where denormals are zero and results are flushed
-// and cut, and in one where every float exception traps. A reply that differs ends the program, and so does a trap.
+// Each call is made three times, on the same arguments: in the plain float mode, in one where denormals are zero and results
+// are flushed and cut, and in one where every float exception traps. A reply that differs ends the program, and so does a trap.
 
 // The kit has a C library and no headers for it.
 typedef unsigned char u8;
@@ -31,23 +32,25 @@ typedef struct { u8 answer, message[36]; } gm_written;
 typedef struct { u8 answer, kind; u32 season; u8 sender, number, declaration[20]; } gm_read_answer;
 typedef struct { u8 answer, waits, number, sender; } gm_waiting_answer;
 
+// A struct of more than 16 bytes is given back, on x86-64, where a pointer says that comes before all arguments and
+// is given back itself. Said so here, the driver chooses the place.
 gm_length_answer gm_length(u32 n, u32 s);
 u8 gm_open(u8 *book, u64 length, u32 n, u32 s, u32 own, u32 f, u32 d, u32 season, const u8 *sheet, u64 sheet_length);
-gm_outcome gm_publish(u8 *book, u64 length, u32 number, const u8 *declaration);
-gm_outcome gm_receive(u8 *book, u64 length, u32 house, const u8 *message, u64 message_length);
+gm_outcome *gm_publish(gm_outcome *to, u8 *book, u64 length, u32 number, const u8 *declaration);
+gm_outcome *gm_receive(gm_outcome *to, u8 *book, u64 length, u32 house, const u8 *message, u64 message_length);
 gm_return_answer gm_return(const u8 *book, u64 length);
-gm_sent_answer gm_sent(const u8 *book, u64 length, u8 kind, u32 sender, u32 number);
+gm_sent_answer *gm_sent(gm_sent_answer *to, const u8 *book, u64 length, u8 kind, u32 sender, u32 number);
 gm_waiting_answer gm_waiting(const u8 *book, u64 length);
 u8 gm_judge(const u8 *sheet, u64 sheet_length, const u8 *declaration);
-gm_written gm_write(u8 kind, u32 season, u8 sender, u8 number, const u8 *declaration);
-gm_read_answer gm_read(const u8 *message, u64 message_length);
+gm_written *gm_write(gm_written *to, u8 kind, u32 season, u8 sender, u8 number, const u8 *declaration);
+gm_read_answer *gm_read(gm_read_answer *to, const u8 *message, u64 message_length);
 
 enum { LENGTH, OPEN, PUBLISH, RECEIVE, RETURN, SENT, WAITING, JUDGE, WRITE, READ };
-enum { BAD_QUESTION = 2, BAD_PIPE = 3, NO_WALL = 4, WROTE_BEFORE = 5, NO_MODE = 6, MODE_MATTERS = 7 };
+enum { BAD_QUESTION = 2, BAD_PIPE = 3, NO_WALL = 4, WROTE_BEFORE = 5, OTHER_PLACE = 6, NO_MODE = 7, MODE_MATTERS = 8 };
 enum { NUMBERS = 6, DECLARATION = 20, LENGTHS = 1 + 4 * NUMBERS + DECLARATION, HEAD = LENGTHS + 8, PAINT = 0xA5 };
 
 // A room is as long as the largest page of any machine, so that its wall is one page or several.
-enum { ROOM = 65536, MARGIN = 64, ROOMS = 3 };
+enum { ROOM = 65536, MARGIN = 64, ROOMS = 4 };
 static u8 ground[(2 * ROOMS + 1) * ROOM];
 
 // An argument in its room: it ends at the wall, and stands behind a painted margin.
@@ -86,7 +89,7 @@ static int take(u8 *to, u64 length, int may_end)
     return 1;
 }
 
-// The reply as it grows: three rooms and a head are always enough.
+// The reply as it grows: its rooms and a head are always enough.
 static u8 reply[ROOMS * ROOM + 128];
 static u64 filled;
 
@@ -121,14 +124,30 @@ static u8 *pointer(lent l, u32 turn)
     return l.length == 0 && turn % 2 == 0 ? 0 : l.at;
 }
 
-static void put_outcome(gm_outcome o)
+// Room for an answer of this length: painted, so that a byte that the call leaves as it was is seen.
+static lent lend_answer(u64 length)
 {
-    put_number(o.answer, 1);
-    put_number(o.gives, 1);
-    put(o.message, sizeof o.message);
-    put_number(o.delivers, 1);
-    put(o.declaration, sizeof o.declaration);
-    put_number(o.helps, 1);
+    lent l = lend(3, length);
+    memset(l.at, PAINT, length);
+    return l;
+}
+
+// The answer is where it was to be, and nothing is written before it.
+static void check_answer(lent l, const void *given)
+{
+    if (given != l.at) _exit(OTHER_PLACE);
+    check_margin(l);
+}
+
+static void put_outcome(lent l, const gm_outcome *o)
+{
+    check_answer(l, o);
+    put_number(o->answer, 1);
+    put_number(o->gives, 1);
+    put(o->message, sizeof o->message);
+    put_number(o->delivers, 1);
+    put(o->declaration, sizeof o->declaration);
+    put_number(o->helps, 1);
 }
 
 static void put_return(gm_return_answer a)
@@ -137,11 +156,12 @@ static void put_return(gm_return_answer a)
     put(a.request, sizeof a.request);
 }
 
-static void put_sent(gm_sent_answer a)
+static void put_sent(lent l, const gm_sent_answer *a)
 {
-    put_number(a.answer, 1);
-    put_number(a.gives, 1);
-    put(a.message, sizeof a.message);
+    check_answer(l, a);
+    put_number(a->answer, 1);
+    put_number(a->gives, 1);
+    put(a->message, sizeof a->message);
 }
 
 static void put_length(gm_length_answer a)
@@ -158,36 +178,42 @@ static void put_waiting(gm_waiting_answer a)
     put_number(a.sender, 1);
 }
 
-static void put_written(gm_written w)
+static void put_written(lent l, const gm_written *w)
 {
-    put_number(w.answer, 1);
-    put(w.message, sizeof w.message);
+    check_answer(l, w);
+    put_number(w->answer, 1);
+    put(w->message, sizeof w->message);
 }
 
-static void put_read(gm_read_answer a)
+static void put_read(lent l, const gm_read_answer *a)
 {
-    put_number(a.answer, 1);
-    put_number(a.kind, 1);
-    put_number(a.season, 4);
-    put_number(a.sender, 1);
-    put_number(a.number, 1);
-    put(a.declaration, sizeof a.declaration);
+    check_answer(l, a);
+    put_number(a->answer, 1);
+    put_number(a->kind, 1);
+    put_number(a->season, 4);
+    put_number(a->sender, 1);
+    put_number(a->number, 1);
+    put(a->declaration, sizeof a->declaration);
 }
 
 // Makes one call and puts its answer.
 static void make(u8 call, const u32 x[NUMBERS], u8 *book, u64 book_length, const u8 *bytes, u64 length, const u8 *declaration)
 {
+    static const u64 lengths[] = { [PUBLISH] = sizeof(gm_outcome), [RECEIVE] = sizeof(gm_outcome),
+        [SENT] = sizeof(gm_sent_answer), [WRITE] = sizeof(gm_written), [READ] = sizeof(gm_read_answer) };
+    lent l = lend_answer(call <= READ ? lengths[call] : 0);
+    void *to = l.at;
     switch (call) {
     case LENGTH: put_length(gm_length(x[0], x[1])); return;
     case OPEN: put_number(gm_open(book, book_length, x[0], x[1], x[2], x[3], x[4], x[5], bytes, length), 1); return;
-    case PUBLISH: put_outcome(gm_publish(book, book_length, x[0], declaration)); return;
-    case RECEIVE: put_outcome(gm_receive(book, book_length, x[0], bytes, length)); return;
+    case PUBLISH: put_outcome(l, gm_publish(to, book, book_length, x[0], declaration)); return;
+    case RECEIVE: put_outcome(l, gm_receive(to, book, book_length, x[0], bytes, length)); return;
     case RETURN: put_return(gm_return(book, book_length)); return;
-    case SENT: put_sent(gm_sent(book, book_length, x[0], x[1], x[2])); return;
+    case SENT: put_sent(l, gm_sent(to, book, book_length, x[0], x[1], x[2])); return;
     case WAITING: put_waiting(gm_waiting(book, book_length)); return;
     case JUDGE: put_number(gm_judge(bytes, length, declaration), 1); return;
-    case WRITE: put_written(gm_write(x[0], x[1], x[2], x[3], declaration)); return;
-    case READ: put_read(gm_read(bytes, length)); return;
+    case WRITE: put_written(l, gm_write(to, x[0], x[1], x[2], x[3], declaration)); return;
+    case READ: put_read(l, gm_read(to, bytes, length)); return;
     default: _exit(BAD_QUESTION);
     }
 }

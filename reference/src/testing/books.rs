@@ -57,6 +57,23 @@ fn legal(library: &mut impl Library, book: &[u8], why: &str) {
     assert_eq!(answers[3..], [0; 3], "a book with {why}");
 }
 
+/// n and S of which one is not allowed. The length that the formula gives them makes no book.
+const SIZES_OF_NONE: [[u8; 2]; 13] = [
+    [0, 1],
+    [0, 4],
+    [0, 255],
+    [1, 0],
+    [16, 0],
+    [17, 1],
+    [18, 1],
+    [33, 1],
+    [17, 4],
+    [1, 5],
+    [16, 5],
+    [1, 128],
+    [1, 255],
+];
+
 /// One byte that makes a legal book none.
 pub fn illegal_books(library: &mut impl Library) {
     let fresh = fresh([4, 2, 1, 1, 3], SEASON, &open_sheet());
@@ -94,6 +111,10 @@ pub fn illegal_books(library: &mut impl Library) {
         let presence = (place - slots_from(4)).is_multiple_of(21);
         book[place] = if presence { 2 } else { 1 };
         illegal(library, &book, "a slot in another form");
+    }
+    for [n, s] in SIZES_OF_NONE {
+        let book = super::forms::fresh([n, s, 0, 0, 3], SEASON, &open_sheet());
+        illegal(library, &book, &format!("the length of {n} and {s}"));
     }
     for length in [0, 1, 28, 29, 31, 35, fresh.len() - 21, fresh.len() - 1] {
         illegal(library, &fresh[..length], "bytes missing");

@@ -56,6 +56,22 @@ pub fn honey(lot: u32, colonies: u32, kilograms: u32) -> Declaration {
     )
 }
 
+/// Pairs of plausible declarations that are easily taken for one, or for none: the sign of a zero apart, in each
+/// reading; the largest lot beside others; the last bit of the kilograms apart; and all zeros, as an empty slot
+/// has them.
+pub fn twins() -> [[Declaration; 2]; 6] {
+    let zero = |moisture, conductivity| declaration(77, 40, 800, [moisture, conductivity]);
+    let usual = [17.5f32.to_bits(), 0.5f32.to_bits()];
+    [
+        [zero(0x0000_0000, usual[1]), zero(0x8000_0000, usual[1])],
+        [zero(usual[0], 0x8000_0000), zero(usual[0], 0x0000_0000)],
+        [honey(u32::MAX, 40, 800), honey(0, 40, 800)],
+        [honey(0x7FFF_FFFF, 40, 800), honey(u32::MAX, 40, 800)],
+        [honey(77, 40, 800), honey(77, 40, 799)],
+        [declaration(0, 0, 0, [0; 2]), declaration(1, 0, 0, [0; 2])],
+    ]
+}
+
 /// The bytes of a sheet.
 pub fn sheet(cap: u32, moisture: Gate, conductivity: Gate) -> [u8; SHEET] {
     let mut bytes = [0; SHEET];
@@ -150,22 +166,22 @@ pub fn random_declaration(random: &mut Random) -> Declaration {
         0 => random.word(),
         _ => random.below(41) as u32,
     };
-    let lot = random.below(3) as u32;
+    let lot = random.pick(&[0, 1, 2, u32::MAX]);
     let readings = [random_reading(random), random_reading(random)];
     declaration(lot, colonies, kilograms, readings)
 }
 
-/// A few declarations, so that houses vouch for the same: plausible ones that differ in one bit (in the
-/// sign of a zero, too), and one of any kind.
+/// A few declarations, so that houses vouch for the same: plausible ones that differ in one bit, twins, and
+/// one of any kind.
 pub fn random_pool(random: &mut Random) -> Vec<Declaration> {
     let mut odd = honey(1, 40, 40);
     odd[random.below(4)] ^= 1 << random.below(8);
-    let zero = |bits| declaration(1, 40, 40, [17.5f32.to_bits(), bits]);
+    let [one, other] = random.pick(&twins());
     vec![
         honey(1, 40, 40),
         odd,
-        zero(0x0000_0000),
-        zero(0x8000_0000),
+        one,
+        other,
         random_declaration(random),
     ]
 }

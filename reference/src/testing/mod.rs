@@ -16,4 +16,5 @@ pub mod rows;
 pub mod scheduler;
 pub mod season;
 pub mod trips;
+pub mod vouchers;
 pub mod wrong;

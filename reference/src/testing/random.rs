@@ -16,6 +16,12 @@ impl Random {
         Random { seed, state }
     }
 
+    /// A generator for each list of numbers, so that no two sizes or rounds share a stream.
+    pub fn of(seed: u64, numbers: &[u64]) -> Self {
+        let mix = |seed: u64, number: &u64| Random::new(seed).bits().wrapping_add(*number);
+        Random::new(numbers.iter().fold(seed, mix))
+    }
+
     /// The next 64 bits.
     pub fn bits(&mut self) -> u64 {
         self.state ^= self.state >> 12;
@@ -47,6 +53,13 @@ impl Random {
     /// One of these, of which there is at least one.
     pub fn pick<T: Clone>(&mut self, of: &[T]) -> T {
         of[self.below(of.len())].clone()
+    }
+
+    /// Puts these in any order.
+    pub fn shuffle<T>(&mut self, all: &mut [T]) {
+        for place in (1..all.len()).rev() {
+            all.swap(place, self.below(place + 1));
+        }
     }
 
     /// So many bytes.

@@ -1,7 +1,8 @@
 //! Judging at the edges: kilograms as exact numbers, readings and limits as floats.
 
 use super::forms::{
-    declaration, fresh, fresh_book, honey, message, open_sheet, sheet, EDGE_READINGS, OPEN, SEASON,
+    declaration, fresh, fresh_book, honey, message, open_sheet, sheet, twins, EDGE_READINGS, OPEN,
+    SEASON,
 };
 use crate::{Gate, Kind, Library};
 
@@ -38,11 +39,30 @@ pub fn products(library: &mut impl Library) {
         (1 << 16, 1 << 15, (1 << 31) + 1, 5),
     ];
     for (cap, colonies, kilograms, answer) in cases {
-        let judged = library.judge(&sheet(cap, OPEN, OPEN), &honey(1, colonies, kilograms));
-        assert_eq!(
-            judged, answer,
-            "cap {cap}, {colonies} colonies, {kilograms} kilograms"
-        );
+        let which = format!("cap {cap}, {colonies} colonies, {kilograms} kilograms");
+        let v = honey(1, colonies, kilograms);
+        everywhere(library, &sheet(cap, OPEN, OPEN), &v, answer, &which);
+    }
+}
+
+/// Judges, publishes and receives, a SEND, an ECHO and a READY: alike, but that a sheet that is not legal makes
+/// no legal book.
+fn everywhere(
+    library: &mut impl Library,
+    sheet: &[u8; 22],
+    v: &[u8; 20],
+    expected: u8,
+    which: &str,
+) {
+    assert_eq!(library.judge(sheet, v), expected, "{which}");
+    let expected = if expected == 10 { 1 } else { expected };
+    let mut book = fresh_book(1, 1, 0, SEASON, sheet);
+    let published = library.publish(&mut book, 0, v).answer;
+    assert_eq!(published, expected, "published: {which}");
+    for kind in 1..=3 {
+        let bytes = message(kind, SEASON, 0, 0, v);
+        let received = library.receive(&mut book, 0, &bytes).answer;
+        assert_eq!(received, expected, "received as {kind}: {which}");
     }
 }
 
@@ -126,14 +146,19 @@ pub fn at_limits(library: &mut impl Library) {
     }
 }
 
-/// Judges a reading at this gate, as moisture and as conductivity.
+/// A reading at this gate, as moisture and as conductivity.
 fn judged_at(library: &mut impl Library, gate: Gate, bits: u32, expected: u8) {
+    let which = format!("{bits:08X} at {gate:?}");
     let moisture = declaration(1, 1, 1, [bits, USUAL[1]]);
-    let judged = library.judge(&sheet(20, gate, OPEN), &moisture);
-    assert_eq!(judged, expected, "moisture {bits:08X} at {gate:?}");
+    everywhere(library, &sheet(20, gate, OPEN), &moisture, expected, &which);
     let conductivity = declaration(1, 1, 1, [USUAL[0], bits]);
-    let judged = library.judge(&sheet(20, OPEN, gate), &conductivity);
-    assert_eq!(judged, expected, "conductivity {bits:08X} at {gate:?}");
+    everywhere(
+        library,
+        &sheet(20, OPEN, gate),
+        &conductivity,
+        expected,
+        &which,
+    );
 }
 
 /// "A sheet is legal when no limit is NaN or infinite and no low exceeds its high", and its bytes are in
@@ -193,12 +218,9 @@ fn sheet_is(library: &mut impl Library, bytes: &[u8], legal: bool) {
 /// "Two declarations are the same exactly when all 20 bytes are": ECHOes and READYs of +0.0 and of -0.0
 /// are counted apart, and so are those that differ in any one bit.
 pub fn counted_apart(library: &mut impl Library) {
-    let plus = declaration(77, 40, 800, [0x418C_0000, 0x0000_0000]);
-    apart(
-        library,
-        &plus,
-        &declaration(77, 40, 800, [0x418C_0000, 0x8000_0000]),
-    );
+    for [one, other] in twins() {
+        apart(library, &one, &other);
+    }
     for bit in 0..160 {
         let mut other = honey(77, 40, 400);
         other[bit / 8] ^= 0x80 >> (bit % 8);

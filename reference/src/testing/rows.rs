@@ -1,12 +1,8 @@
 //! Document 01's rows 1 to 12 and its run cases, and the counts for all n and f.
 
-use super::forms::{
-    fresh, fresh_book, honey, message, open_sheet, random_pool, redraw_helped, sheet, slots_from,
-    OPEN, SEASON,
-};
-use super::random::Random;
+use super::forms::{fresh, fresh_book, honey, message, open_sheet, sheet, OPEN, SEASON};
 use super::season::{Rules, Season};
-use crate::{Counts, Declaration, Gate, Kind, Library, Outcome};
+use crate::{Counts, Gate, Kind, Library, Outcome};
 
 /// t and the echo quorum for n = 1 to 16, as document 01 prints them.
 pub const CARD: [(usize, usize); 16] = [
@@ -118,110 +114,6 @@ pub fn another_f(library: &mut impl Library) {
     let t_is_1 = [(false, false), (true, false), (false, true)];
     let t_is_0 = [(true, false), (false, true), (false, false)];
     assert_eq!(outcomes, [t_is_1, t_is_0], "READYs at n = 4, f = 0 and 1");
-}
-
-/// The counts on any legal book, for every n and f and for every number of vouchers that one more makes:
-/// "the mark decides", so a count long passed gives a READY or a delivery where the mark is empty.
-pub fn thresholds(library: &mut impl Library, seed: u64) {
-    let mut random = Random::new(seed);
-    let pool = random_pool(&mut random);
-    for (n, f, counts) in all_counts() {
-        for vouchers in 1..=usize::from(n) {
-            for kind in [Kind::Echo, Kind::Ready] {
-                let case = Vouching::random(&mut random, [n, f], vouchers, kind);
-                case.check(library, &mut random, &pool, &counts);
-            }
-        }
-    }
-}
-
-/// A voucher for a declaration, with which so many vouch for it.
-struct Vouching {
-    n: u8,
-    f: u8,
-    vouchers: usize,
-    kind: Kind,
-    /// The houses in any order: the first brings the message, and the next vouched before.
-    houses: Vec<usize>,
-    /// Whether a READY was sent, and whether something is delivered.
-    marks: [bool; 2],
-}
-
-impl Vouching {
-    fn random(random: &mut Random, [n, f]: [u8; 2], vouchers: usize, kind: Kind) -> Self {
-        let mut houses: Vec<usize> = (0..usize::from(n)).collect();
-        for place in (1..houses.len()).rev() {
-            houses.swap(place, random.below(place + 1));
-        }
-        Vouching {
-            n,
-            f,
-            vouchers,
-            kind,
-            houses,
-            marks: [0, 1].map(|_| random.chance(1, 4)),
-        }
-    }
-
-    /// The book before: who vouched, others for other declarations or not at all, and the marks.
-    fn book(&self, random: &mut Random, pool: &[Declaration]) -> Vec<u8> {
-        let mut book = fresh([self.n, 1, self.n - 1, self.f, 0], SEASON, &open_sheet());
-        redraw_helped(random, &mut book);
-        let from = slots_from(self.n) + 21;
-        let size = usize::from(self.n);
-        let first = match self.kind {
-            Kind::Send => 0,
-            Kind::Echo => 1,
-            Kind::Ready => 1 + size,
-        };
-        let mut put = |slot: usize, v: &Declaration| {
-            let slot = &mut book[from + 21 * slot..][..21];
-            slot[0] = 1;
-            slot[1..].copy_from_slice(v);
-        };
-        for (place, house) in self.houses.iter().enumerate().skip(1) {
-            if place < self.vouchers {
-                put(first + house, &honey(77, 40, 800));
-            } else if random.chance(1, 2) {
-                put(first + house, &random.pick(pool));
-            }
-        }
-        for (mark, full) in self.marks.into_iter().enumerate() {
-            if full {
-                put(1 + 2 * size + mark, &random.pick(pool));
-            }
-        }
-        book
-    }
-
-    fn check(
-        &self,
-        library: &mut impl Library,
-        random: &mut Random,
-        pool: &[Declaration],
-        counts: &Counts,
-    ) {
-        let declaration = honey(77, 40, 800);
-        let [ready_sent, delivered] = self.marks;
-        let is_ready = self.kind == Kind::Ready;
-        let enough = if is_ready {
-            counts.amplify
-        } else {
-            counts.quorum
-        };
-        let gives = self.vouchers >= enough && !ready_sent;
-        let delivers = is_ready && self.vouchers >= counts.deliver && !delivered;
-        let mut book = self.book(random, pool);
-        let outcome = vouch(library, &mut book, self.houses[0], self.kind);
-        let which = format!(
-            "{} {:?} at n = {}, f = {}, marks {:?}",
-            self.vouchers, self.kind, self.n, self.f, self.marks
-        );
-        let ready = gives.then(|| message(3, SEASON, 0, 0, &declaration));
-        assert_eq!(outcome.message, ready, "{which}");
-        let delivery = delivers.then_some(declaration);
-        assert_eq!(outcome.delivery, delivery, "{which}");
-    }
 }
 
 /// Rows 4 to 8: judging.

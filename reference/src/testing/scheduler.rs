@@ -1,5 +1,6 @@
 //! Whole seasons under a random scheduler, and directed ones.
 
+pub mod attacks;
 pub mod directed;
 mod weather;
 
@@ -10,8 +11,6 @@ use super::season::{Rules, Season};
 use super::wrong::{plausible, Wrong};
 use crate::{Declaration, Library};
 use weather::{pick_some, Aim, Weather};
-
-pub use directed::directed_disagreement;
 
 /// In which order copies are consumed.
 #[derive(Clone, Copy, Debug)]
@@ -85,9 +84,7 @@ fn publications(
             }
         }
     }
-    for place in (1..all.len()).rev() {
-        all.swap(place, random.below(place + 1));
-    }
+    random.shuffle(&mut all);
     all
 }
 
@@ -270,12 +267,40 @@ fn some_houses(random: &mut Random, n: u8, count: usize) -> Vec<usize> {
 pub fn seasons(library: &mut impl Library, seed: u64, n: u8, s: u8, count: u64) -> Tally {
     let mut tally = Tally::default();
     for round in 0..count {
-        let size = u64::from(n) << 8 | u64::from(s);
-        let mut random = Random::new(seed.wrapping_add(round << 16 | size));
+        let mut random = Random::of(seed, &[u64::from(n), u64::from(s), round]);
         let rules = random_rules(&mut random, n, s);
         let mut season = run(library, &mut random, rules);
         season.check();
         tally.add_all(&season.tally());
+    }
+    tally
+}
+
+/// Seasons of n houses with exactly t of them wrong, one less, none, and one more: in calm weather with f and
+/// d at zero; with crashes and returns; and with f above zero, where one fits, and so many down at the end.
+/// Gives what came about in them.
+pub fn hostile(library: &mut impl Library, seed: u64, n: u8, s: u8) -> Tally {
+    let mut tally = Tally::default();
+    let fits = ((n - 1) / 2).min(crate::MOST_DOWN);
+    let mut random = Random::of(seed, &[u64::from(n), u64::from(s)]);
+    let d = 1 + random.below(3) as u8;
+    let f = 1 + random.below(usize::from(fits.max(1))) as u8;
+    for (f, d) in [(0, 0), (0, d), (f, d)] {
+        if f > fits {
+            continue;
+        }
+        let t = Rules::new(n, s, &[]).with(f, d).tolerated();
+        let mut wrongs = vec![t + 1, t, t.saturating_sub(1), 0];
+        wrongs.dedup();
+        wrongs.retain(|wrong| *wrong < usize::from(n));
+        for wrong in wrongs {
+            let houses = some_houses(&mut random, n, wrong);
+            let rules = Rules::new(n, s, &houses).with(f, d);
+            let weather = Weather::within(&mut random, &rules);
+            let mut season = run_in(library, &mut random, rules, weather);
+            season.check();
+            tally.add_all(&season.tally());
+        }
     }
     tally
 }
@@ -295,7 +320,7 @@ pub fn season_within(library: &mut impl Library, seed: u64, rules: Rules) -> Tal
 pub fn disagreements(library: &mut impl Library, seed: u64, count: u64) -> usize {
     let mut found = 0;
     for round in 0..count {
-        let mut random = Random::new(seed.wrapping_add(round));
+        let mut random = Random::of(seed, &[round]);
         let wrong = some_houses(&mut random, 4, 2);
         let mut season = run(library, &mut random, Rules::new(4, 1, &wrong));
         season.check();

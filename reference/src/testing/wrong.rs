@@ -2,21 +2,17 @@
 //! equivocate, vouch for it, replay, lie about the kind, stay silent towards some, ask for help again and
 //! again, and send noise.
 
-use super::forms::{declaration, honey, message, random_declaration, SEASON};
+use super::forms::{honey, message, random_declaration, twins, SEASON};
 use super::random::Random;
 use super::season::{Rules, Sent};
 use crate::{request, Declaration};
 
 /// Plausible declarations of a season, near to each other: one bit apart, the sign of a zero apart.
 pub fn plausible(random: &mut Random) -> [Declaration; 4] {
-    let zero = |bits| declaration(77, 40, 800, [17.5f32.to_bits(), bits]);
-    let lot = random.word();
-    [
-        honey(lot, 40, 800),
-        honey(lot ^ 1, 40, 800),
-        zero(0x0000_0000),
-        zero(0x8000_0000),
-    ]
+    let any = random.word();
+    let lot = random.pick(&[any, any, any, u32::MAX]);
+    let [one, other] = random.pick(&twins());
+    [honey(lot, 40, 800), honey(lot ^ 1, 40, 800), one, other]
 }
 
 /// Bytes for an honest house, and the number that they come under.

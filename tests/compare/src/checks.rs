@@ -3,10 +3,11 @@
 use crate::linked::Linked;
 use crate::{drawn, edges, entries};
 use reference::testing::both::Both;
+use reference::testing::scheduler::attacks;
 use reference::testing::season::moments::{Moment, Tally};
 use reference::testing::season::Rules;
 use reference::testing::{
-    books, openings, pairs, readings, refusals, requests, returns, rows, scheduler, trips,
+    books, openings, pairs, readings, refusals, requests, returns, rows, scheduler, trips, vouchers,
 };
 use reference::Reference;
 
@@ -16,14 +17,17 @@ pub type Pair = Both<Linked, Reference>;
 /// A name, and a check that takes a seed and how large it is to be.
 pub type Check = (&'static str, fn(&mut Pair, u64, usize));
 
-/// Checks that are the same at any size; the seed is for noise.
-pub const COUNTED: [Check; 21] = [
+/// Checks that are the same at any size, the quickest first; the seed is for noise.
+pub const COUNTED: [Check; 22] = [
     ("the rows and run cases of document 01", |pair, _, _| {
         rows::card(pair);
         rows::judged(pair);
         rows::messages(pair);
         assert_eq!(rows::copies(pair, &[]), 36, "four honest houses");
         assert_eq!(rows::copies(pair, &[3]), 28, "three honest houses");
+    }),
+    ("bytes that are all unlike", |pair, _, _| {
+        edges::unlike_bytes(pair);
     }),
     ("each pair of errors", |pair, _, _| {
         pairs::receiving(pair);
@@ -33,21 +37,12 @@ pub const COUNTED: [Check; 21] = [
         pairs::opening(pair);
         pairs::judging(pair);
     }),
-    ("the attack of two wrong houses of four", |pair, _, _| {
-        assert_eq!(scheduler::directed_disagreement(pair), [2]);
-    }),
     ("directed seasons with crashes", |pair, _, _| {
         scheduler::directed::crashes(pair);
     }),
     ("lengths of books", |pair, _, _| openings::lengths(pair)),
     ("openings with every f and d", |pair, _, _| {
         openings::every_f_and_d(pair);
-    }),
-    ("the counts for every n and f", |pair, seed, _| {
-        rows::another_f(pair);
-        for round in 0..4 {
-            rows::thresholds(pair, seed + round);
-        }
     }),
     ("all sizes", |pair, _, _| edges::sizes(pair)),
     ("foreign numbers", |pair, _, _| edges::strangers(pair)),
@@ -65,9 +60,6 @@ pub const COUNTED: [Check; 21] = [
     }),
     ("every bit of a book", |pair, seed, _| {
         edges::damaged_books(pair, seed);
-    }),
-    ("every state of one entry", |pair, seed, _| {
-        entries::states(pair, seed, 5);
     }),
     ("requests of every form and count", |pair, seed, _| {
         requests::one_form(pair, seed);
@@ -93,10 +85,25 @@ pub const COUNTED: [Check; 21] = [
     ("declarations counted apart", |pair, _, _| {
         readings::counted_apart(pair);
     }),
+    ("the counts for every n and f", |pair, seed, _| {
+        rows::another_f(pair);
+        vouchers::every_count(pair, seed);
+    }),
+    ("every state of one entry", |pair, seed, _| {
+        entries::states(pair, seed, 5);
+    }),
+    (
+        "the attacks of t wrong houses and one more",
+        |pair, _, _| {
+            attacks::splits(pair);
+            attacks::withheld_readies(pair);
+            attacks::silences(pair);
+        },
+    ),
 ];
 
 /// Checks that draw their cases: more with a larger size.
-pub const DRAWN: [Check; 13] = [
+pub const DRAWN: [Check; 14] = [
     ("calls on any legal book", |pair, seed, scale| {
         refusals::calls(pair, seed, 200 * scale);
     }),
@@ -145,6 +152,18 @@ pub const DRAWN: [Check; 13] = [
             scheduler::seasons(pair, seed, n, s, scale.div_ceil(8) as u64);
         }
     }),
+    (
+        "t wrong houses, one less, none, one more",
+        |pair, seed, _| {
+            for n in 1..=16 {
+                let s = if n < 8 { 1 + n % 4 } else { 1 };
+                let tally = scheduler::hostile(pair, seed, n, s);
+                let seen = |moment| tally.of(moment) > 0;
+                assert!(n < 2 || seen(Moment::TooManyWrong), "n = {n}: {tally}");
+                assert!(n < 4 || seen(Moment::WrongAndCrash), "n = {n}: {tally}");
+            }
+        },
+    ),
     ("a season of the largest book", |pair, seed, _| {
         let rules = Rules::new(16, 4, &[3, 7, 11]).with(3, 2);
         let tally = scheduler::season_within(pair, seed, rules);

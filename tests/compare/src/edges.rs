@@ -66,6 +66,56 @@ fn last_entry(library: &mut impl Library, book: &mut [u8], n: u32, s: u32) {
     assert_eq!(deliveries, 1, "deliveries at {n} and {s}");
 }
 
+/// A season, a sheet, a declaration and numbers in which no two bytes are alike, through every call: a byte
+/// that is taken from, or put in, another place than its own is seen.
+pub fn unlike_bytes(library: &mut impl Library) {
+    let limit = f32::from_bits;
+    let sheet = sheet(
+        0xF1E2_D3C4,
+        Gate::Between(limit(0xC112_2334), limit(0x4556_6778)),
+        Gate::Between(limit(0xB59A_ABBC), limit(0x3ECD_DEEF)),
+    );
+    let v = declaration(
+        0x8192_A3B4,
+        0x0506_0708,
+        0x1718_191A,
+        [0x412B_3C4D, 0x3E6F_7081],
+    );
+    let (season, [n, s, own, f, d]) = (0xD5E6_F708, [7, 4, 5, 2, 6]);
+    let (_, length) = library.length(n, s);
+    let mut book = vec![0x5A; length];
+    let opened = library.open(&mut book, n, s, own, f, d, season, &sheet);
+    let answers = [opened, library.judge(&sheet, &v)];
+    assert_eq!(answers, [0; 2], "opened and judged");
+    assert_eq!(library.publish(&mut book, 3, &v).answer, 0, "published");
+    for (kind, house) in [
+        (1, 5),
+        (2, 1),
+        (2, 6),
+        (3, 2),
+        (3, 6),
+        (3, 4),
+        (3, 0),
+        (3, 5),
+    ] {
+        let written = library.write(kind, season, 5, 3, &v).message;
+        let bytes = written.expect("a message");
+        assert_eq!(bytes, message(kind, season, 5, 3, &v), "written");
+        library.read(&bytes);
+        let received = library.receive(&mut book, house, &bytes).answer;
+        assert_eq!(received, 0, "kind {kind} from {house}");
+        library.sent(&book, kind, 5, 3);
+        library.waiting(&book);
+    }
+    library.come_back(&book);
+    for asker in 0..n {
+        for time in 0..=asker {
+            let asked = library.receive(&mut book, asker, &request_of(season));
+            assert_eq!(asked.answer, if time < d { 0 } else { 14 }, "asker {asker}");
+        }
+    }
+}
+
 /// Numbers around every power of two, and all that a byte holds and some more.
 fn numbers() -> Vec<u32> {
     let powers = (0..32).map(|k| 1u32 << k);

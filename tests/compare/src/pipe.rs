@@ -40,8 +40,12 @@ pub const NUMBERS: usize = 6;
 const LENGTHS: usize = 1 + 4 * NUMBERS + DECLARATION;
 const HEAD: usize = 6;
 
-/// Longer than any call takes, on a busy machine and under the emulator.
-const PATIENCE: Duration = Duration::from_secs(30);
+/// Longer than any call takes, on a busy machine and under the emulator; or COMPARE_PATIENCE, in seconds.
+fn patience() -> Duration {
+    let seconds = std::env::var("COMPARE_PATIENCE").ok();
+    let seconds = seconds.map(|seconds| seconds.parse().expect("a patience in seconds"));
+    Duration::from_secs(seconds.unwrap_or(30))
+}
 
 /// The driver, kept open.
 pub struct Pipe {
@@ -58,8 +62,9 @@ pub struct Pipe {
 /// a call that hangs too.
 fn watch(turns: &AtomicU64, child: &Mutex<Child>) {
     let mut before = 0;
+    let patience = patience();
     loop {
-        std::thread::sleep(PATIENCE);
+        std::thread::sleep(patience);
         let now = turns.load(Ordering::Relaxed);
         if now == before && now % 2 == 1 {
             eprintln!("the driver: no whole reply to question {}", now / 2);

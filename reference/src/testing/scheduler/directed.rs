@@ -35,32 +35,6 @@ fn is_kind(bytes: &[u8], kind: Kind) -> bool {
     bytes[3] == kind as u8
 }
 
-/// Two wrong houses of four: the wrong sender tells house 0 one thing and house 1 another, and both wrong
-/// houses vouch for it. Each honest house has a quorum and enough READYs, and they deliver differently.
-pub fn directed_disagreement(library: &mut impl Library) -> Vec<usize> {
-    let mut season = Season::open(library, Rules::new(4, 1, &[2, 3]));
-    for (house, declaration) in [(0, honey(77, 40, 800)), (1, honey(77, 40, 799))] {
-        let bytes = |kind| message(kind, SEASON, 2, 0, &declaration);
-        assert_eq!(
-            season.hand_in(house, 2, &bytes(1)),
-            0,
-            "the wrong sender's SEND"
-        );
-        for kind in [2, 3] {
-            for wrong in [2, 3] {
-                assert_eq!(
-                    season.hand_in(house, wrong, &bytes(kind)),
-                    0,
-                    "a wrong voucher"
-                );
-            }
-        }
-    }
-    season.drain();
-    season.check();
-    season.disagreements()
-}
-
 /// Six houses, f = 1 and d = 1: house 5 is wrong, heard at house 0 and helped there once; house 1 is down
 /// when the SEND comes, and returns; house 4 crashes for good when its ECHO has left. House 0 delivers first,
 /// by the READY of the wrong house; then all that are up deliver.
@@ -239,31 +213,6 @@ pub fn asking_often(library: &mut impl Library) {
     }
 }
 
-/// Six houses and f = 1, wrong sender 5: house 4 has three READYs, one of them wrong, and crashes for good
-/// before the others hear of its own. To deliver at 2t + 1 would be too early: of the READYs that it counted
-/// only that of house 3 reaches anybody who stays up, and nobody else would deliver.
-pub fn three_readies_of_six(library: &mut impl Library) {
-    let mut season = Season::open(library, Rules::new(6, 1, &[5]).with(1, 0));
-    let bytes = |kind: Kind| message(kind as u8, SEASON, 5, 0, &published());
-    for house in [0, 3, 4] {
-        assert_eq!(season.hand_in(house, 5, &bytes(Kind::Send)), 0, "the SEND");
-    }
-    season.keep_back_where(|copy| copy.from == 4 && copy.to < 3);
-    season.consume_where(|_| true);
-    assert_eq!(season.copies_on(5, 0), [0, 18, 0], "three ECHOes of four");
-    for house in [3, 4] {
-        assert_eq!(season.hand_in(house, 5, &bytes(Kind::Echo)), 0, "an ECHO");
-    }
-    season.keep_back_where(|copy| copy.from == 4 && copy.to < 4);
-    season.consume_where(|copy| copy.to == 4);
-    assert_eq!(season.hand_in(4, 5, &bytes(Kind::Ready)), 0, "a READY");
-    season.crash(4);
-    season.drain();
-    season.check();
-    assert_eq!(season.copies_on(5, 0), [0, 18, 12], "two READYs of two");
-    assert_eq!(delivered(&season, 5), [], "nobody has four READYs");
-}
-
 /// Four houses, one of them wrong, and d = 2: when all is delivered each honest house returns twice, and all
 /// help all four twice. The bound of hn + 2hnd copies of READY is reached. That of all copies is not, since
 /// one house alone sends SEND: n + 2nd of it, where the bound has n + 2hnd.
@@ -290,6 +239,5 @@ pub fn crashes(library: &mut impl Library) {
     returns_past_d(library);
     sender_down(library);
     asking_often(library);
-    three_readies_of_six(library);
     all_helped(library);
 }

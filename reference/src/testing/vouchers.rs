@@ -1,0 +1,201 @@
+//! What the next message makes of legal books that no run need ever reach: for every n and f, each kind,
+//! every number of vouchers and every state of the two marks.
+
+use super::forms::{fresh, message, open_sheet, redraw_helped, slots_from, twins, SEASON};
+use super::random::Random;
+use super::rows::all_counts;
+use crate::{Counts, Declaration, Kind, Library, Outcome};
+
+/// What a slot holds, seen from the message that comes: nothing, its declaration, or another.
+#[derive(Clone, Copy, Debug, PartialEq)]
+enum Holds {
+    Nothing,
+    Same,
+    Other,
+}
+
+const ALL: [Holds; 3] = [Holds::Nothing, Holds::Same, Holds::Other];
+
+/// What stands in an entry beside what the message is counted with.
+#[derive(Clone, Copy, Debug)]
+struct Beside {
+    /// READY sent, and delivered.
+    marks: [Holds; 2],
+    /// All slots of the other kinds, so that those of every kind can be full at once.
+    kinds: Holds,
+}
+
+/// Every state of the marks, with other kinds that are empty or full.
+fn all_beside() -> impl Iterator<Item = Beside> {
+    let marks = ALL.iter().flat_map(|sent| ALL.map(|end| [*sent, end]));
+    marks.flat_map(|marks| ALL.map(|kinds| Beside { marks, kinds }))
+}
+
+/// An entry, and the message that comes to it.
+#[derive(Debug)]
+struct Case {
+    n: u8,
+    f: u8,
+    sender: usize,
+    kind: Kind,
+    house: usize,
+    /// How many vouch for the message's declaration before it comes, and what the others vouch for.
+    vouchers: usize,
+    others: Holds,
+    beside: Beside,
+}
+
+/// What has to come of the message.
+#[derive(Default)]
+struct Due {
+    answer: u8,
+    gives: Option<Kind>,
+    delivers: bool,
+}
+
+impl Case {
+    /// The slot of the entry in which a message of the kind from this house is recorded.
+    fn slot(&self, house: usize) -> usize {
+        match self.kind {
+            Kind::Send => 0,
+            Kind::Echo => 1 + house,
+            Kind::Ready => 1 + usize::from(self.n) + house,
+        }
+    }
+
+    /// What each slot of the entry holds: SEND, the ECHOes, the READYs, READY sent, delivered. Any houses
+    /// vouch, that of the message last of all.
+    fn slots(&self, random: &mut Random) -> Vec<Holds> {
+        let n = usize::from(self.n);
+        let mut slots = vec![self.beside.kinds; 2 * n + 1];
+        slots.extend(self.beside.marks);
+        let mut houses: Vec<usize> = (0..n).filter(|house| *house != self.house).collect();
+        random.shuffle(&mut houses);
+        for (place, house) in houses.into_iter().enumerate() {
+            slots[self.slot(house)] = match place < self.vouchers {
+                true => Holds::Same,
+                false => self.others,
+            };
+        }
+        slots[self.slot(self.house)] = match (self.kind, self.vouchers < n) {
+            (Kind::Send, _) => self.others,
+            (_, true) => Holds::Nothing,
+            (_, false) => Holds::Same,
+        };
+        slots
+    }
+
+    /// What has to come of it where it comes to these slots.
+    fn due(&self, slots: &[Holds], counts: &Counts) -> Due {
+        if slots[self.slot(self.house)] != Holds::Nothing {
+            return Due {
+                answer: 7,
+                ..Due::default()
+            };
+        }
+        let vouchers = self.vouchers + 1;
+        let [unsent, undelivered] = self.beside.marks.map(|mark| mark == Holds::Nothing);
+        let gives = match self.kind {
+            Kind::Send => Some(Kind::Echo),
+            Kind::Echo => (unsent && vouchers >= counts.quorum).then_some(Kind::Ready),
+            Kind::Ready => (unsent && vouchers >= counts.amplify).then_some(Kind::Ready),
+        };
+        Due {
+            answer: 0,
+            gives,
+            delivers: self.kind == Kind::Ready && undelivered && vouchers >= counts.deliver,
+        }
+    }
+
+    /// The message comes: the answer, all that it carries and every byte of the book are as they have to be.
+    fn check(&self, library: &mut impl Library, random: &mut Random, counts: &Counts) {
+        let [v, other] = random.pick(&twins());
+        let slots = self.slots(random);
+        let due = self.due(&slots, counts);
+        let entry = slots_from(self.n) + 21 * (1 + self.sender * slots.len());
+        let put = |book: &mut [u8], slot: usize, holds: Holds| {
+            let held: Option<&Declaration> = match holds {
+                Holds::Nothing => None,
+                Holds::Same => Some(&v),
+                Holds::Other => Some(&other),
+            };
+            if let Some(held) = held {
+                let slot = &mut book[entry + 21 * slot..][..21];
+                slot[0] = 1;
+                slot[1..].copy_from_slice(held);
+            }
+        };
+        let mut book = fresh([self.n, 1, self.n - 1, self.f, 0], SEASON, &open_sheet());
+        redraw_helped(random, &mut book);
+        for (slot, holds) in slots.iter().enumerate() {
+            put(&mut book, slot, *holds);
+        }
+        let mut expected = book.clone();
+        let marks = slots.len() - 2;
+        let made = [
+            (due.answer == 0, self.slot(self.house)),
+            (due.gives == Some(Kind::Ready), marks),
+            (due.delivers, marks + 1),
+        ];
+        for (_, slot) in made.into_iter().filter(|(is_made, _)| *is_made) {
+            put(&mut expected, slot, Holds::Same);
+        }
+
+        let bytes = |kind: Kind| message(kind as u8, SEASON, self.sender as u8, 0, &v);
+        let outcome = library.receive(&mut book, self.house as u32, &bytes(self.kind));
+        let as_due = Outcome {
+            answer: due.answer,
+            message: due.gives.map(bytes),
+            delivery: due.delivers.then_some(v),
+            helps: false,
+        };
+        assert_eq!(outcome, as_due, "{self}, {self:?}");
+        assert!(book == expected, "the book after {self}, {self:?}");
+    }
+}
+
+impl std::fmt::Display for Case {
+    fn fmt(&self, to: &mut std::fmt::Formatter) -> std::fmt::Result {
+        let (vouchers, kind) = (self.vouchers + 1, self.kind);
+        write!(to, "{vouchers} {kind:?} at n = {}, f = {}", self.n, self.f)
+    }
+}
+
+/// Every n and f: SENDs that come to an empty slot and to a full one; and ECHOes and READYs that 0 to n
+/// houses vouch for before, where the others vouch for nothing and for another declaration. Each with every
+/// state of the marks, "both may come of one call" among them, and with the other kinds empty and full.
+pub fn every_count(library: &mut impl Library, seed: u64) {
+    let mut random = Random::new(seed);
+    for (n, f, counts) in all_counts() {
+        let houses = usize::from(n);
+        for beside in all_beside() {
+            let mut check = |kind: Kind, vouchers: usize, others: Holds| {
+                let house = random.below(houses);
+                let sender = match kind {
+                    Kind::Send => house,
+                    _ => random.below(houses),
+                };
+                let case = Case {
+                    n,
+                    f,
+                    sender,
+                    kind,
+                    house,
+                    vouchers,
+                    others,
+                    beside,
+                };
+                case.check(library, &mut random, &counts);
+            };
+            for heard in ALL {
+                check(Kind::Send, 0, heard);
+            }
+            for vouchers in 0..=houses {
+                for others in [Holds::Nothing, Holds::Other] {
+                    check(Kind::Echo, vouchers, others);
+                    check(Kind::Ready, vouchers, others);
+                }
+            }
+        }
+    }
+}
