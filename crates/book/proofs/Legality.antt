@@ -12,8 +12,8 @@ use lib.ListN.{length, getD}
 use borrow.Author.Tests.{eqb-true, ne-eqb, not-true, not-false, le-leb, lt-leb}
 use Rattle.card.specs.Card.{houses, downOk}
 use Rattle.sheet.specs.Kept.{sheetLegalAt}
-use Rattle.protocol.proofs.Basics.{and-l, and-r, and-mk, and-false}
-use Rattle.protocol.proofs.Basics as basics
+use Rattle.entry.proofs.Basics.{and-l, and-r, and-mk, and-false}
+use Rattle.entry.proofs.Basics as basics
 use Rattle.meaning.specs.Slot.{slotOk}
 use Rattle.meaning.specs.Layout.{numbersOk, mostLimit, helpedPlace, headLength, slotCount, lengthOf, slotPlace}
 use Rattle.meaning.specs.Book.{nOf, numbersOf, ownOf, downOf, limitOf, sheetPlace}

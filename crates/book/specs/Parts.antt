@@ -1,18 +1,14 @@
 -- What the leaves of this crate give, where document 01 has no sentence for it.
 -- Assumes nothing.
-use Prim.Native.Nat.{ℕ, _+_, _*_, _-_}
+use Prim.Native.Nat.{ℕ, _+_, _-_}
 use mathlib.Core.Bool.{Bool, _&&_}
 use mathlib.Core.List.{List, _∷_, _++_}
 use lib.Dec.{eqb}
 use lib.ListN.{length, replicate}
-use Rattle.words.specs.Words.{be32, wordAt}
+use Rattle.words.specs.Words.{be32}
 use Rattle.meaning.specs.Layout.{lengthOf}
 use Rattle.meaning.specs.Book.{nOf, numbersOf, ownOf, downOf, limitOf}
 use Rattle.meaning.specs.Opening.{allowed}
-
--- the number whose eight bytes stand at i, big-endian
-abbrev pub twoWordsAt : List ℕ → ℕ → ℕ
-twoWordsAt s i = wordAt s i * 4294967296 + wordAt s (i + 4)
 
 -- n, S, own number, f and d are allowed, and there are as many bytes as n and S ask
 unfoldable pub sized : List ℕ → Bool

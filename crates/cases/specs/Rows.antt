@@ -9,15 +9,15 @@ use lib.Dec.{ltb}
 use lib.ListN.{replicate}
 use lib.Ieee.{binary32, ofBits, toBits, le}
 use Rattle.card.specs.Card.{houses, mostDown, downOk, tolerated, fitting, quorum, amplify, deliver, countsOf}
-use Rattle.lot.specs.declared.Gate.{Gate}
-use Rattle.lot.specs.declared.Gate.the-variants.{Open, AtMost}
-use Rattle.lot.specs.declared.Sheet.{Sheet}
+use Rattle.sheet.specs.declared.Gate.{Gate}
+use Rattle.sheet.specs.declared.Gate.the-variants.{Open, AtMost}
+use Rattle.sheet.specs.declared.Sheet.{Sheet}
 use Rattle.lot.specs.declared.Declaration.{Declaration}
 use Rattle.lot.specs.Declaration.{declarationAt, bytesOf}
-use Rattle.lot.specs.Sheet.{plausible}
+use Rattle.sheet.specs.Sheet.{plausible}
 use Rattle.sheet.specs.Kept.{sheetBytes, sheetAt, isSheet, judged}
 use Rattle.message.specs.Message.{Five, wire, gives, readOf, requestOf, writtenOf}
-use Rattle.protocol.specs.Entry.{same}
+use Rattle.entry.specs.Entry.{same}
 use Rattle.protocol.specs.Steps.{recording, takesSend, takesEcho, takesReady, receive}
 use Rattle.protocol.specs.Book.{outcome}
 use Rattle.protocol.specs.Thresholds.{rulesOf}
@@ -26,8 +26,8 @@ use Rattle.meaning.specs.Layout.{numbersOk, mostLimit, lengthOf, entrySlot}
 use Rattle.meaning.specs.Book.{meant, write}
 use Rattle.meaning.specs.Legal.{legal}
 use Rattle.meaning.specs.Opening.{opened}
-use Rattle.entry.specs.Entered.{giving}
-use Rattle.counter.specs.Call.{received}
+use Rattle.calls.specs.Entered.{giving}
+use Rattle.calls.specs.Call.{received}
 
 -- one call: a message of the kind from the house, on the entry of sender 0 and number 0; the message given, by its kind, and the delivery
 pub record Heard : Type 0 where

@@ -1,55 +1,40 @@
 -- What this crate promises holds.
--- Assumes nothing.
-use Prim.Native.Nat.{ℕ}
-use mathlib.Core.Path.{_≡_, refl}
-use mathlib.Core.Bool.{true}
-use Rattle.card.specs.Card.{countsOf}
-use Rattle.lot.specs.Declaration.{declarationAt}
-use Rattle.lot.proofs.Declared.{bytes-of-numbers}
-use Rattle.message.specs.Message.{isKind, gives, readOf}
-use Rattle.message.proofs.RoundTrip.{read-of-wire}
-use Rattle.protocol.specs.Entry.{Decl, Kind, SEND, ECHO, READY}
-use Rattle.protocol.specs.Steps.{say}
-use Rattle.protocol.specs.Thresholds.{rulesOf}
-use Rattle.meaning.specs.Book.{Meaning}
-use Rattle.entry.specs.Entered.{kindNumber, kindOf, fiveOf, letter, rulesBy}
-use Rattle.entry.specs.Claims.{countsBy, Claims}
+use Prim.Native.Nat.{ℕ, suc, _<_}
+use mathlib.Core.Path.{_≡_, refl, sym, ap}
+use mathlib.Core.Bool.{Bool, true, false}
+use mathlib.Core.Logic.{_↔_}
+use mathlib.Core.Option.{Option, none, some}
+use native.Mathlib.Omega.{arith}
+use Rattle.card.proofs.Counting.{count-set}
+use Rattle.entry.specs.Entry.{Decl, same, holds, votes, upd}
+use Rattle.entry.specs.Claims.{Claims}
+use Rattle.entry.proofs.Basics.{bcase, T-of, true-of, same-refl, same-eq, holds-eq, eq-holds, upd-same, upd-other, votes-up, votes-other}
+use Rattle.entry.proofs.Filled.{recorded-filled, recorded-heard}
 
-quorum-by : (B : Meaning) → rulesBy B .quorum ≡ countsBy B .quorum
-unfolding rulesBy rulesOf countsOf
-quorum-by B = refl
+same-exactly : (v w : Decl) → (same v w ≡ true) ↔ (v ≡ w)
+same-exactly v w = (λ e. same-eq v w (T-of e), λ e. rw e (true-of (same w w) (same-refl w)))
 
-amplify-by : (B : Meaning) → rulesBy B .amplify ≡ countsBy B .amplify
-unfolding rulesBy rulesOf countsOf
-amplify-by B = refl
+holds-exactly : (o : Option Decl) (v : Decl) → (holds o v ≡ true) ↔ (o ≡ some v)
+holds-exactly o v = (λ e. holds-eq o v (T-of e), λ e. true-of (holds o v) (eq-holds o v e))
 
-deliver-by : (B : Meaning) → rulesBy B .deliver ≡ countsBy B .deliver
-unfolding rulesBy rulesOf countsOf
-deliver-by B = refl
+one-more : (f : ℕ → Option Decl) (p : ℕ) (v : Decl) (n : ℕ) → p < n → f p ≡ none → votes (upd f p (some v)) v n ≡ suc (votes f v n)
+one-more f p v n l e =
+    count-set (λ i. holds (f i) v) (λ i. holds (upd f p (some v) i) v) n p l
+    (λ i d. ap (λ (o : Option Decl). holds o v) (sym (upd-other f p (some v) i d))) (rw e refl)
+    (rw (upd-same f p (some v)) (true-of (same v v) (same-refl v)))
 
-kind-known : (k : Kind) → isKind (kindNumber k) ≡ true
-unfolding isKind
-kind-known SEND = refl
-kind-known ECHO = refl
-kind-known READY = refl
-
-kind-read : (k : Kind) → kindOf (kindNumber k) ≡ k
-kind-read SEND = refl
-kind-read ECHO = refl
-kind-read READY = refl
-
-letter-read : (season sender number : ℕ) (k : Kind) (v : Decl)
-    → readOf (letter season sender number (say k v)) ≡ gives (fiveOf (kindNumber k) season sender number (declarationAt v 0))
-unfolding letter
-letter-read season j c k v = read-of-wire (fiveOf (kindNumber k) season j c (declarationAt v 0)) (kind-known k)
+none-for-another : (f : ℕ → Option Decl) (p : ℕ) (v w : Decl) (n : ℕ) → f p ≡ none → (v ≡ w → ⊥)
+    → votes (upd f p (some v)) w n ≡ votes f w n
+none-for-another f p v w n e d =
+    bcase (same v w) (λ t. absurd (d (same-eq v w (T-of t)))) (λ t. omega (arith, votes-up f p v w n e, votes-other f p v w n t))
 
 pub claims : Claims
 claims =
     record {
-      quorum-by = quorum-by;
-      amplify-by = amplify-by;
-      deliver-by = deliver-by;
-      letter-read = letter-read;
-      kind-read = kind-read;
-      declaration-read = λ v d. bytes-of-numbers v (d .long) (d .bytes);
+      same-exactly = same-exactly;
+      holds-exactly = holds-exactly;
+      one-more = one-more;
+      none-for-another = none-for-another;
+      recorded-heard = recorded-heard;
+      recorded-filled = recorded-filled;
     }

@@ -1,11 +1,9 @@
 -- What a slot's being full or empty says of what it holds.
 -- Assumes nothing.
-use Prim.Native.Nat.{ℕ}
 use mathlib.Core.Path.{_≡_, refl, sym, _∙_}
 use mathlib.Core.Bool.{Bool, true, false, true≢false}
 use mathlib.Core.Option.{Option, none, some}
-use Rattle.protocol.specs.Entry.{Decl, isNone, isSome}
-use Rattle.protocol.specs.Steps.{recording}
+use Rattle.entry.specs.Entry.{Decl, isNone, isSome}
 
 pub full-holds : (o : Option Decl) → isSome o ≡ true → (w : Decl) × (o ≡ some w)
 full-holds none e = absurd (true≢false (sym e))
@@ -21,11 +19,3 @@ module _ (o : Option Decl) (r : Bool) (e : r ≡ isSome o) where
 
   pub empty-none : r ≡ false → isNone o ≡ true
   empty-none t = rw (empty-holds o (sym e ∙ t))
-
-  pub full-recorded : (v : Decl) → r ≡ true → 7 ≡ recording o v
-  unfolding recording
-  full-recorded v t = let h = full-holds o (sym e ∙ t) in rw (h .1)
-
-  pub empty-recorded : (v : Decl) → r ≡ false → 0 ≡ recording o v
-  unfolding recording
-  empty-recorded v t = rw (empty-holds o (sym e ∙ t))

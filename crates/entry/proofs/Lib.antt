@@ -1,9 +1,4 @@
-pub mod Seen
+pub mod Basics
+pub mod Filled
 pub mod Fullness
-pub mod Taken
-pub mod Room
-pub mod Marking
-pub mod Entered
-pub mod Recorded
-pub mod Publication
 pub mod Claims

@@ -1,29 +1,20 @@
--- What this crate promises, in document 01's order. That an accepted call is one step of the protocol, `counter` promises of all calls.
--- Assumes nothing.
-use Prim.Native.Nat.{ℕ}
+-- What this crate promises: when two declarations are the same, what a voucher counts for, and what recording a message leaves.
+use Prim.Native.Nat.{ℕ, suc, _<_}
 use mathlib.Core.Path.{_≡_}
-use Rattle.card.specs.declared.Counts.{Counts}
-use Rattle.card.specs.Card.{countsOf}
-use Rattle.lot.specs.Declaration.{declarationAt, bytesOf}
-use Rattle.message.specs.Message.{gives, readOf}
-use Rattle.protocol.specs.Entry.{Decl, Kind}
-use Rattle.protocol.specs.Steps.{say}
-use Rattle.meaning.specs.Book.{Meaning}
-use Rattle.meaning.specs.Legal.{IsDecl}
-use Rattle.entry.specs.Entered.{kindNumber, kindOf, fiveOf, letter, rulesBy}
-
--- the counts that a book's steps compare with
-abbrev pub countsBy : Meaning → Counts
-countsBy B = countsOf (B .n) (B .care .down)
+use mathlib.Core.Bool.{true}
+use mathlib.Core.Logic.{_↔_}
+use mathlib.Core.Option.{Option, none, some}
+use Rattle.entry.specs.Entry.{Decl, Kind, Entry, same, holds, heard, votes, upd, recorded, Filled}
 
 pub record Claims : Type 0 where
-  -- The counts that a book's steps compare with are the wall card's, at its n and f.
-  pub quorum-by : (B : Meaning) → rulesBy B .quorum ≡ countsBy B .quorum
-  pub amplify-by : (B : Meaning) → rulesBy B .amplify ≡ countsBy B .amplify
-  pub deliver-by : (B : Meaning) → rulesBy B .deliver ≡ countsBy B .deliver
-  -- Each message given on an entry reads as its kind, with the book's season and that entry's sender and number,
-  pub letter-read : (season sender number : ℕ) (k : Kind) (v : Decl)
-      → readOf (letter season sender number (say k v)) ≡ gives (fiveOf (kindNumber k) season sender number (declarationAt v 0))
-  pub kind-read : (k : Kind) → kindOf (kindNumber k) ≡ k
-  -- and carries the declaration itself.
-  pub declaration-read : (v : Decl) → IsDecl v → bytesOf (declarationAt v 0) ≡ v
+  -- Two declarations are the same exactly when all bytes are.
+  pub same-exactly : (v w : Decl) → (same v w ≡ true) ↔ (v ≡ w)
+  pub holds-exactly : (o : Option Decl) (v : Decl) → (holds o v ≡ true) ↔ (o ≡ some v)
+  -- A voucher counts for its declaration, and not for the entry: it is one more for v,
+  pub one-more : (f : ℕ → Option Decl) (p : ℕ) (v : Decl) (n : ℕ) → p < n → f p ≡ none → votes (upd f p (some v)) v n ≡ suc (votes f v n)
+  -- and none for another.
+  pub none-for-another : (f : ℕ → Option Decl) (p : ℕ) (v w : Decl) (n : ℕ) → f p ≡ none → (v ≡ w → ⊥)
+      → votes (upd f p (some v)) w n ≡ votes f w n
+  -- A message is heard where it was recorded, and in an empty slot it displaces nothing.
+  pub recorded-heard : (k : Kind) (p : ℕ) (v : Decl) (e : Entry) → heard k p (recorded k p v e) ≡ some v
+  pub recorded-filled : (k : Kind) (p : ℕ) (v : Decl) (e : Entry) → heard k p e ≡ none → Filled e (recorded k p v e)

@@ -1,3 +1,2 @@
-pub mod Entered
-pub mod Places
+pub mod Entry
 pub mod Claims

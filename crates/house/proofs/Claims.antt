@@ -2,7 +2,7 @@
 -- Assumes nothing.
 use mathlib.Core.Path.{sym, _∙_}
 use Rattle.book.proofs.Claims as book
-use Rattle.counter.proofs.Claims as counter
+use Rattle.calls.proofs.Claims as counter
 use Rattle.house.specs.Claims.{Claims}
 use Rattle.house.proofs.Trips.{trips}
 

@@ -12,7 +12,7 @@ use Rattle.sheet.specs.Kept.{judged}
 use Rattle.message.specs.declared.Written.{Written}
 use Rattle.message.specs.Message.{isKind, readOf, requestWire, requestOf, writtenOf}
 use Rattle.book.specs.Claims as book
-use Rattle.counter.specs.Claims as counter
+use Rattle.calls.specs.Claims as counter
 use Rattle.house.specs.declared.ReadAnswer.{ReadAnswer}
 use Rattle.house.specs.Read.{readAnswer}
 

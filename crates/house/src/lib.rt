@@ -4,16 +4,16 @@ ghost use Rattle.lot.specs.Declaration.{declarationAt};
 ghost use Rattle.sheet.specs.Kept.{judged};
 ghost use Rattle.message.specs.Message.{readOf, requestOf, writtenOf};
 ghost use Rattle.meaning.specs.Opening.{Opened, opened, Length, lengthAnswer};
-ghost use Rattle.entry.specs.Entered.{result};
-ghost use Rattle.counter.specs.Call.{published, received};
-ghost use Rattle.counter.specs.Search.{waiting};
-ghost use Rattle.counter.specs.Again.{returned, sentOf};
+ghost use Rattle.calls.specs.Entered.{result};
+ghost use Rattle.calls.specs.Call.{published, received};
+ghost use Rattle.calls.specs.Search.{waiting};
+ghost use Rattle.calls.specs.Again.{returned, sentOf};
 ghost use Rattle.house.specs.Read.{readAnswer};
 use book::LengthAnswer;
-use counter::Returned;
-use counter::Sent;
-use counter::Waiting;
-use entry::Outcome;
+use calls::Outcome;
+use calls::Returned;
+use calls::Sent;
+use calls::Waiting;
 use lot::Declaration;
 use message::Reading;
 use message::Written;
@@ -76,7 +76,7 @@ pub extern "C" fn gm_receive(book: &mut [u8], house: u32, message: &[u8]) -> Out
 pub extern "C" fn gm_waiting(book: &[u8]) -> Waiting
     ensures { λ r. ⌜ r ≡ waiting (now (book .entry)) ⌝ }
 {
-    counter::earliest_waiting(book)
+    waiting::earliest_waiting(book)
 }
 
 // A return: 1, else 0 and the request to all.
@@ -84,7 +84,7 @@ pub extern "C" fn gm_waiting(book: &[u8]) -> Waiting
 pub extern "C" fn gm_return(book: &[u8]) -> Returned
     ensures { λ r. ⌜ r ≡ returned (now (book .entry)) ⌝ }
 {
-    counter::come_back(book)
+    again::come_back(book)
 }
 
 // What was sent: 1, 2 for a kind not 1 to 3, 4; else the message, or a plain none.
@@ -92,7 +92,7 @@ pub extern "C" fn gm_return(book: &[u8]) -> Returned
 pub extern "C" fn gm_sent(book: &[u8], kind: u8, sender: u32, number: u32) -> Sent
     ensures { λ r. ⌜ r ≡ sentOf (now (book .entry)) kind sender number ⌝ }
 {
-    counter::sent_on(book, kind, sender, number)
+    again::sent_on(book, kind, sender, number)
 }
 
 // Judging: 10, then 5, else 0.
@@ -100,7 +100,7 @@ pub extern "C" fn gm_sent(book: &[u8], kind: u8, sender: u32, number: u32) -> Se
 pub extern "C" fn gm_judge(sheet: &[u8], declaration: &[u8; 20]) -> u8
     ensures { λ r. ⌜ r ≡ judged (now (sheet .entry)) (now (declaration .entry)) ⌝ }
 {
-    sheet::judge(sheet, declaration)
+    judge::judge(sheet, declaration)
 }
 
 // The 36 bytes of a message, or answer 2.
@@ -114,8 +114,8 @@ pub extern "C" fn gm_write(
 ) -> Written
     ensures { λ r. ⌜ r ≡ writtenOf kind season sender number (declarationAt (now (declaration .entry)) 0) ⌝ }
 {
-    let d = lot::declaration_at(declaration, 0);
-    message::write_message(kind, season, sender, number, d)
+    let d = octets::declaration_at(declaration, 0);
+    codec::write_message(kind, season, sender, number, d)
 }
 
 // The five things of a message, kind 9 and the season of a request, or answer 2.
@@ -123,11 +123,11 @@ pub extern "C" fn gm_write(
 pub extern "C" fn gm_read(message: &[u8]) -> ReadAnswer
     ensures { λ r. ⌜ r ≡ readAnswer (requestOf (now (message .entry))) (readOf (now (message .entry))) ⌝ }
 {
-    if message::is_request(message) {
+    if codec::is_request(message) {
         return ReadAnswer {
             answer: 0,
             kind: 9,
-            season: words::word_at(message, 7),
+            season: octets::word_at(message, 7),
             sender: 0,
             number: 0,
             declaration: [0; 20],
@@ -143,7 +143,7 @@ pub extern "C" fn gm_read(message: &[u8]) -> ReadAnswer
         kilograms,
         moisture,
         conductivity,
-    } = message::read_message(message)
+    } = codec::read_message(message)
     else {
         return ReadAnswer {
             answer: 2,
@@ -154,7 +154,7 @@ pub extern "C" fn gm_read(message: &[u8]) -> ReadAnswer
             declaration: [0; 20],
         };
     };
-    let declaration = lot::bytes_of(Declaration {
+    let declaration = octets::bytes_of(Declaration {
         lot,
         colonies,
         kilograms,

@@ -1,4 +1,2 @@
 pub mod Declaration
-pub mod Sheet
-pub mod Place
 pub mod Claims

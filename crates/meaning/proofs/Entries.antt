@@ -9,10 +9,8 @@ use mathlib.Core.Option.{Option, none, some}
 use native.Mathlib.Omega.{arith}
 use lib.Dec.{eqb, ltb}
 use borrow.Author.Tests.{eqb-true, eqb-false, eq-eqb, ne-eqb, ltb-true, lt-ltb}
-use Rattle.protocol.specs.Entry.{Decl, SEND, ECHO, READY, Entry, fresh, upd}
-use Rattle.protocol.specs.Steps.{recorded, marked}
-use Rattle.protocol.specs.Book.{PerEntry, sameEntry, place}
-use Rattle.protocol.proofs.Basics.{upd-same, upd-other}
+use Rattle.entry.specs.Entry.{Decl, SEND, ECHO, READY, Entry, fresh, upd, recorded, marked, PerEntry, sameEntry, place}
+use Rattle.entry.proofs.Basics.{upd-same, upd-other}
 use Rattle.meaning.specs.Layout.{perEntry, slotCount, entrySlot, sendSlot, echoSlot, readySlot, readySentSlot, deliveredSlot}
 use Rattle.meaning.specs.Book.{nOf, numbersOf, ownOf, slotOf, forHouses, look}
 use Rattle.meaning.proofs.Places.{entry-slot-below, published-slot-below, entry-slot-past, same-entry-row, same-entry-slot}

@@ -16,12 +16,11 @@ use Rattle.words.proofs.Bytes.{bytes-append, bytes-cons, bytes-zeros, be-bytes}
 use Rattle.words.proofs.Laws.{word-be}
 use Rattle.sheet.specs.Kept.{sheetBytes, sheetAt, sheetLegalAt, isSheet}
 use Rattle.sheet.proofs.OneForm.{sheet-of-bytes, legal-bytes, sheet-bytes}
-use Rattle.protocol.specs.Entry.{Entry}
-use Rattle.protocol.specs.Book.{PerEntry}
+use Rattle.entry.specs.Entry.{Entry, PerEntry}
 use Rattle.meaning.specs.Slot.{slotBytes, part, slotAt, slotOk}
 use Rattle.meaning.specs.Layout.{mostLimit, helpedPlace, headLength, slotCount, lengthOf, slotPlace}
-use Rattle.meaning.specs.Book.{Meaning, nOf, numbersOf, ownOf, seasonOf, sheetPlace, downOf, limitOf, helpedOf, careOf}
-use Rattle.meaning.specs.Book.{slotOf, look, meant, careBytes, head, rows, write}
+use Rattle.meaning.specs.Book.{Meaning, nOf, numbersOf, ownOf, seasonOf, sheetPlace, downOf, limitOf, helpedOf, careOf, slotOf, look}
+use Rattle.meaning.specs.Book.{meant, careBytes, head, rows, write}
 use Rattle.meaning.specs.Legal.{legal, IsBook}
 use Rattle.meaning.proofs.Parts.{getD-first, part-before, part-after}
 use Rattle.meaning.proofs.Legality.{facts-legal, slots-all}

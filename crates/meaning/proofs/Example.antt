@@ -8,12 +8,12 @@ use mathlib.Core.Option.{some}
 use lib.Ieee.{ofBits, toBits}
 use lib.ListN.{replicate}
 use Rattle.card.specs.Card.{houses, downOk}
-use Rattle.lot.specs.Sheet.{gateLegal}
+use Rattle.sheet.specs.Sheet.{gateLegal}
 use Rattle.sheet.specs.Kept.{sheetBytes, sheetAt, isSheet, sheetLegalAt}
-use Rattle.protocol.specs.Entry.{Decl}
+use Rattle.entry.specs.Entry.{Decl}
 use Rattle.meaning.specs.Slot.{slotAt, putSlot}
-use Rattle.meaning.specs.Layout.{numbersOk, mostLimit, lengthOf, slotPlace, entrySlot}
-use Rattle.meaning.specs.Layout.{sendSlot, echoSlot, readySlot, readySentSlot, deliveredSlot}
+use Rattle.meaning.specs.Layout.{numbersOk, mostLimit, lengthOf, slotPlace, entrySlot, sendSlot, echoSlot, readySlot, readySentSlot}
+use Rattle.meaning.specs.Layout.{deliveredSlot}
 use Rattle.meaning.specs.Book.{look, write}
 use Rattle.meaning.specs.Legal.{legal}
 use Rattle.meaning.specs.Opening.{opened, lengthAnswer}

@@ -12,7 +12,7 @@ use borrow.Author.Tests.{eq-eqb, ltb-true, lt-ltb}
 use Rattle.words.specs.Words.{Bytes}
 use Rattle.words.proofs.Laws.{be-wordAt}
 use Rattle.words.proofs.Listed.{listed, listed-is}
-use Rattle.lot.specs.Sheet.{sheetLegal}
+use Rattle.sheet.specs.Sheet.{sheetLegal}
 use Rattle.sheet.specs.Kept.{sheetBytes, sheetAt, sheetLegalAt, isSheet}
 use Rattle.sheet.proofs.Gates.{legal-sheet}
 use Rattle.sheet.proofs.OneForm.{bytes-of-sheet}

@@ -12,11 +12,11 @@ use lib.ListN.{getD, set, take, drop, length-drop, length-set}
 use lib.Seq.{getD-set-same, getD-set-other, getD-drop, ext-getD}
 use borrow.Author.Tests.{eqb-true, eqb-false, lt-ltb}
 use Rattle.words.specs.Words.{Bytes}
-use Rattle.protocol.specs.Entry.{upd}
+use Rattle.entry.specs.Entry.{upd}
 use Rattle.meaning.specs.Slot.{part, slotAt, slotOk}
 use Rattle.meaning.specs.Layout.{mostLimit, helpedPlace, slotCount, slotPlace}
-use Rattle.meaning.specs.Book.{nOf, numbersOf, ownOf, downOf, limitOf, helpedOf, careOf}
-use Rattle.meaning.specs.Book.{moreCare, withCare, countHelp, slotOf, meant, write}
+use Rattle.meaning.specs.Book.{nOf, numbersOf, ownOf, downOf, limitOf, helpedOf, careOf, moreCare, withCare, countHelp, slotOf, meant}
+use Rattle.meaning.specs.Book.{write}
 use Rattle.meaning.specs.Legal.{legal, Legal}
 use Rattle.meaning.proofs.Legality.{legal-facts, facts-legal, slots-at, slots-all, header-within}
 use Rattle.meaning.proofs.Places.{slot-past-header}

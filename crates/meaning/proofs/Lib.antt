@@ -16,3 +16,5 @@ pub mod Opening
 pub mod Example
 pub mod Helped
 pub mod Claims
+pub mod Seen
+pub mod Room

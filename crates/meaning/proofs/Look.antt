@@ -10,12 +10,11 @@ use lib.Dec.{eqb}
 use borrow.Author.Tests.{eq-eqb, lt-ltb}
 use Rattle.card.specs.Count.{count}
 use Rattle.card.proofs.Counting.{count-same}
-use Rattle.protocol.specs.Entry.{Decl, Kind, SEND, ECHO, READY, Entry, heard, holds, votes}
+use Rattle.entry.specs.Entry.{Decl, Kind, SEND, ECHO, READY, Entry, heard, holds, votes}
 use Rattle.meaning.specs.Slot.{slotAt}
-use Rattle.meaning.specs.Layout.{slotPlace, entrySlot, readySentSlot, deliveredSlot}
+use Rattle.meaning.specs.Layout.{slotPlace, entrySlot, readySentSlot, deliveredSlot, heardSlot}
 use Rattle.meaning.specs.Book.{nOf, numbersOf, ownOf, slotOf, look}
 use Rattle.meaning.proofs.Entries.{entryFrom, entries-in}
-use Rattle.meaning.specs.Layout.{heardSlot}
 
 -- slot k of the book, with n houses
 abbrev slotNo : List ℕ → ℕ → ℕ → Option Decl

@@ -13,9 +13,9 @@ use Rattle.words.specs.Words.{Bytes}
 use Rattle.words.proofs.Laws.{wordAt-small}
 use Rattle.sheet.specs.Kept.{keptAt, sheetAt}
 use Rattle.sheet.proofs.OneForm.{gate-fits}
-use Rattle.protocol.specs.Entry.{Decl, fresh}
-use Rattle.meaning.specs.Layout.{helpedPlace, perEntry, slotCount, slotPlace, entrySlot}
-use Rattle.meaning.specs.Layout.{sendSlot, echoSlot, readySlot, readySentSlot, deliveredSlot}
+use Rattle.entry.specs.Entry.{Decl, fresh}
+use Rattle.meaning.specs.Layout.{helpedPlace, perEntry, slotCount, slotPlace, entrySlot, sendSlot, echoSlot, readySlot, readySentSlot}
+use Rattle.meaning.specs.Layout.{deliveredSlot}
 use Rattle.meaning.specs.Book.{nOf, numbersOf, ownOf, limitOf, helpedOf, careOf, slotOf, forHouses, meant}
 use Rattle.meaning.specs.Legal.{legal, IsSlot, IsEntry, IsBook}
 use Rattle.meaning.proofs.Legality.{legal-facts, header-within, slot-within-book}

@@ -8,9 +8,7 @@ use native.Mathlib.Nat.{add-zero, mul-add-div-right, mul-add-mod-self-right, div
 use native.Mathlib.Omega.{arith}
 use lib.Dec.{eqb, ltb}
 use borrow.Author.Tests.{eqb-true, eqb-false, ltb-true, ltb-false, lt-ltb, le-ltb}
-use Rattle.protocol.specs.Entry.{Decl, Entry, fresh}
-use Rattle.protocol.specs.Book.{PerEntry}
-use Rattle.protocol.specs.Claims.{Stays, Filled}
+use Rattle.entry.specs.Entry.{Decl, Entry, fresh, PerEntry, Stays, Filled}
 use Rattle.meaning.specs.Layout.{perEntry, entrySlot, echoSlot, readySlot, readySentSlot, deliveredSlot}
 use Rattle.meaning.specs.Book.{Meaning, forHouses}
 use Rattle.meaning.specs.Legal.{IsSlot, IsEntry, IsBook}

@@ -7,8 +7,7 @@ use mathlib.Core.List.{List, _++_}
 use native.Mathlib.Omega.{arith}
 use Rattle.words.specs.Words.{Bytes}
 use Rattle.sheet.specs.Kept.{sheetAt}
-use Rattle.protocol.specs.Entry.{Entry}
-use Rattle.protocol.specs.Book.{place}
+use Rattle.entry.specs.Entry.{Entry, place}
 use Rattle.meaning.specs.Slot.{slotBytes, part}
 use Rattle.meaning.specs.Layout.{headLength, slotCount, lengthOf, slotPlace}
 use Rattle.meaning.specs.Book.{nOf, numbersOf, ownOf, seasonOf, sheetPlace, careOf, slotOf, look, meant, rows, write}

@@ -13,11 +13,11 @@ use borrow.Author.Tests.{eqb-true, ltb-true, leb-true}
 use Rattle.card.specs.Card.{houses, downOk}
 use Rattle.words.specs.Words.{Bytes, be32}
 use Rattle.words.proofs.Laws.{wordAt-small}
-use Rattle.lot.specs.declared.Sheet.{Sheet}
+use Rattle.sheet.specs.declared.Sheet.{Sheet}
 use Rattle.sheet.specs.Kept.{keptAt, sheetAt, isSheet}
 use Rattle.sheet.proofs.Gates.{sheet-legal}
 use Rattle.sheet.proofs.OneForm.{gate-fits, bytes-of-sheet}
-use Rattle.protocol.specs.Entry.{Decl, fresh}
+use Rattle.entry.specs.Entry.{Decl, fresh}
 use Rattle.meaning.specs.Slot.{slotBytes}
 use Rattle.meaning.specs.Layout.{numbersOk, mostLimit, slotLength, slotCount, lengthOf}
 use Rattle.meaning.specs.Book.{Care, Meaning, meant, careBytes, head, write}

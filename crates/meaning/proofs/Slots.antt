@@ -14,12 +14,11 @@ use lib.Seq.{length-take-le, take-all, drop-drop}
 use borrow.Author.Tests.{eqb-true}
 use Rattle.words.specs.Words.{Bytes}
 use Rattle.words.proofs.Bytes.{bytes-append, bytes-cons, bytes-drop, bytes-take, bytes-zeros}
-use Rattle.protocol.specs.Entry.{Decl, same}
-use Rattle.protocol.proofs.Basics.{T-of, same-eq}
+use Rattle.entry.specs.Entry.{Decl, same}
+use Rattle.entry.proofs.Basics.{T-of, same-eq}
 use Rattle.meaning.specs.Slot.{slotBytes, part, slotAt, slotOk, putSlot}
 use Rattle.meaning.specs.Legal.{IsDecl, IsSlot}
-use Rattle.meaning.proofs.Parts.{part-length, getD-first, part-part, part-all, part-before, part-after}
-use Rattle.meaning.proofs.Parts.{bytes-part}
+use Rattle.meaning.proofs.Parts.{part-length, getD-first, part-part, part-all, part-before, part-after, bytes-part}
 
 -- ---- a slot is what its 21 bytes say
 

@@ -12,22 +12,20 @@ use lib.ListN.{length, getD}
 use borrow.Author.Tests.{eqb-true, eqb-false, eq-eqb}
 use Rattle.words.specs.Words.{Bytes}
 use Rattle.sheet.specs.Kept.{sheetAt}
-use Rattle.protocol.specs.Entry.{Decl, Kind, SEND, ECHO, READY, Entry, upd}
-use Rattle.protocol.specs.Steps.{recorded, marked, publishes}
-use Rattle.protocol.specs.Book.{PerEntry, sameEntry, place}
+use Rattle.entry.specs.Entry.{Decl, Kind, SEND, ECHO, READY, Entry, upd, recorded, marked, PerEntry, sameEntry, place}
+use Rattle.entry.specs.Entry.{announced}
 use Rattle.meaning.specs.Slot.{slotAt, slotOk, putSlot}
-use Rattle.meaning.specs.Layout.{helpedPlace, perEntry, slotCount, slotPlace, entrySlot}
-use Rattle.meaning.specs.Layout.{sendSlot, echoSlot, readySlot, readySentSlot, deliveredSlot, heardSlot}
+use Rattle.meaning.specs.Layout.{helpedPlace, perEntry, slotCount, slotPlace, entrySlot, sendSlot, echoSlot, readySlot, readySentSlot}
+use Rattle.meaning.specs.Layout.{deliveredSlot, heardSlot}
 use Rattle.meaning.specs.Book.{nOf, numbersOf, ownOf, seasonOf, sheetPlace, limitOf, careOf, slotOf, look}
 use Rattle.meaning.specs.Legal.{legal, Legal, IsDecl}
 use Rattle.meaning.proofs.Legality.{legal-facts, facts-legal, slots-at, slots-all, slot-within-book}
 use Rattle.meaning.proofs.Places.{slot-past-header, slots-apart, entry-slot-below, published-slot-below}
 use Rattle.meaning.proofs.Slots.{put-length, slot-put, ok-put, put-bytes, getD-elsewhere, slot-elsewhere, ok-elsewhere}
-use Rattle.meaning.proofs.Header.{same-n, same-numbers, same-own, same-season, same-sheet, same-sheet-legal}
-use Rattle.meaning.proofs.Header.{same-down, same-limit, same-helped, same-care}
-use Rattle.meaning.proofs.Entries.{entryFrom, rowIn, publishedIn, entriesIn, look-is}
-use Rattle.meaning.proofs.Entries.{same-entry, entries-in, entries-put, entries-published}
-use Rattle.meaning.proofs.Entries.{send-filled, echo-filled, ready-filled, ready-sent-filled, delivered-filled}
+use Rattle.meaning.proofs.Header.{same-n, same-numbers, same-own, same-season, same-sheet, same-sheet-legal, same-down, same-limit}
+use Rattle.meaning.proofs.Header.{same-helped, same-care}
+use Rattle.meaning.proofs.Entries.{entryFrom, rowIn, publishedIn, entriesIn, look-is, same-entry, entries-in, entries-put}
+use Rattle.meaning.proofs.Entries.{entries-published, send-filled, echo-filled, ready-filled, ready-sent-filled, delivered-filled}
 
 -- bytes a after bytes b: legal, the same header, and the same entries but for e at sender j and number c
 pub record Stored (b a : List ℕ) (j c : ℕ) (e : Entry) : Type 0 where
@@ -196,22 +194,22 @@ module _ (b : List ℕ) (h : legal b ≡ true) (bytes : Bytes b) (v : Decl) (d :
 
   -- the slot of the own number c filled
   abbrev InPublished : (n s : ℕ) → Type 0
-  InPublished n s = (j c : ℕ) → j ≡ ownOf b → c < s → Stored b (putSlot b (slotPlace n c) v) j c (publishes v (look b j c) .entry)
+  InPublished n s = (j c : ℕ) → j ≡ ownOf b → c < s → Stored b (putSlot b (slotPlace n c) v) j c (announced v (look b j c))
 
   in-published : InPublished (nOf b) (numbersOf b)
-  unfolding look publishes
+  unfolding look
   in-published j c e hc =
       let n = nOf b in
       let s = numbersOf b in
       let hj : j < n = omega (arith, facts .own) in
-      stored-slot c (published-slot-below n s c hc) j c (publishes v (look b j c) .entry)
+      stored-slot c (published-slot-below n s c hc) j c (announced v (look b j c))
       (entries-published n s (ownOf b) (slotOf b) j c hj hc (some v) e
-      ∙ ap (place (look b) j c) (ap (λ (x : Entry). publishes v x .entry) (sym (entries-in n s (ownOf b) (slotOf b) j c hj hc))))
+      ∙ ap (place (look b) j c) (ap (announced v) (sym (entries-in n s (ownOf b) (slotOf b) j c hj hc))))
 
   -- ---- the stores that calls make, with the book's n and S as the caller has them
 
   module _ (n s : ℕ) (en : nOf b ≡ n) (es : numbersOf b ≡ s) (j c : ℕ) where
-    pub stored-published : j ≡ ownOf b → c < s → Stored b (putSlot b (slotPlace n c) v) j c (publishes v (look b j c) .entry)
+    pub stored-published : j ≡ ownOf b → c < s → Stored b (putSlot b (slotPlace n c) v) j c (announced v (look b j c))
     stored-published e hc = subst₂ InPublished en es in-published j c e hc
 
     module _ (hj : j < n) (hc : c < s) where

@@ -9,9 +9,8 @@ use mathlib.Core.Option.{Option}
 use native.Mathlib.Nat.{add-assoc}
 use native.Mathlib.Omega.{arith}
 use borrow.Author.Tests.{eq-eqb, lt-ltb}
-use Rattle.lot.specs.declared.Sheet.{Sheet}
-use Rattle.protocol.specs.Entry.{Decl, Entry}
-use Rattle.protocol.specs.Book.{PerEntry}
+use Rattle.sheet.specs.declared.Sheet.{Sheet}
+use Rattle.entry.specs.Entry.{Decl, Entry, PerEntry}
 use Rattle.meaning.specs.Slot.{slotBytes}
 use Rattle.meaning.specs.Layout.{headLength, perEntry, slotCount, entrySlot, echoSlot, readySlot}
 use Rattle.meaning.specs.Book.{Care, Meaning, forHouses, careBytes, head, rows, entryBytes, write}

@@ -7,13 +7,12 @@ use mathlib.Core.Option.{Option, none}
 use lib.Dec.{eqb, ltb}
 use lib.ListN.{getD, set}
 use Rattle.words.specs.Words.{be32, wordAt}
-use Rattle.lot.specs.declared.Sheet.{Sheet}
+use Rattle.sheet.specs.declared.Sheet.{Sheet}
 use Rattle.sheet.specs.Kept.{sheetBytes, sheetAt}
-use Rattle.protocol.specs.Entry.{Decl, Entry, fresh, upd}
-use Rattle.protocol.specs.Book.{PerEntry}
+use Rattle.entry.specs.Entry.{Decl, Entry, fresh, upd, PerEntry}
 use Rattle.meaning.specs.Slot.{slotBytes, slotAt}
-use Rattle.meaning.specs.Layout.{downPlace, limitPlace, helpedPlace, slotPlace, entrySlot}
-use Rattle.meaning.specs.Layout.{sendSlot, echoSlot, readySlot, readySentSlot, deliveredSlot}
+use Rattle.meaning.specs.Layout.{downPlace, limitPlace, helpedPlace, slotPlace, entrySlot, sendSlot, echoSlot, readySlot}
+use Rattle.meaning.specs.Layout.{readySentSlot, deliveredSlot}
 
 -- f, d, and how often each asker was helped
 pub record Care : Type 0 where
@@ -91,6 +90,10 @@ slotOf b k = slotAt b (slotPlace (nOf b) k)
 unfoldable pub slotIn : List ℕ → (sender number i : ℕ) → Option Decl
 unfolding slotOf
 slotIn b j c i = slotOf b (entrySlot (nOf b) (numbersOf b) c j i)
+
+-- where slot i of the entry of sender j and number c begins
+abbrev pub placeIn : List ℕ → (sender number i : ℕ) → ℕ
+placeIn b j c i = slotPlace (nOf b) (entrySlot (nOf b) (numbersOf b) c j i)
 
 -- a slot for each house below n
 abbrev pub forHouses : ℕ → (ℕ → Option Decl) → ℕ → Option Decl

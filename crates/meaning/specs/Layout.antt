@@ -4,7 +4,7 @@
 use Prim.Native.Nat.{ℕ, _+_, _*_}
 use mathlib.Core.Bool.{Bool, _&&_}
 use lib.Dec.{leb}
-use Rattle.protocol.specs.Entry.{Kind, SEND, ECHO, READY}
+use Rattle.entry.specs.Entry.{Kind, SEND, ECHO, READY}
 
 -- entry numbers S: 1 to 4 per sender
 unfoldable pub mostNumbers : ℕ

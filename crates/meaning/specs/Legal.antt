@@ -9,9 +9,9 @@ use lib.Dec.{eqb, leb, ltb}
 use lib.ListN.{length, getD}
 use Rattle.card.specs.Card.{houses, downOk}
 use Rattle.words.specs.Words.{Bytes}
-use Rattle.lot.specs.Sheet.{GateFits, sheetLegal}
+use Rattle.sheet.specs.Sheet.{GateFits, sheetLegal}
 use Rattle.sheet.specs.Kept.{sheetLegalAt}
-use Rattle.protocol.specs.Entry.{Decl, Entry, fresh}
+use Rattle.entry.specs.Entry.{Decl, Entry, fresh}
 use Rattle.meaning.specs.Slot.{slotOk}
 use Rattle.meaning.specs.Layout.{numbersOk, mostLimit, helpedPlace, slotCount, lengthOf, slotPlace}
 use Rattle.meaning.specs.Book.{Meaning, nOf, numbersOf, ownOf, downOf, limitOf, sheetPlace}
@@ -56,6 +56,12 @@ pub record Legal (b : List ℕ) : Type 0 where
 pub record Lent (b : List ℕ) : Type 0 where
   pub legal : legal b ≡ true
   pub bytes : Bytes b
+
+-- a legal book that has the entry of sender j and number c
+pub record Has (b : List ℕ) (j c : ℕ) : Type 0 where
+  pub is-legal : legal b ≡ true
+  pub sender : j < nOf b
+  pub number : c < numbersOf b
 
 -- any 20 bytes may stand as a recorded declaration
 pub record IsDecl (v : Decl) : Type 0 where

@@ -6,9 +6,9 @@ use mathlib.Core.List.{List}
 use lib.Dec.{eqb, leb, ltb}
 use lib.ListN.{length}
 use Rattle.card.specs.Card.{houses, downOk}
-use Rattle.lot.specs.declared.Sheet.{Sheet}
+use Rattle.sheet.specs.declared.Sheet.{Sheet}
 use Rattle.sheet.specs.Kept.{isSheet, sheetAt}
-use Rattle.protocol.specs.Entry.{fresh}
+use Rattle.entry.specs.Entry.{fresh}
 use Rattle.meaning.specs.Layout.{numbersOk, mostLimit, lengthOf}
 use Rattle.meaning.specs.Book.{Care, Meaning, write}
 

@@ -6,7 +6,7 @@ use mathlib.Core.List.{List, _∷_, _++_}
 use mathlib.Core.Option.{Option, none, some}
 use lib.Dec.{eqb}
 use lib.ListN.{getD, take, drop, replicate}
-use Rattle.protocol.specs.Entry.{Decl, same}
+use Rattle.entry.specs.Entry.{Decl, same}
 
 -- the 21 bytes of a slot: none, or a declaration's 20 bytes
 unfoldable pub slotBytes : Option Decl → List ℕ

@@ -3,4 +3,3 @@ pub mod RoundTrip
 pub mod Told
 pub mod Request
 pub mod Claims
-pub mod Settled

@@ -7,18 +7,15 @@ use mathlib.Core.Option.{Option, none, some}
 use mathlib.Core.List.{List, [], _∷_, _++_}
 use Prim.Native.Nat.{ℕ, zero, suc, _+_, _≤_}
 use native.Mathlib.Omega.{arith}
-use lib.Dec.{T, eqb, ltb, eqb→eq, eqb-refl, ltb→lt}
+use lib.Dec.{T, eqb, ltb, eqb→eq, ltb→lt}
 use Rattle.card.specs.Count.{bit, count}
 use Rattle.card.proofs.Counting.{count-same, count-none}
-use Rattle.protocol.specs.Entry.{Decl, Kind, SEND, ECHO, READY, Entry, own, isKind, isSome, holds}
-use Rattle.protocol.specs.Book.{sameEntry, Book}
+use Rattle.entry.specs.Entry.{Decl, Kind, SEND, ECHO, READY, Entry, own, isKind, isSome, holds, sameEntry}
+use Rattle.protocol.specs.Book.{Book}
 use Rattle.protocol.specs.Run.{Copy, copyTo, each, toThose, againKind, againOn, again, tally, onIt, copiesOf}
-use Rattle.protocol.proofs.Basics.{bcase, T-of, and-l, and-r, and-mk, and-false}
+use Rattle.entry.proofs.Basics.{bcase, T-of, and-l, and-r, and-false, entry-refl}
 use Rattle.protocol.proofs.Mail.{tally-append}
 use Rattle.protocol.proofs.Sums.{total, total-only, total-has, tally-each}
-
-pub entry-refl : (j c : ℕ) → T (sameEntry j c j c)
-entry-refl j c = and-mk (eqb j j) (eqb c c) (eqb-refl j) (eqb-refl c)
 
 -- a copy of a kind, from a house and to a house that pass the tests
 abbrev pub way : Kind → (ℕ → Bool) → (ℕ → Bool) → Copy → Bool

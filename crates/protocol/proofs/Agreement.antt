@@ -11,12 +11,12 @@ use lib.Dec.{T, eqb-refl}
 use Rattle.card.specs.Count.{count}
 use Rattle.card.proofs.Counting.{count-mono, count-find}
 use Rattle.card.proofs.Overlap.{share}
-use Rattle.protocol.specs.Entry.{Decl, SEND, ECHO, READY, Entry, holds, upd}
+use Rattle.entry.specs.Entry.{Decl, SEND, ECHO, READY, Entry, holds, upd}
 use Rattle.protocol.specs.Steps.{Out}
 use Rattle.protocol.specs.Book.{Call}
 use Rattle.protocol.specs.Run.{n, isWrong, Wall, Copy, Step, right, start, run}
 use Rattle.protocol.specs.Thresholds.{Tolerated}
-use Rattle.protocol.proofs.Basics.{not-not, and-l, and-r, none-some, holds-eq, eq-holds, upd-all}
+use Rattle.entry.proofs.Basics.{not-not, and-l, and-r, none-some, holds-eq, eq-holds, upd-all}
 use Rattle.protocol.proofs.Invariant.{View, Books, Inv, Act, act-heard}
 use Rattle.protocol.proofs.Views.{view}
 use Rattle.protocol.proofs.Runs.{holds-from-start}

@@ -14,17 +14,17 @@ use lib.ListN.{length}
 use borrow.Author.Tests.{lt-ltb}
 use Rattle.card.specs.Count.{bit, count}
 use Rattle.card.proofs.Counting.{count-mono, count-not, count-none, count-one}
-use Rattle.protocol.specs.Entry.{Decl, Kind, SEND, ECHO, READY, heard, own, isKind, isSome}
+use Rattle.entry.specs.Entry.{Decl, Kind, SEND, ECHO, READY, heard, own, isKind, isSome}
 use Rattle.protocol.specs.Steps.{publish, publishAnswer, publishes}
 use Rattle.protocol.specs.Book.{Book, publishing, outcome}
 use Rattle.protocol.specs.Run.{n, Wall, Copy, State, Limited, right, h, at, onIt, copiesOf}
 use Rattle.protocol.specs.Claims.{Safe, Bounded, Single}
-use Rattle.protocol.proofs.Basics.{true-of, not-of, and-l, and-r, and-mk, isKind-refl, some-of}
+use Rattle.entry.proofs.Basics.{true-of, not-of, and-l, and-r, and-mk, isKind-refl, some-of, entry-refl}
 use Rattle.protocol.proofs.Moves.{listOf}
 use Rattle.protocol.proofs.Slots.{run-fills}
 use Rattle.protocol.proofs.Mail.{copies-kinds, copies-split, tally-at, tally-same}
 use Rattle.protocol.proofs.Sums.{total-most}
-use Rattle.protocol.proofs.Again.{entry-refl, way}
+use Rattle.protocol.proofs.Again.{way}
 use Rattle.protocol.proofs.Invariant.{View, Inv, load}
 use Rattle.protocol.proofs.Views.{view}
 use Rattle.protocol.proofs.Consuming.{answers, sent-by}

@@ -7,13 +7,13 @@ use mathlib.Core.Option.{Option, none, some}
 use Prim.Native.Nat.{ℕ, zero, suc}
 use native.Mathlib.Omega.{arith}
 use lib.Dec.{T, eqb, ltb, eqb→eq, eqb-refl}
-use Rattle.protocol.specs.Entry.{Decl, Kind, SEND, ECHO, READY, Entry, Rules, heard, own, isNone}
-use Rattle.protocol.specs.Steps.{Say, say, Out, refused, settle, may, recording, publishes, takesSend, takesEcho, takesReady, takes}
-use Rattle.protocol.specs.Steps.{receiveAnswer, receive, publishAnswer, publish}
-use Rattle.protocol.specs.Book.{sameEntry, Book, Call, publishing, receiving, inBook, senderOf, numberOf, onEntry, outcome, after}
-use Rattle.protocol.specs.Book.{publication}
+use Rattle.entry.specs.Entry.{Decl, Kind, SEND, ECHO, READY, Entry, heard, own, isNone, sameEntry}
+use Rattle.protocol.specs.Steps.{Rules, receiveAnswer, receive, publishAnswer, publish, Say, say, Out, refused, settle, may}
+use Rattle.protocol.specs.Steps.{recording, publishes, takesSend, takesEcho, takesReady, takes}
+use Rattle.protocol.specs.Book.{Book, Call, publishing, receiving, inBook, senderOf, numberOf, onEntry, outcome, after, publication}
 use Rattle.protocol.specs.Claims.{Alone}
-use Rattle.protocol.proofs.Basics.{bcase, T-of, and-l, and-r, none-of, none-some, must-zero, must-pass, upd-same, upd-new}
+use Rattle.entry.proofs.Basics.{bcase, T-of, and-l, and-r, none-of, none-some, upd-same, upd-new}
+use Rattle.protocol.proofs.Basics.{must-zero, must-pass}
 use Rattle.protocol.proofs.Moves.{Local, Moves, local-same, other-kind, no-message, takes-moves, takes-local, refused-moves}
 
 -- 7 stands for a full slot, and 0 for an empty one

@@ -8,17 +8,17 @@ use Prim.Native.Nat.{ℕ, _+_, _≤_, _<_}
 use native.Mathlib.Omega.{arith}
 use lib.Dec.{T, eqb, ltb, eqb→eq, eqb-refl}
 use Rattle.card.specs.Count.{bit}
-use Rattle.protocol.specs.Entry.{Decl, Kind, Entry, Rules, heard, own, isKind, isSome, upd}
-use Rattle.protocol.specs.Steps.{Out, may}
+use Rattle.entry.specs.Entry.{Decl, Kind, Entry, heard, own, isKind, isSome, upd}
+use Rattle.protocol.specs.Steps.{Rules, Out, may}
 use Rattle.protocol.specs.Book.{Call, inBook, outcome}
 use Rattle.protocol.specs.Run.{n, Wall, Copy, State, right, at, consumedCopy, consumeAt, opens, onIt}
-use Rattle.protocol.proofs.Basics.{bcase, T-of, true-of, and-l, and-r, and-mk, and-false, isKind-eq}
-use Rattle.protocol.proofs.Basics.{isKind-refl, some-of, isSome-of, upd-all, upd-same}
-use Rattle.protocol.proofs.Moves.{filled-heard}
+use Rattle.entry.proofs.Basics.{bcase, T-of, true-of, and-l, and-r, and-mk, and-false, isKind-eq, entry-refl, isKind-refl, some-of}
+use Rattle.entry.proofs.Basics.{isSome-of, upd-all, upd-same}
+use Rattle.entry.proofs.Filled.{filled-heard}
 use Rattle.protocol.proofs.Calls.{Brings, Done, outcome-done, outcome-booked, receive-taken, receive-repeat}
 use Rattle.protocol.proofs.Mail.{tally-at, tally-change}
 use Rattle.protocol.proofs.Invariant.{Inv, Act, unread, came, bit-le, true-copy}
-use Rattle.protocol.proofs.Again.{way, entry-refl}
+use Rattle.protocol.proofs.Again.{way}
 use Rattle.protocol.proofs.Views.{view, out, Named}
 
 -- what is heard stays heard

@@ -11,14 +11,14 @@ use native.Mathlib.Omega.{arith}
 use lib.Dec.{T, eqb, ltb, ltb→lt}
 use Rattle.card.specs.Count.{bit}
 use Rattle.card.proofs.Counting.{count-none}
-use Rattle.protocol.specs.Entry.{SEND, ECHO, READY}
+use Rattle.entry.specs.Entry.{SEND, ECHO, READY, sameEntry}
 use Rattle.protocol.specs.Steps.{Say, say}
-use Rattle.protocol.specs.Book.{sameEntry, outcome}
+use Rattle.protocol.specs.Book.{outcome}
 use Rattle.protocol.specs.Run.{n, Wall, Copy, Request, Power, State, Step, consume, help, right, isUp, h, at, consumedCopy, consumeAt}
-use Rattle.protocol.specs.Run.{posted, opens, called, arrives, consumes, helpAnswer, helps, consumedRequest, taken, asked}
-use Rattle.protocol.specs.Run.{step, run, tally, onIt, upCopy, upRequest, Drained}
+use Rattle.protocol.specs.Run.{posted, opens, called, arrives, consumes, helpAnswer, helps, consumedRequest, taken, asked, step, run}
+use Rattle.protocol.specs.Run.{tally, onIt, upCopy, upRequest, Drained}
 use Rattle.protocol.specs.Claims.{consumption, Drainable}
-use Rattle.protocol.proofs.Basics.{true-of, false-of, and-l, and-r, and-false}
+use Rattle.entry.proofs.Basics.{true-of, false-of, and-l, and-r, and-false}
 use Rattle.protocol.proofs.Mail.{bit-one, find, tally-mono, tally-append, tally-change, tally-toAll}
 use Rattle.protocol.proofs.Sums.{total, total-has}
 use Rattle.protocol.proofs.Invariant.{Inv, load}

@@ -6,7 +6,7 @@ use Prim.Native.Nat.{_≤_}
 use native.Mathlib.Omega.{arith}
 use lib.Dec.{eqb, ltb, lit<, lit≤}
 use Rattle.card.specs.Card.{quorum, amplify, deliver}
-use Rattle.protocol.specs.Entry.{same}
+use Rattle.entry.specs.Entry.{same}
 use Rattle.protocol.specs.Steps.{publishes, takesSend, takesEcho, takesReady, recording, receive, publish}
 use Rattle.protocol.specs.Book.{outcome, after}
 use Rattle.protocol.specs.Run.{called, arrives, consumes, comes, helpAnswer, helps, asked, step, run, copies}

@@ -10,18 +10,19 @@ use native.Mathlib.Omega.{arith}
 use lib.Dec.{T, T-not, not-T, eqb, ltb, eqb-refl, ltb→lt}
 use Rattle.card.specs.Count.{bit, count}
 use Rattle.card.proofs.Counting.{count-same, count-set, count-none, count-pos}
-use Rattle.protocol.specs.Entry.{Decl, Kind, Entry, heard, own, isKind, isSome, holds, upd}
+use Rattle.entry.specs.Entry.{Decl, Kind, Entry, heard, own, isKind, isSome, holds, upd, sameEntry}
 use Rattle.protocol.specs.Steps.{Say, say, Out, may}
-use Rattle.protocol.specs.Book.{sameEntry, Call, inBook, publication}
-use Rattle.protocol.specs.Run.{n, Wall, Copy, Request, Power, Limited, right, at, consumedCopy, copyTo, toAll, posted, push}
-use Rattle.protocol.specs.Run.{tally, onIt, copiesOf}
-use Rattle.protocol.proofs.Basics.{bcase, T-of, T-not-of, true-of, not-of, and-l, and-r, and-mk, and-false, both, isKind-eq}
-use Rattle.protocol.proofs.Basics.{isKind-refl, some-of, isSome-of, holds-eq, eq-holds, upd-all, upd-same, upd-other}
-use Rattle.protocol.proofs.Moves.{Local, filled-own, no-message, listOf}
+use Rattle.protocol.specs.Book.{Call, inBook, publication}
+use Rattle.protocol.specs.Run.{n, Wall, Copy, Request, Power, Limited, right, at, consumedCopy, copyTo, toAll, posted, push, tally}
+use Rattle.protocol.specs.Run.{onIt, copiesOf}
+use Rattle.entry.proofs.Basics.{bcase, T-of, T-not-of, true-of, not-of, and-l, and-r, and-mk, and-false, both, isKind-eq, entry-refl}
+use Rattle.entry.proofs.Basics.{isKind-refl, some-of, isSome-of, holds-eq, eq-holds, upd-all, upd-same, upd-other}
+use Rattle.protocol.proofs.Moves.{Local, no-message, listOf}
+use Rattle.entry.proofs.Filled.{filled-own}
 use Rattle.protocol.proofs.Calls.{Brings, Done}
 use Rattle.protocol.proofs.Mail.{tally-at, tally-mono, tally-append, tally-toAll}
 use Rattle.protocol.proofs.Sums.{total, total-mono, total-more}
-use Rattle.protocol.proofs.Again.{entry-refl, way, true-to}
+use Rattle.protocol.proofs.Again.{way, true-to}
 
 -- one entry of every book, and all copies
 pub record View : Type 0 where

@@ -9,7 +9,7 @@ use native.Mathlib.Omega.{arith}
 use lib.Dec.{T}
 use Rattle.card.specs.Count.{bit, count}
 use Rattle.card.proofs.Counting.{count-mono}
-use Rattle.protocol.specs.Entry.{Decl, Kind, SEND, ECHO, READY, isKind}
+use Rattle.entry.specs.Entry.{Decl, Kind, SEND, ECHO, READY, isKind}
 use Rattle.protocol.specs.Run.{Copy, at, changeAt, copyTo, toAll, tally, onIt, copiesOf}
 
 pub bit-one : (a : Bool) → T a → bit a ≡ 1

@@ -8,13 +8,13 @@ use mathlib.Core.List.{List, [], _∷_}
 use Prim.Native.Nat.{ℕ, _≤_}
 use native.Mathlib.Omega.{arith}
 use lib.Dec.{T, leb→le}
-use Rattle.protocol.specs.Entry.{Decl, Kind, SEND, ECHO, READY, Entry, Rules, heard, own, isKind, isNone, upd, votes}
-use Rattle.protocol.specs.Steps.{Say, say, Out, refused, given, mark, recorded, marked, reached, may, takesSend, takesEcho}
-use Rattle.protocol.specs.Steps.{takesReady, takes}
+use Rattle.entry.specs.Entry.{Decl, Kind, SEND, ECHO, READY, Entry, heard, own, isKind, isNone, upd, votes, mark, recorded, marked, Stays}
+use Rattle.entry.specs.Entry.{Filled}
+use Rattle.protocol.specs.Steps.{Rules, Say, say, Out, refused, given, reached, may, takesSend, takesEcho, takesReady, takes}
 use Rattle.protocol.specs.Run.{push}
-use Rattle.protocol.specs.Claims.{Stays, Filled}
-use Rattle.protocol.proofs.Basics.{T-not-of, and-l, and-r, isKind-refl, none-of, none-some, upd-keeps, votes-up, mark-keeps}
-use Rattle.protocol.proofs.Basics.{mark-new, Heeded, heeds}
+use Rattle.entry.proofs.Filled.{filled-refl, filled-trans, recorded-filled}
+use Rattle.entry.proofs.Basics.{T-not-of, and-l, and-r, isKind-refl, none-of, none-some, upd-keeps, votes-up, mark-keeps, mark-new}
+use Rattle.protocol.proofs.Basics.{Heeded, heeds}
 
 -- what holds of each honest house's entry by itself
 pub record Local (R : Rules) (e : Entry) : Type 0 where
@@ -40,38 +40,6 @@ pub record Moves (R : Rules) (j r : ℕ) (e : Entry) (o : Out) (x : Option Decl)
   pub delivers : push (o .delivery) (listOf (e .delivered)) ≡ listOf (o .entry .delivered)
   pub publishes : push x (listOf (e .published)) ≡ listOf (o .entry .published)
 
-pub filled-heard : {e e₂ : Entry} → Filled e e₂ → (k : Kind) (p : ℕ) → Stays (heard k p e) (heard k p e₂)
-filled-heard f SEND p = f .send
-filled-heard f ECHO p = f .echo p
-filled-heard f READY p = f .ready p
-
-pub filled-own : {e e₂ : Entry} → Filled e e₂ → (k : Kind) → Stays (own k e) (own k e₂)
-filled-own f SEND = f .published
-filled-own f ECHO = f .send
-filled-own f READY = f .readySent
-
-pub filled-refl : (e : Entry) → Filled e e
-filled-refl e =
-    record {
-      send = λ v x. x;
-      echo = λ p v x. x;
-      ready = λ p v x. x;
-      readySent = λ v x. x;
-      delivered = λ v x. x;
-      published = λ v x. x;
-    }
-
-pub filled-trans : {a b c : Entry} → Filled a b → Filled b c → Filled a c
-filled-trans f g =
-    record {
-      send = λ v x. g .send v (f .send v x);
-      echo = λ p v x. g .echo p v (f .echo p v x);
-      ready = λ p v x. g .ready p v (f .ready p v x);
-      readySent = λ v x. g .readySent v (f .readySent v x);
-      delivered = λ v x. g .delivered v (f .delivered v x);
-      published = λ v x. g .published v (f .published v x);
-    }
-
 -- a message of one kind says nothing of another
 pub other-kind : {A : Type 0} (k l : Kind) (v w : Decl) → isKind k l ≡ false → some (say k v) ≡ some (say l w) → A
 other-kind k l v w d e = let z : k ≡ l = cc in absurd (T-not-of d (rw z (isKind-refl l)))
@@ -82,35 +50,6 @@ no-message m e = absurd (let z : _≡_ {A = ℕ} 0 1 = cc in omega arith)
 mark-stays : (b : Bool) (v : Decl) (o : Option Decl) → (T b → T (isNone o)) → Stays o (mark b v o)
 mark-stays true v o f w e = absurd (none-some o w (none-of o (f tt)) e)
 mark-stays false v o f w e = e
-
-recorded-filled : (k : Kind) (p : ℕ) (v : Decl) (e : Entry) → heard k p e ≡ none → Filled e (recorded k p v e)
-recorded-filled SEND p v e h =
-    record {
-      send = λ w x. absurd (none-some (e .send) w h x);
-      echo = λ q w x. x;
-      ready = λ q w x. x;
-      readySent = λ w x. x;
-      delivered = λ w x. x;
-      published = λ w x. x;
-    }
-recorded-filled ECHO p v e h =
-    record {
-      send = λ w x. x;
-      echo = λ q w x. upd-keeps (e .echo) p v q w h x;
-      ready = λ q w x. x;
-      readySent = λ w x. x;
-      delivered = λ w x. x;
-      published = λ w x. x;
-    }
-recorded-filled READY p v e h =
-    record {
-      send = λ w x. x;
-      echo = λ q w x. x;
-      ready = λ q w x. upd-keeps (e .ready) p v q w h x;
-      readySent = λ w x. x;
-      delivered = λ w x. x;
-      published = λ w x. x;
-    }
 
 marked-filled : (b d : Bool) (v : Decl) (e : Entry) → (T b → T (isNone (e .readySent))) → (T d → T (isNone (e .delivered)))
     → Filled e (marked b d v e)

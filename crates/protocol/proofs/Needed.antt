@@ -3,7 +3,7 @@
 use mathlib.Core.Path.{refl}
 use lib.Dec.{lit≤}
 use Rattle.card.specs.Card.{quorum, amplify, deliver}
-use Rattle.protocol.specs.Entry.{same}
+use Rattle.entry.specs.Entry.{same}
 use Rattle.protocol.specs.Steps.{publishes, takesSend, takesEcho, takesReady, recording, receive, publish}
 use Rattle.protocol.specs.Book.{outcome, after}
 use Rattle.protocol.specs.Run.{called, arrives, consumes, comes, helpAnswer, helps, asked, step, run}

@@ -9,14 +9,14 @@ use native.Mathlib.Omega.{arith}
 use lib.Dec.{T, eqb, ltb, eqb→eq, eqb-refl, ltb→lt, lt→ltb}
 use Rattle.card.specs.Count.{bit, count}
 use Rattle.card.proofs.Counting.{count-none, count-one, count-pos}
-use Rattle.protocol.specs.Entry.{Decl, Kind, Entry, heard, own, isKind, isSome, holds, upd}
+use Rattle.entry.specs.Entry.{Decl, Kind, Entry, heard, own, isKind, isSome, holds, upd, sameEntry}
 use Rattle.protocol.specs.Steps.{may}
-use Rattle.protocol.specs.Book.{sameEntry, Book}
-use Rattle.protocol.specs.Run.{n, Wall, Copy, Request, Power, State, Limited, right, at, changeAt, consumeAt, consumedCopy}
-use Rattle.protocol.specs.Run.{each, againOn, again, requestTo, setDown, comes, helpAnswer, oneMore, helps, consumedRequest, taken}
-use Rattle.protocol.specs.Run.{tally, onIt, copiesOf}
-use Rattle.protocol.proofs.Basics.{bcase, T-of, T-not-of, true-of, and-l, and-r, and-mk, and-false, isSome-of, eq-holds}
-use Rattle.protocol.proofs.Basics.{must-zero, must-pass, upd-all, upd-same}
+use Rattle.protocol.specs.Book.{Book}
+use Rattle.protocol.specs.Run.{n, Wall, Copy, Request, Power, State, Limited, right, at, changeAt, consumeAt, consumedCopy, each}
+use Rattle.protocol.specs.Run.{againOn, again, requestTo, setDown, comes, helpAnswer, oneMore, helps, consumedRequest, taken, tally}
+use Rattle.protocol.specs.Run.{onIt, copiesOf}
+use Rattle.entry.proofs.Basics.{bcase, T-of, T-not-of, true-of, and-l, and-r, and-mk, and-false, isSome-of, eq-holds, upd-all, upd-same}
+use Rattle.protocol.proofs.Basics.{must-zero, must-pass}
 use Rattle.protocol.proofs.Mail.{tally-append, tally-change}
 use Rattle.protocol.proofs.Sums.{total-mono, total-more}
 use Rattle.protocol.proofs.Again.{way, true-to, again-none, on-way, again-le, again-ge}

@@ -9,13 +9,14 @@ use native.Mathlib.Omega.{arith}
 use lib.Dec.{T, T-not, eqb, eqb→eq}
 use Rattle.card.specs.Count.{bit, count}
 use Rattle.card.proofs.Counting.{count-none}
-use Rattle.protocol.specs.Entry.{Decl, Kind, SEND, ECHO, READY, Entry, fresh, heard, own, isSome, upd}
+use Rattle.entry.specs.Entry.{Decl, Kind, SEND, ECHO, READY, Entry, fresh, heard, own, isSome, upd, sameEntry}
 use Rattle.protocol.specs.Steps.{Out}
-use Rattle.protocol.specs.Book.{sameEntry, Call, publishing, receiving, senderOf, numberOf}
-use Rattle.protocol.specs.Run.{n, isUp, Wall, Copy, Request, State, Step, publish, consume, wrong, crash, comeback, help}
-use Rattle.protocol.specs.Run.{plead, right, start, at, consumedCopy, consumeAt, posted, opens, called, arrives, consumes, comes}
-use Rattle.protocol.specs.Run.{helpAnswer, helps, taken, asked, underWrong, step, run, onIt, copiesOf}
-use Rattle.protocol.proofs.Basics.{bcase, T-of, false-of, and-l, and-r, and-false, none-some, Heeded}
+use Rattle.protocol.specs.Book.{Call, publishing, receiving, senderOf, numberOf}
+use Rattle.protocol.specs.Run.{n, isUp, Wall, Copy, Request, State, Step, publish, consume, wrong, crash, comeback, help, plead}
+use Rattle.protocol.specs.Run.{right, start, at, consumedCopy, consumeAt, posted, opens, called, arrives, consumes, comes, helpAnswer}
+use Rattle.protocol.specs.Run.{helps, taken, asked, underWrong, step, run, onIt, copiesOf}
+use Rattle.entry.proofs.Basics.{bcase, T-of, false-of, and-l, and-r, and-false, none-some}
+use Rattle.protocol.proofs.Basics.{Heeded}
 use Rattle.protocol.proofs.Mail.{tally-append, tally-change}
 use Rattle.protocol.proofs.Invariant.{View, Inv, Act, act-inv, else-inv}
 use Rattle.protocol.proofs.Views.{view, out, Named, named, view-elsewhere, posted-elsewhere}

@@ -11,12 +11,12 @@ use Rattle.card.specs.Card.{quorum, amplify, deliver}
 use Rattle.card.specs.Count.{bit, count}
 use Rattle.card.proofs.Counting.{count-not, count-pos}
 use Rattle.card.proofs.Overlap.{quorum-more}
-use Rattle.protocol.specs.Entry.{Decl, SEND}
+use Rattle.entry.specs.Entry.{Decl, SEND}
 use Rattle.protocol.specs.Run.{n, Wall, State, Step, right, isWrong, isUp, h, start, run, at, tally, onIt, isBetween, copiesOf}
 use Rattle.protocol.specs.Run.{upCopy, upRequest, Drained, Limited}
 use Rattle.protocol.specs.Thresholds.{rulesOf, wallOf, AtMost, Tolerated, TakePart, downs}
 use Rattle.protocol.specs.Claims.{Agreed, Complete, Exact, Delivered, Published, Everywhere, Season, Claims}
-use Rattle.protocol.proofs.Basics.{bcase, T-of, not-of, and-l, and-r, and-mk, none-some}
+use Rattle.entry.proofs.Basics.{bcase, T-of, not-of, and-l, and-r, and-mk, none-some}
 use Rattle.protocol.proofs.Moves.{listOf}
 use Rattle.protocol.proofs.Calls.{alone}
 use Rattle.protocol.proofs.Mail.{tally-mono, tally-at, copies-split}

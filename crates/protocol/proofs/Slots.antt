@@ -6,13 +6,13 @@ use mathlib.Core.Option.{Option, none, some}
 use mathlib.Core.List.{List, [], _∷_}
 use Prim.Native.Nat.{ℕ}
 use lib.Dec.{eqb, eqb→eq}
-use Rattle.protocol.specs.Book.{PerEntry, Book, sameEntry, place, Call, publishing, receiving, senderOf, numberOf, outcome, after}
-use Rattle.protocol.specs.Run.{n, Wall, Copy, Request, State, Step, publish, consume, wrong, crash, comeback, help, plead}
-use Rattle.protocol.specs.Run.{right, isUp, at, consumeAt, opens, called, arrives, consumes, comes, helpAnswer, helps, taken, asked}
+use Rattle.entry.specs.Entry.{PerEntry, sameEntry, place, Filled}
+use Rattle.protocol.specs.Book.{Book, Call, publishing, receiving, senderOf, numberOf, outcome, after}
+use Rattle.protocol.specs.Run.{n, Wall, Copy, Request, State, Step, publish, consume, wrong, crash, comeback, help, plead, right}
+use Rattle.protocol.specs.Run.{isUp, at, consumeAt, opens, called, arrives, consumes, comes, helpAnswer, helps, taken, asked}
 use Rattle.protocol.specs.Run.{underWrong, step, run}
-use Rattle.protocol.specs.Claims.{Filled}
-use Rattle.protocol.proofs.Basics.{T-of, and-l, and-r, upd-all}
-use Rattle.protocol.proofs.Moves.{filled-refl, filled-trans}
+use Rattle.entry.proofs.Basics.{T-of, and-l, and-r, upd-all}
+use Rattle.entry.proofs.Filled.{filled-refl, filled-trans}
 use Rattle.protocol.proofs.Calls.{outcome-done}
 
 -- every slot of every book of the one stands in the other

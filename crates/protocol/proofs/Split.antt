@@ -5,7 +5,7 @@ use mathlib.Core.List.{List, [], _∷_}
 use mathlib.Core.Bool.{true}
 use lib.Dec.{ltb, lit<, lit≤}
 use Rattle.card.specs.Card.{quorum, amplify, deliver}
-use Rattle.protocol.specs.Entry.{Decl, same}
+use Rattle.entry.specs.Entry.{Decl, same}
 use Rattle.protocol.specs.Steps.{publishes, takesSend, takesEcho, takesReady, recording, receive, publish}
 use Rattle.protocol.specs.Book.{outcome, after}
 use Rattle.protocol.specs.Run.{called, arrives, consumes, comes, helpAnswer, helps, asked, step, run}

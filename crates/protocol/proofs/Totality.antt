@@ -9,10 +9,10 @@ use native.Mathlib.Omega.{arith}
 use lib.Dec.{T, eqb, ltb, eqb→eq, ltb→lt}
 use Rattle.card.specs.Count.{bit, count}
 use Rattle.card.proofs.Counting.{count-mono, count-and, count-not, count-pos}
-use Rattle.protocol.specs.Entry.{Decl, Kind, SEND, ECHO, READY, heard, own, isKind, isSome, holds, votes}
+use Rattle.entry.specs.Entry.{Decl, Kind, SEND, ECHO, READY, heard, own, isKind, isSome, holds, votes}
 use Rattle.protocol.specs.Run.{n, Wall, Copy, Request, State, Limited, Drained, right, isUp, upCopy, upRequest, h, onIt, copiesOf}
 use Rattle.protocol.specs.Thresholds.{Tolerated, TakePart}
-use Rattle.protocol.proofs.Basics.{false-of, and-l, and-r, and-mk, holds-eq, eq-holds, some-of, isSome-of}
+use Rattle.entry.proofs.Basics.{false-of, and-l, and-r, and-mk, holds-eq, eq-holds, some-of, isSome-of}
 use Rattle.protocol.proofs.Mail.{tally-mono}
 use Rattle.protocol.proofs.Invariant.{View, Inv, load}
 use Rattle.protocol.proofs.Again.{way}

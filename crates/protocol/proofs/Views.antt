@@ -7,15 +7,14 @@ use mathlib.Core.List.{List, _++_}
 use Prim.Native.Nat.{ℕ}
 use lib.Dec.{T, eqb, eqb→eq}
 use Rattle.card.proofs.Counting.{count-none}
-use Rattle.protocol.specs.Entry.{Decl, upd}
+use Rattle.entry.specs.Entry.{Decl, upd, PerEntry, sameEntry, place}
 use Rattle.protocol.specs.Steps.{Say, say, Out}
-use Rattle.protocol.specs.Book.{PerEntry, sameEntry, place, Call, inBook, senderOf, numberOf, outcome, after, publication}
+use Rattle.protocol.specs.Book.{Call, inBook, senderOf, numberOf, outcome, after, publication}
 use Rattle.protocol.specs.Run.{n, Wall, Copy, State, posted, push, noted, called, onIt, copiesOf}
-use Rattle.protocol.proofs.Basics.{T-of, true-of, and-l, and-r, upd-all}
+use Rattle.entry.proofs.Basics.{T-of, true-of, and-l, and-r, upd-all, entry-refl}
 use Rattle.protocol.proofs.Calls.{Done, outcome-done, outcome-booked}
 use Rattle.protocol.proofs.Mail.{tally-toAll}
 use Rattle.protocol.proofs.Invariant.{View, acted}
-use Rattle.protocol.proofs.Again.{entry-refl}
 
 abbrev pub view : ℕ → ℕ → State → View
 view j c s =

@@ -3,24 +3,13 @@
 use mathlib.Core.Bool.{Bool, cond, _&&_}
 use mathlib.Core.Option.{Option, none, some}
 use Prim.Native.Nat.{ℕ, zero, suc}
-use lib.Dec.{eqb, ltb}
-use Rattle.protocol.specs.Entry.{Decl, Kind, Entry, Rules}
-use Rattle.protocol.specs.Steps.{Out, refused, receive, publish}
-
--- one for each sender and number
-abbrev pub PerEntry : Type 0 → Type 0
-PerEntry A = ℕ → ℕ → A
+use lib.Dec.{ltb}
+use Rattle.entry.specs.Entry.{Decl, Kind, Entry, PerEntry, place}
+use Rattle.protocol.specs.Steps.{Rules, Out, refused, receive, publish}
 
 -- A book has one entry for each sender and number.
 abbrev pub Book : Type 0
 Book = PerEntry Entry
-
-abbrev pub sameEntry : (sender number sender₂ number₂ : ℕ) → Bool
-sameEntry j c j₂ c₂ = eqb j₂ j && eqb c₂ c
-
--- b with x at sender j and number c
-abbrev pub place : {A : Type 0} → PerEntry A → ℕ → ℕ → A → PerEntry A
-place b j c x j₂ c₂ = cond (sameEntry j c j₂ c₂) x (b j₂ c₂)
 
 abbrev pub inBook : Rules → ℕ → ℕ → ℕ → Bool
 inBook R numbers j c = ltb j (R .n) && ltb c numbers

@@ -3,13 +3,13 @@
 use mathlib.Core.Path.{_≡_}
 use mathlib.Core.Bool.{Bool, false, not, _&&_}
 use mathlib.Core.Logic.{_⊎_}
-use mathlib.Core.Option.{Option, some}
+use mathlib.Core.Option.{some}
 use mathlib.Core.List.{List, [], _∷_}
 use Prim.Native.Nat.{ℕ, _+_, _*_, _≤_, _<_}
 use lib.Dec.{T}
 use lib.ListN.{length}
-use Rattle.protocol.specs.Entry.{Decl, Entry, Rules, heard}
-use Rattle.protocol.specs.Steps.{Out}
+use Rattle.entry.specs.Entry.{Decl, heard, Filled}
+use Rattle.protocol.specs.Steps.{Rules, Out}
 use Rattle.protocol.specs.Book.{Book, Call, publishing, senderOf, numberOf, outcome, after}
 use Rattle.protocol.specs.Run.{n, Wall, Copy, State, Step, right, isUp, h, start, run, at, opens, onIt, copies, readies, between}
 use Rattle.protocol.specs.Run.{consumedBetween, isBetween, copiesOf, consume, help, Drained, Limited}
@@ -23,19 +23,6 @@ pub record Alone (R : Rules) (numbers own : ℕ) (a : Call) : Type 0 where
       → outcome R numbers own a b ≡ outcome R numbers own a b₂
   pub agreeing : (b b₂ : Book) → b (senderOf own a) (numberOf a) ≡ b₂ (senderOf own a) (numberOf a)
       → after R numbers own a b (senderOf own a) (numberOf a) ≡ after R numbers own a b₂ (senderOf own a) (numberOf a)
-
--- what stands in a slot stays
-abbrev pub Stays : Option Decl → Option Decl → Type 0
-Stays o o₂ = (v : Decl) → o ≡ some v → o₂ ≡ some v
-
--- slots only ever fill
-pub record Filled (e e₂ : Entry) : Type 0 where
-  pub send : Stays (e .send) (e₂ .send)
-  pub echo : (p : ℕ) → Stays (e .echo p) (e₂ .echo p)
-  pub ready : (p : ℕ) → Stays (e .ready p) (e₂ .ready p)
-  pub readySent : Stays (e .readySent) (e₂ .readySent)
-  pub delivered : Stays (e .delivered) (e₂ .delivered)
-  pub published : Stays (e .published) (e₂ .published)
 
 -- the steps that consume the requests at these places, and then the copies at those
 abbrev pub consumption : (requests copies : List ℕ) → List Step

@@ -7,7 +7,7 @@ use mathlib.Core.Option.{none, some}
 use mathlib.Core.List.{List, [], _∷_, _++_}
 use Prim.Native.Nat.{ℕ, zero, suc, _+_, _≤_}
 use lib.Dec.{ltb}
-use Rattle.protocol.specs.Entry.{Decl, ECHO, READY, Entry}
+use Rattle.entry.specs.Entry.{Decl, ECHO, READY, Entry}
 use Rattle.protocol.specs.Run.{Wall, State, Step, publish, consume, wrong, crash, comeback, help, plead, start, run, copies, Drained}
 use Rattle.protocol.specs.Run.{Limited}
 use Rattle.protocol.specs.Thresholds.{wallOf, AtMost, downs}

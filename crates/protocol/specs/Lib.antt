@@ -1,4 +1,3 @@
-pub mod Entry
 pub mod Steps
 pub mod Book
 pub mod Run

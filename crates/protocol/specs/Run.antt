@@ -7,10 +7,9 @@ use mathlib.Core.List.{List, [], _∷_, _++_}
 use Prim.Native.Nat.{ℕ, zero, suc, _+_, _≤_}
 use lib.Dec.{T, eqb, ltb}
 use Rattle.card.specs.Count.{bit, count}
-use Rattle.protocol.specs.Entry.{Decl, Kind, SEND, ECHO, READY, Entry, Rules, fresh, own, isKind, upd}
-use Rattle.protocol.specs.Steps.{Say, say, Out, must}
-use Rattle.protocol.specs.Book.{PerEntry, Book, sameEntry, place, Call, publishing, receiving, senderOf, numberOf, outcome, after}
-use Rattle.protocol.specs.Book.{publication}
+use Rattle.entry.specs.Entry.{Decl, Kind, SEND, ECHO, READY, Entry, fresh, own, isKind, upd, PerEntry, sameEntry, place}
+use Rattle.protocol.specs.Steps.{Rules, Say, say, Out, must}
+use Rattle.protocol.specs.Book.{Book, Call, publishing, receiving, senderOf, numberOf, outcome, after, publication}
 
 -- what the honest books have in common, and which houses are honest
 pub record Wall : Type 0 where

@@ -7,7 +7,7 @@ use mathlib.Core.Option.{Option, some}
 use mathlib.Core.Bool.{true}
 use Prim.Native.Nat.{ℕ}
 use lib.Dec.{ltb}
-use Rattle.protocol.specs.Entry.{Decl, SEND, ECHO, READY}
+use Rattle.entry.specs.Entry.{Decl, SEND, ECHO, READY}
 use Rattle.protocol.specs.Run.{Wall, State, Step, wrong, start, run, copies, readies, Drained, Limited}
 use Rattle.protocol.specs.Thresholds.{wallOf, AtMost, downs}
 use Rattle.protocol.specs.Example.{lot, lie, consumeFrom}

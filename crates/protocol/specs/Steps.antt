@@ -4,7 +4,15 @@ use mathlib.Core.Bool.{Bool, true, false, _&&_}
 use mathlib.Core.Option.{Option, none, some}
 use Prim.Native.Nat.{ℕ, zero, suc}
 use lib.Dec.{eqb, leb, ltb}
-use Rattle.protocol.specs.Entry.{Decl, Kind, SEND, ECHO, READY, Entry, Rules, heard, isNone, upd, votes}
+use Rattle.entry.specs.Entry.{Decl, Kind, SEND, ECHO, READY, Entry, heard, isNone, votes, recorded, marked, announced}
+
+-- what the steps take from the wall: n, the quorum, the READYs that make a READY and that deliver, and what is plausible
+pub record Rules : Type 0 where
+  pub n : ℕ
+  pub quorum : ℕ
+  pub amplify : ℕ
+  pub deliver : ℕ
+  pub ok : Decl → Bool
 
 -- what a message that a house gives says of the entry
 pub data Say : Type 0 where
@@ -35,52 +43,6 @@ abbrev pub given : {A : Type 0} → Bool → A → Option A
 given true x = some x
 given false x = none
 
-abbrev pub mark : Bool → Decl → Option Decl → Option Decl
-mark true v o = some v
-mark false v o = o
-
--- a message of the kind is recorded
-abbrev pub recorded : Kind → ℕ → Decl → Entry → Entry
-recorded SEND p v e =
-    record {
-      send = some v;
-      echo = e .echo;
-      ready = e .ready;
-      readySent = e .readySent;
-      delivered = e .delivered;
-      published = e .published;
-    }
-recorded ECHO p v e =
-    record {
-      send = e .send;
-      echo = upd (e .echo) p (some v);
-      ready = e .ready;
-      readySent = e .readySent;
-      delivered = e .delivered;
-      published = e .published;
-    }
-recorded READY p v e =
-    record {
-      send = e .send;
-      echo = e .echo;
-      ready = upd (e .ready) p (some v);
-      readySent = e .readySent;
-      delivered = e .delivered;
-      published = e .published;
-    }
-
--- the READY sent and the delivered, marked where b and d say so
-abbrev pub marked : Bool → Bool → Decl → Entry → Entry
-marked b d v e =
-    record {
-      send = e .send;
-      echo = e .echo;
-      ready = e .ready;
-      readySent = mark b v (e .readySent);
-      delivered = mark d v (e .delivered);
-      published = e .published;
-    }
-
 -- nothing is marked yet, and the vouchers for v number at least m
 abbrev pub reached : ℕ → Option Decl → (ℕ → Option Decl) → Decl → ℕ → Bool
 reached m o f v n = isNone o && leb m (votes f v n)
@@ -90,14 +52,7 @@ unfoldable pub publishes : Decl → Entry → Out
 publishes v e =
     record {
       answer = 0;
-      entry = record {
-        send = e .send;
-        echo = e .echo;
-        ready = e .ready;
-        readySent = e .readySent;
-        delivered = e .delivered;
-        published = some v;
-      };
+      entry = announced v e;
       message = some (say SEND v);
       delivery = none;
     }

@@ -4,7 +4,8 @@ use mathlib.Core.Bool.{Bool, not, _&&_}
 use Prim.Native.Nat.{ℕ, _+_, _≤_, _<_}
 use Rattle.card.specs.Card.{quorum, amplify, deliver}
 use Rattle.card.specs.Count.{count}
-use Rattle.protocol.specs.Entry.{Decl, Rules}
+use Rattle.entry.specs.Entry.{Decl}
+use Rattle.protocol.specs.Steps.{Rules}
 use Rattle.protocol.specs.Run.{n, Wall, State, right, isWrong}
 
 -- the rules for n houses of which t may be wrong and f down: delivery at 2t+f+1 READYs, the other counts as they are

@@ -10,7 +10,7 @@ use Rattle.card.specs.Card as card
 use Rattle.words.specs.Words.{be32}
 use Rattle.words.proofs.Bytes.{bytes-append, bytes-zeros, be-bytes}
 use Rattle.sheet.specs.Kept.{isSheet}
-use Rattle.protocol.proofs.Basics.{true-of, and-l}
+use Rattle.entry.proofs.Basics.{true-of, and-l}
 use Rattle.meaning.specs.Layout.{numbersOk, mostLimit, lengthOf}
 use Rattle.meaning.specs.Opening.{opened}
 use Rattle.season.specs.Run.{opens, Open}

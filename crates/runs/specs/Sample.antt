@@ -7,7 +7,7 @@ use mathlib.Core.List.{List, [], _∷_}
 use lib.ListN.{replicate}
 use Rattle.lot.specs.Declaration.{declarationAt}
 use Rattle.meaning.specs.Layout.{lengthOf}
-use Rattle.entry.specs.Entered.{wired}
+use Rattle.calls.specs.Entered.{wired}
 use Rattle.season.specs.Run.{Houses, Step, consume}
 
 unfoldable pub sample : (n f d : ℕ) → (honest : ℕ → Bool) → Houses

@@ -17,21 +17,21 @@ use Rattle.meaning.specs.Book.{look, meant}
 use Rattle.meaning.specs.Legal.{legal, IsDecl, IsSlot, IsEntry}
 use Rattle.meaning.proofs.Meant.{meant-is-book}
 use Rattle.meaning.proofs.Stores.{Stored}
-use Rattle.protocol.specs.Entry.{Decl, Kind, SEND, ECHO, READY, Entry, own, upd}
+use Rattle.entry.specs.Entry.{Decl, Kind, SEND, ECHO, READY, Entry, own, upd, place}
 use Rattle.protocol.specs.Steps.{say, Out}
-use Rattle.protocol.specs.Book.{Book, place, Call, publishing, senderOf, numberOf, outcome, after, publication}
+use Rattle.protocol.specs.Book.{Book, Call, publishing, senderOf, numberOf, outcome, after, publication}
 use Rattle.protocol.specs.Run.{Wall, noted}
 use Rattle.protocol.specs.Run as protocol
 use Rattle.protocol.specs.Thresholds.{rulesOf, wallOf}
-use Rattle.protocol.proofs.Basics.{upd-all}
+use Rattle.entry.proofs.Basics.{upd-all}
 use Rattle.protocol.proofs.Calls.{outcome-done}
 use Rattle.protocol.proofs.Views.{noted-none}
-use Rattle.entry.specs.declared.Outcome.{Outcome}
-use Rattle.entry.specs.Entered.{result, giving, helping, okBy, rulesBy, kindNumber, letters}
-use Rattle.counter.specs.Call.{refusal, stepOf, called, requestAnswer, requested}
-use Rattle.counter.specs.Again.{sending, saidOf, sentOn, sentOf}
-use Rattle.counter.specs.Kept.{Kept}
-use Rattle.counter.proofs.Keeps.{plausible-decl, called-stored, called-given, called-keeps, helped-meant, helped-keeps}
+use Rattle.calls.specs.declared.Outcome.{Outcome}
+use Rattle.calls.specs.Entered.{result, giving, helping, okBy, rulesBy, kindNumber, letters}
+use Rattle.calls.specs.Call.{refusal, stepOf, called, requestAnswer, requested}
+use Rattle.calls.specs.Again.{sending, saidOf, sentOn, sentOf}
+use Rattle.calls.specs.Kept.{Kept}
+use Rattle.calls.proofs.Keeps.{plausible-decl, called-stored, called-given, called-keeps, helped-meant, helped-keeps}
 use Rattle.season.specs.Run.{Houses, isHonest, Copy, Noted, Given, State, messageOf, deliveryOf, publicationOf, Named, nothing, entry}
 use Rattle.season.specs.Run.{noting, posted, sentAgain, againOn, again, sends, ended}
 use Rattle.season.proofs.Mail.{kind-known, kind-of-number, Says, Asks, Mails, mails-append, mails-each, mails-to-those, mails-posted}

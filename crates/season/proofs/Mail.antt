@@ -15,13 +15,13 @@ use Rattle.message.specs.Message.{Five, Told, readOf, requestOf}
 use Rattle.message.specs.Message as message
 use Rattle.message.proofs.RoundTrip.{read-of-wire}
 use Rattle.meaning.specs.Legal.{IsDecl}
-use Rattle.protocol.specs.Entry.{Decl, Kind, SEND, ECHO, READY, isKind}
+use Rattle.entry.specs.Entry.{Decl, Kind, SEND, ECHO, READY, isKind}
 use Rattle.protocol.specs.Steps.{Say, say}
 use Rattle.protocol.specs.Book.{receiving}
 use Rattle.protocol.specs.Run.{at, changeAt, each, tally}
 use Rattle.protocol.specs.Run as protocol
-use Rattle.entry.specs.Entered.{kindNumber, kindOf, fiveOf, letter, letters}
-use Rattle.counter.specs.Call.{asked}
+use Rattle.calls.specs.Entered.{kindNumber, kindOf, fiveOf, letter, letters}
+use Rattle.calls.specs.Call.{asked}
 use Rattle.season.specs.Run.{Copy, copyTo, toThose, toAll, posted, consumedCopy, onIt, isReady}
 
 pub kind-known : (k : Kind) → message.isKind (kindNumber k) ≡ true

@@ -14,20 +14,20 @@ use Rattle.message.specs.Message.{readOf}
 use Rattle.message.specs.Message as message
 use Rattle.meaning.specs.Book.{look}
 use Rattle.meaning.specs.Legal.{legal}
-use Rattle.protocol.specs.Entry.{Decl, Kind, SEND, ECHO, READY, Entry, own, isKind, isSome}
+use Rattle.entry.specs.Entry.{Decl, Kind, SEND, ECHO, READY, Entry, own, isKind, isSome}
 use Rattle.protocol.specs.Steps.{say}
 use Rattle.protocol.specs.Run.{at}
 use Rattle.protocol.specs.Run as protocol
 use Rattle.protocol.specs.Thresholds.{rulesOf, wallOf}
-use Rattle.protocol.proofs.Basics.{and-l, and-r, and-mk, isKind-eq, isSome-of}
+use Rattle.entry.proofs.Basics.{and-l, and-r, and-mk, isKind-eq, isSome-of, entry-refl}
 use Rattle.protocol.proofs.Mail.{find}
-use Rattle.protocol.proofs.Again.{entry-refl, way}
+use Rattle.protocol.proofs.Again.{way}
 use Rattle.protocol.proofs.Invariant.{Inv, true-copy}
 use Rattle.protocol.proofs.Views.{view}
-use Rattle.entry.specs.Entered.{isThere, kindNumber, kindOf, letter, letters}
-use Rattle.counter.specs.declared.Sent.{Sent}
-use Rattle.counter.specs.Again.{sending, saidOf, sentOf}
-use Rattle.counter.proofs.Again.{kind-number}
+use Rattle.calls.specs.Entered.{isThere, kindNumber, kindOf, letter, letters}
+use Rattle.calls.specs.declared.Sent.{Sent}
+use Rattle.calls.specs.Again.{sending, saidOf, sentOf}
+use Rattle.calls.proofs.KindNumber.{kind-number}
 use Rattle.season.specs.Run.{Houses, isHonest, Copy, State}
 use Rattle.season.specs.Claims.{OfSeason, Outgoing, SentTo}
 use Rattle.season.proofs.Mail.{Says, Both, mails-at}

@@ -16,30 +16,29 @@ use Rattle.card.proofs.Wall.{down-between}
 use Rattle.card.proofs.Counting.{count-not, count-find, count-none}
 use Rattle.card.proofs.Overlap.{fitting-largest}
 use Rattle.lot.specs.Declaration.{declarationAt}
-use Rattle.lot.specs.Sheet.{plausible}
+use Rattle.sheet.specs.Sheet.{plausible}
 use Rattle.lot.proofs.Declared.{bytes-of-numbers}
 use Rattle.sheet.specs.Kept.{sheetAt, isSheet, judged}
 use Rattle.message.specs.Message.{readOf}
 use Rattle.meaning.specs.Legal.{IsDecl}
 use Rattle.meaning.proofs.Opening.{opened-facts, allowed-facts}
-use Rattle.protocol.specs.Entry.{READY, heard, isKind}
+use Rattle.entry.specs.Entry.{READY, heard, isKind}
 use Rattle.protocol.specs.Book.{Call, publishing, receiving, outcome}
 use Rattle.protocol.specs.Run.{at, tally}
 use Rattle.protocol.specs.Run as protocol
 use Rattle.protocol.specs.Claims as protocol-claims
 use Rattle.protocol.specs.Thresholds.{rulesOf, wallOf, AtMost, downs}
 use Rattle.protocol.specs.Thresholds as thresholds
-use Rattle.protocol.proofs.Basics.{T-of, true-of, not-of, and-l, and-r, and-mk}
-use Rattle.protocol.proofs.Again.{entry-refl}
+use Rattle.entry.proofs.Basics.{T-of, true-of, not-of, and-l, and-r, and-mk, entry-refl}
 use Rattle.protocol.proofs.Mail.{tally-at}
 use Rattle.protocol.proofs.Invariant.{Inv}
 use Rattle.protocol.proofs.Views.{view}
 use Rattle.protocol.proofs.Runs.{holds-from-start}
 use Rattle.protocol.proofs.Season as protocol-season
-use Rattle.entry.specs.Entered.{Result, isDecl, okBy}
-use Rattle.counter.specs.Call.{published, received}
-use Rattle.counter.specs.Again.{returned}
-use Rattle.counter.proofs.Declarations.{decl-true}
+use Rattle.calls.specs.Entered.{Result, isDecl, okBy}
+use Rattle.calls.specs.Call.{published, received}
+use Rattle.calls.specs.Again.{returned}
+use Rattle.calls.proofs.Declarations.{decl-true}
 use Rattle.season.specs.Run.{Houses, isHonest, isUp, Open, Copy, Noted, State, Step, start, step, run, onIt, isReady, copiesOf}
 use Rattle.season.specs.Run.{copies, readies, isBetween, between, consumedBetween, upBetween, Drained, Limited}
 use Rattle.season.specs.Run as season

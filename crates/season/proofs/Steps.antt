@@ -17,16 +17,16 @@ use Rattle.meaning.specs.Legal.{legal}
 use Rattle.meaning.specs.Opening.{freshBook}
 use Rattle.sheet.specs.Kept.{sheetAt}
 use Rattle.meaning.proofs.Opening.{opened-legal, opened-bytes, opened-meant}
-use Rattle.protocol.specs.Entry.{Decl, fresh, upd}
+use Rattle.entry.specs.Entry.{Decl, fresh, upd}
 use Rattle.protocol.specs.Book.{Call, publishing, receiving, senderOf, numberOf, publication}
 use Rattle.protocol.specs.Run.{at}
 use Rattle.protocol.specs.Run as protocol
 use Rattle.protocol.specs.Claims as protocol-claims
 use Rattle.protocol.specs.Thresholds.{wallOf, rulesOf}
-use Rattle.protocol.proofs.Basics.{T-of, and-l}
-use Rattle.entry.specs.Entered.{kindOf}
-use Rattle.counter.specs.Call.{called, published, asked, heardFrom, heardAny, received}
-use Rattle.counter.specs.Again.{returned}
+use Rattle.entry.proofs.Basics.{T-of, and-l}
+use Rattle.calls.specs.Entered.{kindOf}
+use Rattle.calls.specs.Call.{called, published, asked, heardFrom, heardAny, received}
+use Rattle.calls.specs.Again.{returned}
 use Rattle.season.specs.Run.{Houses, isHonest, isWrong, isUp, Open, opens, Copy, State, start, namedBy, nothing, entry, sends, ended}
 use Rattle.season.specs.Run.{publicationOf, Step, publish, consume, wrong, crash, comeback, help, publishes}
 use Rattle.season.specs.Run.{receives, consumedCopy, consumeAt, consumes, goesDown, toAll, again, comes, taken, asks}

@@ -13,13 +13,13 @@ use Rattle.card.specs.Count.{count}
 use Rattle.lot.specs.Declaration.{bytesOf}
 use Rattle.sheet.specs.Kept.{judged}
 use Rattle.message.specs.Message.{Five, readOf}
-use Rattle.protocol.specs.Entry.{heard}
+use Rattle.entry.specs.Entry.{heard}
 use Rattle.protocol.specs.Run.{at}
 use Rattle.meaning.specs.Book.{look}
 use Rattle.meaning.specs.Legal.{IsDecl}
-use Rattle.entry.specs.Entered.{kindOf}
-use Rattle.counter.specs.Call.{published, received}
-use Rattle.counter.specs.Again.{returned, sending, sentOf}
+use Rattle.calls.specs.Entered.{kindOf}
+use Rattle.calls.specs.Call.{published, received}
+use Rattle.calls.specs.Again.{returned, sending, sentOf}
 use Rattle.season.specs.Run.{Houses, isHonest, isWrong, isUp, h, Open, Copy, State, Step, start, run, copies, readies, between}
 use Rattle.season.specs.Run.{consume, help, isBetween, consumedBetween, copiesOf, Drained, Limited, downs}
 

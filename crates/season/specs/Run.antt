@@ -13,13 +13,13 @@ use Rattle.card.specs.Count.{count}
 use Rattle.words.specs.Words.{Bytes}
 use Rattle.message.specs.Message.{Five, readOf}
 use Rattle.meaning.specs.Opening.{Opened, opened}
-use Rattle.protocol.specs.Entry.{upd}
+use Rattle.entry.specs.Entry.{upd}
 use Rattle.protocol.specs.Run.{at, changeAt, each, noted, tally}
-use Rattle.entry.specs.declared.Outcome.{Outcome}
-use Rattle.entry.specs.Entered.{Result}
-use Rattle.counter.specs.Call.{published, received}
-use Rattle.counter.specs.declared.Sent.{Sent}
-use Rattle.counter.specs.Again.{returned, sentOf}
+use Rattle.calls.specs.declared.Outcome.{Outcome}
+use Rattle.calls.specs.Entered.{Result}
+use Rattle.calls.specs.Call.{published, received}
+use Rattle.calls.specs.declared.Sent.{Sent}
+use Rattle.calls.specs.Again.{returned, sentOf}
 
 -- ---- the houses
 

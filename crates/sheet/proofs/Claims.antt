@@ -1,11 +1,14 @@
 -- What this crate promises.
 -- Assumes nothing.
+use Rattle.sheet.proofs.Exactly.{plausible-exactly, nothing-plausible}
 use Rattle.sheet.specs.Claims.{Claims}
 use Rattle.sheet.proofs.OneForm.{sheet-of-bytes, legal-bytes, judged-bytes, bytes-of-sheet, one-form}
 
 pub claims : Claims
 claims =
     record {
+      exactly = plausible-exactly;
+      nothing = nothing-plausible;
       sheet-of-bytes = sheet-of-bytes;
       legal-bytes = legal-bytes;
       judged-bytes = judged-bytes;

@@ -7,7 +7,7 @@ use mathlib.Core.List.{List}
 use lib.Dec.{eqb}
 use lib.ListN.{length}
 use borrow.Author.Tests.{eqb-true}
-use Rattle.lot.specs.Sheet.{gateLegal, sheetLegal}
+use Rattle.sheet.specs.Sheet.{gateLegal, sheetLegal}
 use Rattle.sheet.specs.declared.Kept.{Kept}
 use Rattle.sheet.specs.Kept.{gateOf, keptForm, keptLegal, keptAt, sheetAt, sheetLegalAt, isSheet}
 

@@ -1,4 +1,5 @@
+pub mod Exactly
+pub mod Finite
 pub mod Gates
 pub mod OneForm
-pub mod Settled
 pub mod Claims

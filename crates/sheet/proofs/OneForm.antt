@@ -5,7 +5,7 @@ use mathlib.Core.Path.{_≡_, refl, sym, ap, ap₂, _∙_}
 use mathlib.Core.Bool.{Bool, true, false, cond, _&&_, and-eq-true-iff}
 use mathlib.Core.List.{List, _∷_, _++_}
 use lib.Dec.{eqb}
-use lib.Ieee.{Float, binary32, ofBits, toBits}
+use lib.Ieee.{Float, binary32, ofBits}
 use lib.Ieee.Bits.{ofBits-toBits, ofBits-fits, toBits-ofBits, toBits-lt}
 use lib.ListN.{length, getD}
 use native.Mathlib.Omega.{arith}
@@ -14,17 +14,17 @@ use Rattle.words.specs.Words.{Bytes, be32, wordAt}
 use Rattle.words.proofs.Laws.{word-be, be-wordAt, wordAt-small}
 use Rattle.words.proofs.Bytes.{bytes-append, bytes-cons, be-bytes}
 use Rattle.words.proofs.Listed.{listed-is}
-use Rattle.lot.specs.declared.Gate.{Gate}
-use Rattle.lot.specs.declared.Gate.the-variants.{Open, AtMost, Between}
-use Rattle.lot.specs.declared.Sheet.{Sheet}
+use Rattle.sheet.specs.declared.Gate.{Gate}
+use Rattle.sheet.specs.declared.Gate.the-variants.{Open, AtMost, Between}
+use Rattle.sheet.specs.declared.Sheet.{Sheet}
 use Rattle.sheet.specs.declared.Kept.{Kept}
 use Rattle.lot.specs.declared.Declaration.{Declaration}
-use Rattle.lot.specs.Declaration.{declarationAt, bytesOf}
-use Rattle.lot.specs.Sheet.{GateFits, gateLegal, sheetLegal, plausible, judgedBy}
-use Rattle.sheet.specs.Kept.{keptOf, keptBytes, laid, sheetBytes}
-use Rattle.sheet.specs.Kept.{gateOf, keptForm, keptLegal, keptAt, sheetAt, sheetLegalAt, isSheet, judged}
+use Rattle.lot.specs.Declaration.{bytesOf}
+use Rattle.sheet.specs.Sheet.{GateFits, gateLegal, sheetLegal, plausible, judgedBy}
+use Rattle.sheet.specs.Kept.{keptOf, keptBytes, laid, sheetBytes, gateOf, keptForm, keptLegal, keptAt, sheetAt, sheetLegalAt, isSheet}
+use Rattle.sheet.specs.Kept.{judged}
 use Rattle.lot.proofs.Declared.{numbers-of-bytes}
-use Rattle.lot.proofs.Finite.{no-nan, at-most-finite, low-finite, high-finite}
+use Rattle.sheet.proofs.Finite.{no-nan, at-most-finite, low-finite, high-finite}
 use Rattle.sheet.proofs.Gates.{legal-gate, sheet-sized}
 
 -- ---- a gate and the form in which it is kept

@@ -1,17 +1,22 @@
--- What this crate promises of a sheet's 22 bytes, beside the contracts of its functions; proved in proofs/Claims.antt.
+-- What this crate promises: when a declaration is plausible, and that a sheet has one byte form.
 -- Assumes nothing.
+use mathlib.Core.Logic.{_↔_}
 use Prim.Native.Nat.{ℕ}
 use mathlib.Core.Path.{_≡_}
 use mathlib.Core.Bool.{true}
 use mathlib.Core.List.{List}
 use Rattle.words.specs.Words.{Bytes}
-use Rattle.lot.specs.declared.Sheet.{Sheet}
+use Rattle.sheet.specs.declared.Sheet.{Sheet}
 use Rattle.lot.specs.declared.Declaration.{Declaration}
 use Rattle.lot.specs.Declaration.{bytesOf}
-use Rattle.lot.specs.Sheet.{GateFits, sheetLegal, judgedBy}
+use Rattle.sheet.specs.Sheet.{GateFits, sheetLegal, judgedBy, plausible, Plausible, admitted, readingsOf}
 use Rattle.sheet.specs.Kept.{sheetBytes, sheetAt, isSheet, judged}
 
 pub record Claims : Type 0 where
+  -- A declaration is plausible exactly when document 01's conditions hold.
+  pub exactly : (s : Sheet) (d : Declaration) → (plausible s d ≡ true) ↔ Plausible s d
+  -- So no colonies and no kilograms is plausible: no kilograms, of however many colonies, where the readings are admitted.
+  pub nothing : (s : Sheet) (d : Declaration) → d .kilograms ≡ 0 → admitted s (readingsOf d) ≡ true → plausible s d ≡ true
   -- Sheet limits are kept as their bits: the bytes of a sheet read as that sheet,
   pub sheet-of-bytes : (s : Sheet) → GateFits (s .moisture) → GateFits (s .conductivity) → sheetAt (sheetBytes s) 0 ≡ s
   -- they are a legal sheet's exactly when it is legal,

@@ -7,12 +7,12 @@ use lib.Dec.{eqb}
 use lib.Ieee.{binary32, ofBits, toBits}
 use lib.ListN.{length, getD}
 use Rattle.words.specs.Words.{be32, wordAt}
-use Rattle.lot.specs.declared.Gate.{Gate}
-use Rattle.lot.specs.declared.Gate.the-variants.{Open, AtMost, Between}
-use Rattle.lot.specs.declared.Sheet.{Sheet}
+use Rattle.sheet.specs.declared.Gate.{Gate}
+use Rattle.sheet.specs.declared.Gate.the-variants.{Open, AtMost, Between}
+use Rattle.sheet.specs.declared.Sheet.{Sheet}
 use Rattle.sheet.specs.declared.Kept.{Kept}
 use Rattle.lot.specs.Declaration.{declarationAt}
-use Rattle.lot.specs.Sheet.{gateLegal, plausible}
+use Rattle.sheet.specs.Sheet.{gateLegal, plausible}
 
 -- sheet limits are kept as their bits; a limit that the kind does not use is zero
 abbrev pub keptOf : Gate → Kept

@@ -22,7 +22,7 @@ fn receiving(
     number: u8,
     kilograms: u32,
 ) {
-    let written = message::write_message(kind, season, 2, number, lot_77(40, kilograms, AT_17_5));
+    let written = codec::write_message(kind, season, 2, number, lot_77(40, kilograms, AT_17_5));
     let message = written.message;
     say(text);
     let o = counter::receive(book, house, &message);
@@ -145,7 +145,7 @@ fn show_unread(book: &mut [u8]) {
 // ---- receiving a request
 
 fn requesting(text: &[u8], book: &mut [u8], house: u32, season: u32) {
-    let request = message::write_request(season);
+    let request = codec::write_request(season);
     say(text);
     let o = counter::receive(book, house, &request);
     end_answer(o.answer);
@@ -189,12 +189,12 @@ fn show_unrequested(book: &mut [u8]) {
 
 fn returning(text: &[u8], book: &[u8]) {
     say(text);
-    end_answer(counter::come_back(book).answer);
+    end_answer(again::come_back(book).answer);
 }
 
 fn sent(text: &[u8], book: &[u8], kind: u8, sender: u32) {
     say(text);
-    end_answer(counter::sent_on(book, kind, sender, 0).answer);
+    end_answer(again::sent_on(book, kind, sender, 0).answer);
 }
 
 fn show_sent(book: &mut [u8]) {
@@ -216,7 +216,7 @@ fn show_unsent(book: &mut [u8]) {
 // ---- publishing
 
 fn publishing(text: &[u8], book: &mut [u8], number: u32, kilograms: u32) {
-    let declaration = lot::bytes_of(lot_77(40, kilograms, AT_17_5));
+    let declaration = octets::bytes_of(lot_77(40, kilograms, AT_17_5));
     say(text);
     let o = counter::publish(book, number, &declaration);
     end_answer(o.answer);
@@ -298,9 +298,9 @@ fn open_wrongly(book: &mut [u8], sheet: &[u8]) {
 
 pub fn show_judging() {
     say(b"\nTwo errors at once, judging: 10, then 5\n");
-    let declaration = lot::bytes_of(lot_77(40, 801, AT_17_5));
+    let declaration = octets::bytes_of(lot_77(40, 801, AT_17_5));
     say(b"  10 and 5: between 21.0 and 14.0, 801 kg");
-    end_answer(sheet::judge(&crossed_sheet(), &declaration));
+    end_answer(judge::judge(&crossed_sheet(), &declaration));
 }
 
 // The book is of four houses and one number.

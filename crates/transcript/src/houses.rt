@@ -7,9 +7,9 @@ use crate::tell::say;
 use crate::tell::say_message;
 use crate::tell::say_outcome;
 use crate::tell::say_with;
-use counter::Returned;
-use counter::Sent;
-use entry::Outcome;
+use calls::Returned;
+use calls::Sent;
+use calls::Outcome;
 
 // The bytes of a place: a book of four houses.
 const PLACE: usize = 980;
@@ -18,7 +18,7 @@ const PLACE: usize = 980;
 fn place(house: u8) -> usize
     ensures { λ r. ⌜ r ≤ 249900 ⌝ }
 {
-    words::wide(house) as usize * PLACE
+    octets::wide(house) as usize * PLACE
 }
 
 // The bytes of a book of one, three or four houses.
@@ -87,7 +87,7 @@ pub fn return_at(books: &[u8], n: u8, house: u8) -> Returned {
     let at = place(house);
     let end = at + size_of(n);
     if end <= books.len() {
-        return counter::come_back(&books[at..end]);
+        return again::come_back(&books[at..end]);
     }
     Returned {
         answer: 1,
@@ -100,7 +100,7 @@ pub fn sent_at(books: &[u8], n: u8, house: u8, kind: u8, sender: u8) -> Sent {
     let at = place(house);
     let end = at + size_of(n);
     if end <= books.len() {
-        return counter::sent_on(&books[at..end], kind, sender as u32, 0);
+        return again::sent_on(&books[at..end], kind, sender as u32, 0);
     }
     Sent {
         answer: 1,

@@ -30,9 +30,9 @@ fn say_column(n: u32, f: u32, counts: Counts) {
 
 // The counts for n houses of which f may be down.
 pub fn show_column(n: u32, f: u32) {
-    if card::is_houses(n) {
-        if card::is_down(n, f) {
-            say_column(n, f, card::counts_of(n as usize, f as usize));
+    if counts::is_houses(n) {
+        if counts::is_down(n, f) {
+            say_column(n, f, counts::counts_of(n as usize, f as usize));
         }
     }
 }
@@ -103,9 +103,9 @@ fn say_verdict(answer: u8) {
 // A lot judged by a sheet with this cap and moisture gate, conductivity open.
 fn show_lot(text: &[u8], cap: u32, moisture: Kept, d: Declaration) {
     say(text);
-    let sheet_bytes = sheet::lay_sheet(cap, moisture, open_gate());
-    let declaration = lot::bytes_of(d);
-    say_verdict(sheet::judge(&sheet_bytes, &declaration));
+    let sheet_bytes = judge::lay_sheet(cap, moisture, open_gate());
+    let declaration = octets::bytes_of(d);
+    say_verdict(judge::judge(&sheet_bytes, &declaration));
 }
 
 // At most the limit that these bits stand for.
@@ -177,7 +177,7 @@ fn show_declaration(d: Declaration) {
     say_with(b", ", d.colonies as u64);
     say_with(b" colonies, ", d.kilograms as u64);
     say(b" kg, bytes");
-    say_bytes(&lot::bytes_of(d));
+    say_bytes(&octets::bytes_of(d));
 }
 
 fn show_reading(bytes: &[u8]) {
@@ -191,7 +191,7 @@ fn show_reading(bytes: &[u8]) {
         kilograms,
         moisture,
         conductivity,
-    } = message::read_message(bytes)
+    } = codec::read_message(bytes)
     else {
         say(b"  reads: answer 2, malformed message\n");
         return;
@@ -213,7 +213,7 @@ fn show_reading(bytes: &[u8]) {
 // The sample message, written, and what was written read again.
 pub fn show_sample() {
     say(b"\nThe sample message\n");
-    let written = message::write_message(SEND, 2026, 2, 1, sample());
+    let written = codec::write_message(SEND, 2026, 2, 1, sample());
     say(b"  written");
     end_answer(written.answer);
     say(b"   ");
@@ -225,7 +225,7 @@ pub fn show_sample() {
 // ---- malformed messages
 
 fn reader_answer(bytes: &[u8]) -> u8 {
-    if message::is_request(bytes) {
+    if codec::is_request(bytes) {
         return 0;
     }
     let Reading::Message {
@@ -238,7 +238,7 @@ fn reader_answer(bytes: &[u8]) -> u8 {
         kilograms,
         moisture,
         conductivity,
-    } = message::read_message(bytes)
+    } = codec::read_message(bytes)
     else {
         return 2;
     };
@@ -272,7 +272,7 @@ fn show_length(bytes: &[u8], length: u8, book: &mut [u8]) {
 fn show_kind(bytes: &mut [u8], kind: u8, book: &mut [u8]) {
     put_byte(bytes, 3, kind);
     say_with(b"  kind ", kind as u64);
-    let written = message::write_message(kind, 2026, 2, 0, sample());
+    let written = codec::write_message(kind, 2026, 2, 0, sample());
     say_with(b", writer: answer ", written.answer as u64);
     say(b";");
     show_cut(bytes, 36, book);
@@ -293,7 +293,7 @@ pub fn show_bytes(bytes: &mut [u8], book: &mut [u8]) {
         b"\nMalformed: a SEND of sender 2, cut, lengthened, with another kind, and as it should be\n",
     );
     open(book, 4, 1, 0, 20);
-    let written = message::write_message(SEND, 2026, 2, 0, sample());
+    let written = codec::write_message(SEND, 2026, 2, 0, sample());
     let message = written.message;
     copy(bytes, 0, &message);
     show_malformed(bytes, book);
@@ -303,9 +303,9 @@ pub fn show_bytes(bytes: &mut [u8], book: &mut [u8]) {
 
 // What reading a request gives: its kind and its season.
 fn show_request_read(bytes: &[u8]) {
-    if message::is_request(bytes) {
+    if codec::is_request(bytes) {
         if 11 <= bytes.len() {
-            let season = words::word_at(bytes, 7);
+            let season = octets::word_at(bytes, 7);
             say_with(b"  reads: answer 0, kind 9, season ", season as u64);
             say(b"\n");
         }
@@ -324,7 +324,7 @@ fn show_cut_requests(bytes: &mut [u8], book: &mut [u8]) {
 
 pub fn show_request(bytes: &mut [u8], book: &mut [u8]) {
     say(b"\nA request for help: as it should be, cut, lengthened, and with another kind\n");
-    let request = message::write_request(2026);
+    let request = codec::write_request(2026);
     say(b"  written:");
     say_bytes(&request);
     show_request_read(&request);

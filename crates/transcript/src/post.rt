@@ -34,11 +34,11 @@ const LISTED: u32 = 39;
 
 // A byte, or a house's.
 pub fn get(post: &[u8], what: u16, house: u8) -> u8 {
-    byte_at(post, what as usize + words::wide(house) as usize)
+    byte_at(post, what as usize + octets::wide(house) as usize)
 }
 
 pub fn set(post: &mut [u8], what: u16, house: u8, value: u8) {
-    put_byte(post, what as usize + words::wide(house) as usize, value);
+    put_byte(post, what as usize + octets::wide(house) as usize, value);
 }
 
 // One more.
@@ -53,7 +53,7 @@ pub fn count(post: &mut [u8], what: u16, house: u8) {
 pub fn listed(list: u16, k: u8) -> u32
     ensures { λ r. ⌜ r ≤ 75480 ⌝ }
 {
-    list as u32 + words::wide(k) * LISTED
+    list as u32 + octets::wide(k) * LISTED
 }
 
 fn count_if(post: &mut [u8], what: u16, is_one: bool) {

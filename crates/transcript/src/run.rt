@@ -37,13 +37,13 @@ use crate::tell::say;
 use crate::tell::say_bytes;
 use crate::tell::say_message;
 use crate::tell::say_with;
-use entry::Outcome;
+use calls::Outcome;
 
 // ---- what is sent again
 
 // Where copies go, and their numbers, which follow those sent.
 fn say_copies(sent: u8, first: u8, end: u8) {
-    if words::wide(first) + 1 == words::wide(end) {
+    if octets::wide(first) + 1 == octets::wide(end) {
         say_with(b" to house ", first as u64);
         say_with(b" alone, copy ", sent as u64 + 1);
         say(b"\n");
@@ -129,7 +129,7 @@ fn receive_listed(books: &mut [u8], post: &[u8], at: u32, length: u8, house: u8)
     let first = at as usize + 3;
     let end = first + length as usize;
     if end <= post.len() {
-        let from = words::wide(byte_at(post, at as usize));
+        let from = octets::wide(byte_at(post, at as usize));
         if get(post, DOWN, house) == 0 {
             return receive_at(books, get(post, N, 0), house, from, &post[first..end]);
         }
@@ -211,7 +211,7 @@ fn come_back(books: &[u8], post: &mut [u8], house: u8) {
 
 // What it receives may give a message, or be helped, as any other.
 fn hand_in(books: &mut [u8], post: &mut [u8], house: u8, from: u8, message: &[u8]) {
-    let o = receive_at(books, get(post, N, 0), house, words::wide(from), message);
+    let o = receive_at(books, get(post, N, 0), house, octets::wide(from), message);
     follow(books, post, house, from, o);
 }
 
@@ -224,14 +224,14 @@ fn reading_of(c: u8) -> u32 {
 }
 
 fn lie(books: &mut [u8], post: &mut [u8], kind: u8, house: u8, from: u8, c: u8) {
-    let written = message::write_message(kind, 2026, 0, 0, honey(reading_of(c)));
+    let written = codec::write_message(kind, 2026, 0, 0, honey(reading_of(c)));
     let message = written.message;
     say(b"  lie: ");
     hand_in(books, post, house, from, &message);
 }
 
 fn plead(books: &mut [u8], post: &mut [u8], house: u8, from: u8) {
-    let request = message::write_request(2026);
+    let request = codec::write_request(2026);
     say(b"  liar asks: ");
     hand_in(books, post, house, from, &request);
 }
@@ -354,7 +354,7 @@ fn say_readys(readys: u8, bound: u32) {
 
 // With h honest houses of n, each back at most d times.
 fn say_bounds(post: &[u8]) {
-    let n = words::wide(get(post, N, 0));
+    let n = octets::wide(get(post, N, 0));
     let hn = times(n, get(post, HONEST, 0));
     let hnd = times(hn, get(post, LIMIT, 0));
     say_sent(

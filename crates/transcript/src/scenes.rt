@@ -21,7 +21,7 @@ pub fn show_kilograms(book: &mut [u8]) {
     say(b"\nThe complaint, 1: 80 kilograms from one colony against a cap of 9\n");
     let d = lot_77(1, 80, AT_17_5);
     say(b"  judged");
-    end_answer(sheet::judge(&open_sheet(9), &lot::bytes_of(d)));
+    end_answer(judge::judge(&open_sheet(9), &octets::bytes_of(d)));
     open(book, 4, 1, 0, 9);
     say(b"  house 0");
     publish(book, d);
@@ -118,7 +118,7 @@ fn say_entry(text: &[u8], number: u8, sender: u8) {
 }
 
 fn say_waiting(book: &[u8]) {
-    let found = counter::earliest_waiting(book);
+    let found = waiting::earliest_waiting(book);
     if found.answer == 0 {
         if found.waits {
             say_entry(b"  waiting: number ", found.number, found.sender);

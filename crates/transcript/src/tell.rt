@@ -1,5 +1,5 @@
 // What every part of the transcript says: numbers, bytes, messages, answers, and what a call gave and delivered.
-use entry::Outcome;
+use calls::Outcome;
 use libc::STDOUT_FILENO;
 use lot::Declaration;
 use message::Reading;
@@ -36,7 +36,7 @@ pub fn say_bytes(bytes: &[u8]) {
     let mut i = 0;
     while i < bytes.len() {
         say(b" ");
-        io::print_hex(STDOUT_FILENO, words::wide(bytes[i]) as u64, 2);
+        io::print_hex(STDOUT_FILENO, octets::wide(bytes[i]) as u64, 2);
         i += 1;
     }
     say(b"\n");
@@ -95,7 +95,7 @@ fn say_kind(kind: u8) {
 
 // A request; or a message's kind, and its lot by the moisture reading.
 pub fn say_message(bytes: &[u8]) {
-    if message::is_request(bytes) {
+    if codec::is_request(bytes) {
         say(b"a request");
         return;
     }
@@ -109,7 +109,7 @@ pub fn say_message(bytes: &[u8]) {
         kilograms,
         moisture,
         conductivity,
-    } = message::read_message(bytes)
+    } = codec::read_message(bytes)
     else {
         say(b"bytes that are no message");
         return;
@@ -134,7 +134,7 @@ fn say_given(gives: bool, helps: bool, message: [u8; 36]) {
 fn say_delivered(delivers: bool, declaration: [u8; 20]) {
     if delivers {
         say(b", delivers ");
-        say_moisture(lot::declaration_at(&declaration, 0).moisture);
+        say_moisture(octets::declaration_at(&declaration, 0).moisture);
     }
 }
 
@@ -182,7 +182,7 @@ pub fn open_gate() -> Kept {
 
 // A sheet with this cap and both gates open, in its 22 bytes.
 pub fn open_sheet(cap: u32) -> [u8; 22] {
-    sheet::lay_sheet(cap, open_gate(), open_gate())
+    judge::lay_sheet(cap, open_gate(), open_gate())
 }
 
 // A house opens its book for season 2026, with a cap and open gates.
@@ -208,7 +208,7 @@ pub fn open_with(book: &mut [u8], n: u32, own: u32, f: u32, d: u32) {
 
 // A message of season 2026, written, handed to a book under a house's number, and what came of it.
 pub fn hear_lot(book: &mut [u8], from: u32, kind: u8, sender: u8, number: u8, d: Declaration) {
-    let written = message::write_message(kind, 2026, sender, number, d);
+    let written = codec::write_message(kind, 2026, sender, number, d);
     let message = written.message;
     say(b"  ");
     say_message(&message);
@@ -223,7 +223,7 @@ pub fn hear(book: &mut [u8], from: u32, kind: u8, sender: u8, number: u8, moistu
 
 // A declaration published at number 0.
 pub fn publish(book: &mut [u8], d: Declaration) -> Outcome {
-    let declaration = lot::bytes_of(d);
+    let declaration = octets::bytes_of(d);
     let o = counter::publish(book, 0, &declaration);
     say(b" publishes ");
     say_moisture(d.moisture);

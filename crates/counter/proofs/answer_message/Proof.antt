@@ -1,11 +1,11 @@
 -- `counter::answer_message` meets its contract.
 -- Assumes nothing.
-use Rattle.counter.proofs.Carried.{called-refused, message-has, message-from, message-taken, send-taken}
-use Rattle.entry.specs.Entered.{kindOf}
+use Rattle.calls.proofs.Carried.{called-refused, message-has, message-from, message-taken, send-taken}
+use Rattle.calls.specs.Entered.{kindOf}
 use Rattle.protocol.specs.Book.{receiving}
 use Rattle.lot.specs.Declaration.{bytesOf}
 use denote.Ref.{now}
-use mathlib.Core.Path.{_≡_, sym, _∙_}
+use mathlib.Core.Path.{sym, _∙_}
 use borrow.Author.Needs.{needs}
 use Rattle.counter.proofs.answer_message.Statement.{statement}
 use Rattle.counter.proofs.answer_message.Tie as tie

@@ -1,6 +1,6 @@
 -- `counter::check_from` meets its contract.
 -- Assumes nothing.
-use Rattle.counter.proofs.Checking.{from-sender, from-another, from-voucher}
+use Rattle.calls.proofs.Checking.{from-sender, from-another, from-voucher}
 use borrow.Author.Needs.{needs}
 use Rattle.counter.proofs.check_from.Statement.{statement}
 use Rattle.counter.proofs.check_from.Tie as tie

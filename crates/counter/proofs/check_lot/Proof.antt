@@ -1,13 +1,13 @@
 -- `counter::check_lot` meets its contract.
 -- Assumes nothing.
-use Rattle.counter.proofs.Checking.{book-sheet, ok-is}
-use Rattle.entry.proofs.Room.{header-room}
-use Rattle.entry.specs.Entered.{kindOf}
-use Rattle.counter.specs.Call.{fromAnswer}
-use Rattle.protocol.specs.Entry.{Decl}
+use Rattle.calls.proofs.Checking.{book-sheet, ok-is}
+use Rattle.meaning.proofs.Room.{header-room}
+use Rattle.calls.specs.Entered.{kindOf}
+use Rattle.calls.specs.Call.{fromAnswer}
+use Rattle.entry.specs.Entry.{Decl}
 use native.Mathlib.Omega.{arith}
 use denote.Ref.{now}
-use mathlib.Core.Path.{_≡_, sym, ap, _∙_}
+use mathlib.Core.Path.{ap, _∙_}
 use borrow.Author.Needs.{needs}
 use Rattle.counter.proofs.check_lot.Statement.{statement}
 use Rattle.counter.proofs.check_lot.Tie as tie

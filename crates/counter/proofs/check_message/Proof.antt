@@ -1,9 +1,9 @@
 -- `counter::check_message` meets its contract.
 -- Assumes nothing.
-use Rattle.counter.proofs.Checking.{sender-missing, number-missing, house-missing, answer-past}
-use Rattle.entry.proofs.Room.{header-room}
+use Rattle.calls.proofs.Checking.{sender-missing, number-missing, house-missing, answer-past}
+use Rattle.meaning.proofs.Room.{header-room}
 use native.Mathlib.Omega.{arith}
-use mathlib.Core.Path.{_≡_, sym, _∙_}
+use mathlib.Core.Path.{sym, _∙_}
 use Rattle.counter.proofs.check_message.Statement.{statement}
 use Rattle.counter.proofs.check_message.Tie as tie
 

@@ -1,16 +1,16 @@
 -- `counter::check_publication` meets its contract.
 -- Assumes nothing.
-use Rattle.counter.proofs.Published.{own-number-missing, lot-not-plausible, published-already, publication-accepted}
-use Rattle.counter.proofs.Checking.{book-sheet, ok-is}
-use Rattle.entry.proofs.Room.{header-room, published-room}
+use Rattle.calls.proofs.Published.{own-number-missing, lot-not-plausible, published-already, publication-accepted}
+use Rattle.calls.proofs.Checking.{book-sheet, ok-is}
+use Rattle.meaning.proofs.Room.{header-room, published-room}
 use Rattle.lot.specs.Declaration.{bytesOf}
 use Rattle.meaning.specs.Layout.{slotPlace}
 use Rattle.meaning.specs.Slot.{slotAt}
-use Rattle.protocol.specs.Entry.{isSome}
+use Rattle.entry.specs.Entry.{isSome}
 use Prim.Native.Nat.{ℕ, _<_}
 use Rattle.sheet.specs.Kept.{sheetAt}
 use Rattle.meaning.specs.Book.{nOf, numbersOf, sheetPlace}
-use Rattle.entry.specs.Entered.{okBy}
+use Rattle.calls.specs.Entered.{okBy}
 use native.Mathlib.Omega.{arith}
 use denote.Ref.{now}
 use mathlib.Core.Path.{_≡_, sym, ap, _∙_}

@@ -1,7 +1,7 @@
 -- `counter::check_request` meets its contract.
 -- Assumes nothing.
-use Rattle.counter.proofs.Requests.{other-season, asker-missing, helped-enough, request-accepted}
-use Rattle.entry.proofs.Room.{header-room}
+use Rattle.calls.proofs.Requests.{other-season, asker-missing, helped-enough, request-accepted}
+use Rattle.meaning.proofs.Room.{header-room}
 use native.Mathlib.Omega.{arith}
 use mathlib.Core.Path.{sym, _∙_}
 use Rattle.counter.proofs.check_request.Statement.{statement}

@@ -1,8 +1,8 @@
 -- `counter::hear` meets its contract.
 -- Assumes nothing.
-use Rattle.counter.proofs.Received.{heard-season, heard-other-season}
-use Rattle.entry.proofs.Room.{header-room}
-use Rattle.entry.specs.Entered.{fiveOf}
+use Rattle.calls.proofs.Received.{heard-season, heard-other-season}
+use Rattle.meaning.proofs.Room.{header-room}
+use Rattle.calls.specs.Entered.{fiveOf}
 use native.Mathlib.Omega.{arith}
 use denote.Ref.{now}
 use borrow.Author.Needs.{needs}

@@ -1,9 +1,9 @@
 -- `counter::hear_request` meets its contract.
 -- Assumes nothing.
-use Rattle.counter.proofs.Requests.{request-from, request-byte, request-helped, request-refused}
+use Rattle.calls.proofs.Requests.{request-from, request-byte, request-helped, request-refused}
 use Rattle.card.proofs.Wall.{houses-byte}
 use Rattle.meaning.proofs.Legality.{legal-facts}
-use Rattle.entry.proofs.Room.{header-room}
+use Rattle.meaning.proofs.Room.{header-room}
 use native.Mathlib.Omega.{arith}
 use denote.Ref.{now}
 use mathlib.Core.Path.{sym, _∙_}

@@ -1,11 +1,11 @@
 -- `counter::publish_legal` meets its contract.
 -- Assumes nothing.
-use Rattle.counter.proofs.Published.{publication-number, publication-called}
-use Rattle.counter.proofs.Carried.{called-refused}
+use Rattle.calls.proofs.Published.{publication-number, publication-called}
+use Rattle.calls.proofs.Carried.{called-refused}
 use Rattle.protocol.specs.Book.{publishing}
 use Rattle.lot.specs.Declaration.{bytesOf}
 use denote.Ref.{now}
-use mathlib.Core.Path.{_≡_, sym, _∙_}
+use mathlib.Core.Path.{sym, _∙_}
 use borrow.Author.Needs.{needs}
 use Rattle.counter.proofs.publish_legal.Statement.{statement}
 use Rattle.counter.proofs.publish_legal.Tie as tie

@@ -1,13 +1,13 @@
 -- `counter::publish_slice` meets its contract.
 -- Assumes nothing.
-use Rattle.counter.proofs.Published.{published-no-book, published-lent}
-use Rattle.counter.proofs.Declarations.{read-decl}
+use Rattle.calls.proofs.Published.{published-no-book, published-lent}
+use Rattle.calls.proofs.Declarations.{read-decl}
 use Rattle.meaning.specs.Legal.{IsDecl}
 use Rattle.lot.specs.Declaration.{bytesOf}
 use Rattle.lot.specs.declared.Declaration.{Declaration}
 use native.Mathlib.Omega.{arith}
 use denote.Ref.{now}
-use mathlib.Core.Path.{_≡_, sym, subst, _∙_}
+use mathlib.Core.Path.{sym, subst, _∙_}
 use borrow.Author.Needs.{needs}
 use Rattle.counter.proofs.publish_slice.Statement.{statement}
 use Rattle.counter.proofs.publish_slice.Tie as tie

@@ -1,7 +1,7 @@
 -- `counter::receive` meets its contract.
 -- Assumes nothing.
-use Rattle.counter.proofs.Received.{received-no-book, received-request, received-malformed, received-message}
-use Rattle.counter.proofs.Declarations.{message-decl}
+use Rattle.calls.proofs.Received.{received-no-book, received-request, received-malformed, received-message}
+use Rattle.calls.proofs.Declarations.{message-decl}
 use Rattle.message.specs.Message.{told}
 use Rattle.message.proofs.Request.{request-long}
 use native.Mathlib.Omega.{arith}

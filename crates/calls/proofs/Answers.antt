@@ -1,0 +1,87 @@
+-- The protocol's outcome of a call, answer by answer, from the tests in the order in which the code makes them.
+-- Assumes nothing.
+use Prim.Native.Nat.{ℕ, zero, suc, _<_, _≤_}
+use mathlib.Core.Path.{_≡_, refl}
+use mathlib.Core.Bool.{true, false}
+use mathlib.Core.Option.{none, some}
+use borrow.Author.Tests.{lt-ltb, le-ltb}
+use Rattle.entry.specs.Entry.{Decl, Kind, SEND, ECHO, READY, Entry, heard}
+use Rattle.protocol.specs.Steps.{Rules, Out, refused, settle, takesSend, takesEcho, takesReady, takes, publishes, may, recording}
+use Rattle.protocol.specs.Steps.{receiveAnswer, receive, publish}
+use Rattle.protocol.specs.Book.{Book, publishing, receiving, outcome}
+
+module _ (R : Rules) (S own p : ℕ) (k : Kind) (j c : ℕ) (v : Decl) (E : Book) where
+  pub no-sender : R .n ≤ j → outcome R S own (receiving p k j c v) E ≡ refused 4 (E j c)
+  unfolding outcome
+  no-sender h = rw (le-ltb _ _ h)
+
+  module _ (in-sender : j < R .n) where
+    pub no-number : S ≤ c → outcome R S own (receiving p k j c v) E ≡ refused 4 (E j c)
+    unfolding outcome
+    no-number h = rw (lt-ltb _ _ in-sender, le-ltb _ _ h)
+
+    module _ (in-number : c < S) where
+      pub no-house : R .n ≤ p → outcome R S own (receiving p k j c v) E ≡ refused 4 (E j c)
+      unfolding outcome receive
+      no-house h = rw (lt-ltb _ _ in-sender, lt-ltb _ _ in-number, le-ltb _ _ h)
+
+      module _ (in-house : p < R .n) where
+        pub not-plausible : R .ok v ≡ false → outcome R S own (receiving p k j c v) E ≡ refused 5 (E j c)
+        unfolding outcome receive
+        not-plausible h = rw (lt-ltb _ _ in-sender, lt-ltb _ _ in-number, lt-ltb _ _ in-house, h)
+
+        module _ (ok : R .ok v ≡ true) where
+          pub not-sender : may j k p ≡ false → outcome R S own (receiving p k j c v) E ≡ refused 6 (E j c)
+          unfolding outcome receive
+          not-sender h = rw (lt-ltb _ _ in-sender, lt-ltb _ _ in-number, lt-ltb _ _ in-house, ok, h)
+
+          module _ (from : may j k p ≡ true) where
+            pub already : (w : Decl) → heard k p (E j c) ≡ some w → outcome R S own (receiving p k j c v) E ≡ refused 7 (E j c)
+            unfolding outcome receive recording
+            already w h = rw (lt-ltb _ _ in-sender, lt-ltb _ _ in-number, lt-ltb _ _ in-house, ok, from, h)
+
+            pub accepted : heard k p (E j c) ≡ none → outcome R S own (receiving p k j c v) E ≡ takes R k p v (E j c)
+            unfolding outcome receive recording
+            accepted h = rw (lt-ltb _ _ in-sender, lt-ltb _ _ in-number, lt-ltb _ _ in-house, ok, from, h)
+
+module _ (R : Rules) (S own c : ℕ) (v : Decl) (E : Book) (in-sender : own < R .n) where
+  pub no-own-number : S ≤ c → outcome R S own (publishing c v) E ≡ refused 4 (E own c)
+  unfolding outcome
+  no-own-number h = rw (lt-ltb _ _ in-sender, le-ltb _ _ h)
+
+  module _ (in-number : c < S) where
+    pub not-publishable : R .ok v ≡ false → outcome R S own (publishing c v) E ≡ refused 5 (E own c)
+    unfolding outcome publish
+    not-publishable h = rw (lt-ltb _ _ in-sender, lt-ltb _ _ in-number, h)
+
+    module _ (ok : R .ok v ≡ true) where
+      pub already-published : (w : Decl) → E own c .published ≡ some w → outcome R S own (publishing c v) E ≡ refused 8 (E own c)
+      unfolding outcome publish
+      already-published w h = rw (lt-ltb _ _ in-sender, lt-ltb _ _ in-number, ok, h)
+
+      pub publishes-it : E own c .published ≡ none → outcome R S own (publishing c v) E ≡ publishes v (E own c)
+      unfolding outcome publish
+      publishes-it h = rw (lt-ltb _ _ in-sender, lt-ltb _ _ in-number, ok, h)
+
+-- ---- the answer alone
+
+takes-zero : (R : Rules) (k : Kind) (p : ℕ) (v : Decl) (e : Entry) → takes R k p v e .answer ≡ 0
+unfolding takesSend takesEcho takesReady
+takes-zero R SEND p v e = refl
+takes-zero R ECHO p v e = refl
+takes-zero R READY p v e = refl
+
+settle-answer : (a : ℕ) (o : Out) (e : Entry) → o .answer ≡ 0 → settle a o e .answer ≡ a
+settle-answer zero o e z = z
+settle-answer (suc a) o e z = refl
+
+module _ (R : Rules) (S own p : ℕ) (k : Kind) (j c : ℕ) (v : Decl) (E : Book) (in-sender : j < R .n) (in-number : c < S) where
+  pub answer-is : outcome R S own (receiving p k j c v) E .answer ≡ receiveAnswer R j p k v (E j c)
+  unfolding outcome receive
+  answer-is =
+      rw (lt-ltb _ _ in-sender, lt-ltb _ _ in-number)
+      (settle-answer (receiveAnswer R j p k v (E j c)) (takes R k p v (E j c)) (E j c) (takes-zero R k p v (E j c)))
+
+  pub accepted-is : receiveAnswer R j p k v (E j c) ≡ 0 → outcome R S own (receiving p k j c v) E ≡ takes R k p v (E j c)
+  unfolding outcome receive
+  accepted-is z = rw (lt-ltb _ _ in-sender, lt-ltb _ _ in-number, z)

@@ -1,0 +1,160 @@
+-- The rule between entries holds: an accepted publication or message changes the named entry alone, and what it gives and leaves there
+-- hangs on the book's header and that entry.
+-- Assumes nothing.
+use Prim.Native.Nat.{ℕ}
+use mathlib.Core.Path.{_≡_, refl, sym, ap, _∙_, subst, subst₂}
+use mathlib.Core.Bool.{Bool, true, false, cond}
+use mathlib.Core.List.{List}
+use mathlib.Core.Option.{Option, none, some}
+use lib.Dec.{eqb}
+use Rattle.card.specs.Card.{fitting}
+use Rattle.words.specs.Words.{Bytes, wordAt}
+use Rattle.message.specs.Message.{Five, readOf, isRequest, requestOf}
+use Rattle.message.proofs.Request.{request-names, no-request}
+use Rattle.entry.specs.Entry.{Decl, Entry, PerEntry, sameEntry, place}
+use Rattle.protocol.specs.Steps.{Out}
+use Rattle.protocol.specs.Book.{Call, publishing, senderOf, numberOf, outcome}
+use Rattle.protocol.specs.Thresholds.{rulesOf}
+use Rattle.protocol.proofs.Calls.{alone}
+use Rattle.meaning.specs.Book.{careOf, numbersOf, ownOf, seasonOf, look, meant}
+use Rattle.meaning.specs.Legal.{legal}
+use Rattle.meaning.proofs.Entries.{same-entry}
+use Rattle.meaning.proofs.Stores.{stored-entry}
+use Rattle.calls.specs.Entered.{Result, giving, okBy, rulesBy, letters}
+use Rattle.calls.specs.Call.{refusal, stepOf, called, published, asked, heardFrom, heardAny, received}
+use Rattle.calls.specs.Between.{Other, SameHeader, Alike, Between}
+use Rattle.calls.proofs.Keeps.{kept-none, called-stored, called-given, called-keeps, requested-entries}
+
+place-other : (f : PerEntry Entry) (j c : ℕ) (x : Entry) (j₂ c₂ : ℕ) → Other j c j₂ c₂ → place f j c x j₂ c₂ ≡ f j₂ c₂
+place-other f j c x j₂ c₂ d = go (sameEntry j c j₂ c₂) refl
+  where
+    go : (t : Bool) → sameEntry j c j₂ c₂ ≡ t → cond t x (f j₂ c₂) ≡ f j₂ c₂
+    go true e = absurd (d (same-entry j c j₂ c₂ e))
+    go false e = refl
+
+-- ---- the named entry alone
+
+module _ (b : List ℕ) (h : legal b ≡ true) (bytes : Bytes b) where
+  pub called-others : (a : Call) (j c : ℕ) → Other (senderOf (ownOf b) a) (numberOf a) j c → look (called b a .book) j c ≡ look b j c
+  called-others a j c d =
+      ap (λ (f : PerEntry Entry). f j c) (called-stored b h bytes a .entries)
+      ∙ place-other (look b) (senderOf (ownOf b) a) (numberOf a) (stepOf b a .entry) j c d
+
+  pub published-others : (number : ℕ) (v : Decl) (j c : ℕ) → Other (ownOf b) number j c → look (published b number v .book) j c ≡ look b j c
+  unfolding published
+  published-others number v j c d = rw h (called-others (publishing number v) j c d)
+
+  -- the entry that a message names is what reading its bytes gives
+  pub received-others : (p : ℕ) (message : List ℕ) (j c : ℕ)
+      → ((m : Five) → readOf message .five ≡ some m → Other (m .sender) (m .number) j c)
+      → look (received b p message .book) j c ≡ look b j c
+  unfolding received
+  received-others p message j c d = rw h (any (requestOf message) (readOf message .five) d)
+    where
+      in-season : (m : Five) → Other (m .sender) (m .number) j c → (t : Bool)
+          → look (cond t (called b (asked p m)) (refusal 3 b) .book) j c ≡ look b j c
+      in-season m d true = called-others (asked p m) j c d
+      in-season m d false = refl
+
+      go : (x : Option Five) → ((m : Five) → x ≡ some m → Other (m .sender) (m .number) j c) → look (heardFrom b p x .book) j c ≡ look b j c
+      go none d = refl
+      go (some m) d = in-season m (d m refl) (eqb (m .season) (seasonOf b))
+
+      any : (o : Option ℕ) (x : Option Five) → ((m : Five) → x ≡ some m → Other (m .sender) (m .number) j c)
+          → look (heardAny b p o x .book) j c ≡ look b j c
+      any none x d = go x d
+      any (some season) x d = ap (λ (f : PerEntry Entry). f j c) (requested-entries b h bytes p season)
+
+  -- the header and the care stay
+  abbrev Stay : Result → Type 0
+  Stay r = SameHeader (r .book) b × (careOf (r .book) ≡ careOf b)
+
+  stays : (n : ℕ) → Stay (refusal n b)
+  stays n = (kept-none b h bytes .header, refl)
+
+  called-header : (a : Call) → Stay (called b a)
+  called-header a = (called-keeps b h bytes a .header, called-stored b h bytes a .care)
+
+  pub published-header : (number : ℕ) (v : Decl) → Stay (published b number v)
+  unfolding published
+  published-header number v = rw h (called-header (publishing number v))
+
+  pub received-header : (p : ℕ) (message : List ℕ) → isRequest message ≡ false → Stay (received b p message)
+  unfolding received
+  received-header p message t = rw (h, no-request message t) (go (readOf message .five))
+    where
+      in-season : (m : Five) (t : Bool) → Stay (cond t (called b (asked p m)) (refusal 3 b))
+      in-season m true = called-header (asked p m)
+      in-season m false = stays 3
+
+      go : (x : Option Five) → Stay (heardFrom b p x)
+      go none = stays 2
+      go (some m) = in-season m (eqb (m .season) (seasonOf b))
+
+  pub request-others : (p : ℕ) (message : List ℕ) → isRequest message ≡ true → look (received b p message .book) ≡ look b
+  unfolding received
+  request-others p message t = rw (h, request-names message t) (requested-entries b h bytes p (wordAt message 7))
+
+-- ---- two books that agree on the header and on one entry
+
+module _ (b d : List ℕ) (hb : legal b ≡ true) (hd : legal d ≡ true) (bb : Bytes b) (bd : Bytes d) (same : SameHeader b d) where
+  step-same : (a : Call) → look b (senderOf (ownOf b) a) (numberOf a) ≡ look d (senderOf (ownOf b) a) (numberOf a) → stepOf b a ≡ stepOf d a
+  unfolding stepOf meant rulesBy careOf
+  step-same a e =
+      alone (rulesBy (meant b)) (numbersOf b) (ownOf b) a .same (look b) (look d) e
+      ∙ (λ i. outcome (rules i) (same .numbers i) (same .own i) a (look d))
+    where
+      rules : rulesBy (meant b) ≡ rulesBy (meant d)
+      rules = λ i. rulesOf (same .n i) (fitting (same .n i) (same .down i)) (same .down i) (okBy (same .sheet i))
+
+  pub called-same : (a : Call) → look b (senderOf (ownOf b) a) (numberOf a) ≡ look d (senderOf (ownOf b) a) (numberOf a)
+      → Alike (called b a) (called d a) (senderOf (ownOf b) a) (numberOf a)
+  called-same a e =
+      let o = step-same a e in
+      let c = numberOf a in
+      record {
+        given =
+            called-given b hb bb a
+            ∙ (λ i. giving (o i .answer) (letters (same .season i) (senderOf (same .own i) a) c (o i .message)) (o i .delivery))
+            ∙ sym (called-given d hd bd a);
+        entry =
+            stored-entry b (senderOf (ownOf b) a) c (called b a .book) (stepOf b a .entry) (called-stored b hb bb a)
+            ∙ ap (λ (x : Out). x .entry) o
+            ∙ sym (stored-entry d (senderOf (ownOf d) a) c (called d a .book) (stepOf d a .entry) (called-stored d hd bd a))
+            ∙ ap (λ (x : ℕ). look (called d a .book) (senderOf x a) c) (sym (same .own));
+      }
+
+  pub published-same : (c : ℕ) (v : Decl) → look b (ownOf b) c ≡ look d (ownOf b) c → Alike (published b c v) (published d c v) (ownOf b) c
+  unfolding published
+  published-same c v e = rw (hb, hd) (called-same (publishing c v) e)
+
+  pub received-same : (p : ℕ) (message : List ℕ) (j c : ℕ) → isRequest message ≡ false
+      → ((m : Five) → readOf message .five ≡ some m → (m .sender ≡ j) × (m .number ≡ c))
+      → look b j c ≡ look d j c → Alike (received b p message) (received d p message) j c
+  unfolding received
+  received-same p message j c t names e = rw (hb, hd, no-request message t) (go (readOf message .five) names)
+    where
+      in-season : (m : Five) → m .sender ≡ j → m .number ≡ c → (t : Bool)
+          → Alike (cond t (called b (asked p m)) (refusal 3 b)) (cond t (called d (asked p m)) (refusal 3 d)) j c
+      in-season m x y true =
+          subst₂ (λ (j c : ℕ). Alike (called b (asked p m)) (called d (asked p m)) j c) x y (called-same (asked p m) (rw (x, y) e))
+      in-season m x y false = record { given = refl; entry = e }
+
+      go : (x : Option Five) → ((m : Five) → x ≡ some m → (m .sender ≡ j) × (m .number ≡ c)) → Alike (heardFrom b p x) (heardFrom d p x) j c
+      go none f = record { given = refl; entry = e }
+      go (some m) f =
+          let names = f m refl in
+          subst (λ (x : ℕ). Alike (heardFrom b p (some m)) (cond (eqb (m .season) x) (called d (asked p m)) (refusal 3 d)) j c)
+          (same .season) (in-season m (names .0) (names .1) (eqb (m .season) (seasonOf b)))
+
+pub between : Between
+between =
+    record {
+      published-others = λ b L. published-others b (L .legal) (L .bytes);
+      received-others = λ b L. received-others b (L .legal) (L .bytes);
+      published-header = λ b L. published-header b (L .legal) (L .bytes);
+      received-header = λ b L. received-header b (L .legal) (L .bytes);
+      published-same = λ b d L M. published-same b d (L .legal) (M .legal) (L .bytes) (M .bytes);
+      received-same = λ b d L M. received-same b d (L .legal) (M .legal) (L .bytes) (M .bytes);
+      request-others = λ b L. request-others b (L .legal) (L .bytes);
+    }

@@ -1,0 +1,57 @@
+-- Declarations that come in are 20 bytes, and plausible at the bytes exactly when their numbers are.
+-- Assumes nothing.
+use Prim.Native.Nat.{ℕ, zero, suc}
+use mathlib.Core.Path.{_≡_, refl, sym, ap, subst}
+use mathlib.Core.Bool.{Bool, true, false}
+use mathlib.Core.List.{List, [], _∷_}
+use native.Mathlib.Omega.{arith}
+use lib.ListN.{length}
+use borrow.Author.Tests.{eq-eqb, lt-ltb}
+use Rattle.words.specs.Words.{Bytes}
+use Rattle.lot.specs.declared.Declaration.{Declaration}
+use Rattle.sheet.specs.declared.Sheet.{Sheet}
+use Rattle.lot.specs.Declaration.{declarationAt, bytesOf}
+use Rattle.sheet.specs.Sheet.{plausible}
+use Rattle.lot.proofs.Declared.{numbers-of-bytes, bytes-are-bytes}
+use Rattle.message.specs.Message.{Five, Told, wellFormed, fiveAt, gives, malformed, readOf}
+use Rattle.message.proofs.RoundTrip.{fiveOr}
+use Rattle.entry.specs.Entry.{Decl}
+use Rattle.meaning.specs.Legal.{IsDecl}
+use Rattle.calls.specs.Entered.{allBytes, isDecl, okBy}
+
+all-bytes : (v : List ℕ) → Bytes v → allBytes v ≡ true
+all-bytes [] b = refl
+all-bytes (x ∷ xs) b = rw (lt-ltb x 256 (b zero)) (all-bytes xs (λ i. b (suc i)))
+
+pub decl-true : (v : Decl) → IsDecl v → isDecl v ≡ true
+unfolding isDecl
+decl-true v d = rw (eq-eqb _ _ (d .long)) (all-bytes v (d .bytes))
+
+-- at the bytes that the numbers have
+pub plausible-ok : (s : Sheet) (d : Declaration) → IsDecl (bytesOf d) → plausible s d ≡ okBy s (bytesOf d)
+unfolding okBy
+plausible-ok s d v = rw (decl-true (bytesOf d) v) (ap (plausible s) (sym (numbers-of-bytes d)))
+
+-- the numbers read from bytes have 20 bytes
+pub read-decl : (s : List ℕ) (i : ℕ) → Bytes s → IsDecl (bytesOf (declarationAt s i))
+unfolding bytesOf
+read-decl s i b = record { long = refl; bytes = bytes-are-bytes s i b }
+
+-- and so have those of a message that was read
+pub message-decl : (s : List ℕ) (m : Five) → Bytes s → readOf s ≡ gives m → IsDecl (bytesOf (m .declaration))
+unfolding readOf fiveAt
+message-decl s m b r = go (wellFormed s) refl
+  where
+    go : (t : Bool) → wellFormed s ≡ t → IsDecl (bytesOf (m .declaration))
+    go true h =
+        let q : gives (fiveAt s) ≡ gives m = rw h at r in
+        let e = ap (λ (x : Told). fiveOr m (x .five)) q in
+        subst (λ (x : Five). IsDecl (bytesOf (x .declaration))) e (read-decl s 16 b)
+    go false h =
+        let q : malformed ≡ gives m = rw h at r in
+        let z : _≡_ {A = ℕ} 2 0 = ap (λ (x : Told). x .answer) q in
+        absurd (omega arith)
+
+-- 20 lent bytes are a declaration, and the bytes of their numbers
+pub lent-decl : (v : List ℕ) → length v ≡ 20 → Bytes v → IsDecl v
+lent-decl v l b = record { long = l; bytes = b }

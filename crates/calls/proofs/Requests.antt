@@ -1,0 +1,80 @@
+-- A request for help, answer by answer, from what the code found.
+-- Assumes nothing.
+use Prim.Native.Nat.{ℕ, _<_, _≤_}
+use mathlib.Core.Path.{_≡_, sym, ap, _∙_}
+use mathlib.Core.Bool.{true}
+use mathlib.Core.List.{List}
+use mathlib.Core.Option.{none}
+use native.Mathlib.Decide.{decLt, ℕ-discrete}
+use native.Mathlib.Omega.{arith}
+use lib.ListN.{getD}
+use borrow.Author.Tests.{eq-eqb, ne-eqb, lt-ltb, le-ltb}
+use Rattle.protocol.specs.Run.{helpAnswer}
+use Rattle.meaning.specs.Layout.{mostLimit, helpedPlace}
+use Rattle.meaning.specs.Book.{nOf, seasonOf, limitOf, helpedOf, countHelp}
+use Rattle.meaning.specs.Legal.{legal}
+use Rattle.meaning.proofs.Legality.{legal-facts}
+use Rattle.calls.specs.declared.Outcome.{Outcome}
+use Rattle.calls.specs.Entered.{result, giving, helping}
+use Rattle.calls.specs.Call.{requestAnswer, requested}
+
+module _ (b : List ℕ) (p season : ℕ) where
+  -- 3
+  pub other-season : (season ≡ seasonOf b → ⊥) → 3 ≡ requestAnswer b p season
+  unfolding requestAnswer
+  other-season f = rw (ne-eqb _ _ f)
+
+  module _ (s : season ≡ seasonOf b) where
+    -- 4
+    pub asker-missing : nOf b ≤ p → 4 ≡ requestAnswer b p season
+    unfolding requestAnswer helpAnswer
+    asker-missing l = rw (eq-eqb _ _ s, le-ltb _ _ l)
+
+    module _ (l : p < nOf b) where
+      -- 14
+      pub helped-enough : limitOf b ≤ getD b (helpedPlace p) 0 → 14 ≡ requestAnswer b p season
+      unfolding requestAnswer helpAnswer helpedOf
+      helped-enough m = rw (eq-eqb _ _ s, lt-ltb _ _ l, le-ltb _ _ m)
+
+      pub request-accepted : getD b (helpedPlace p) 0 < limitOf b → 0 ≡ requestAnswer b p season
+      unfolding requestAnswer helpAnswer helpedOf
+      request-accepted m = rw (eq-eqb _ _ s, lt-ltb _ _ l, lt-ltb _ _ m)
+
+  -- an accepted request comes from a house of the book that was helped less than d times
+  module _ (z : requestAnswer b p season ≡ 0) where
+    pub request-season : season ≡ seasonOf b
+    request-season = go (ℕ-discrete season (seasonOf b))
+      where
+        go : Dec (season ≡ seasonOf b) → season ≡ seasonOf b
+        go (yes e) = e
+        go (no f) = absurd (omega (arith, other-season f, z))
+
+    pub request-from : p < nOf b
+    request-from = go (decLt p (nOf b))
+      where
+        go : Dec (p < nOf b) → p < nOf b
+        go (yes l) = l
+        go (no f) = absurd (omega (arith, asker-missing request-season (omega arith), z))
+
+    pub request-low : getD b (helpedPlace p) 0 < limitOf b
+    request-low = go (decLt (getD b (helpedPlace p) 0) (limitOf b))
+      where
+        go : Dec (getD b (helpedPlace p) 0 < limitOf b) → getD b (helpedPlace p) 0 < limitOf b
+        go (yes l) = l
+        go (no f) = absurd (omega (arith, helped-enough request-season request-from (omega arith), z))
+
+    pub request-byte : legal b ≡ true → getD b (helpedPlace p) 0 < 255
+    unfolding mostLimit
+    request-byte h = omega (arith, request-low, legal-facts b h .limit)
+
+  pub request-helped : (n : ℕ) → n ≡ requestAnswer b p season → n ≡ 0 → (r : Outcome) → r ≡ helping → (d : List ℕ) → d ≡ countHelp b p
+      → result r d ≡ requested b p season
+  unfolding requested
+  request-helped n e z r q d ed = rw (eq-eqb _ _ (sym e ∙ z)) (λ i. result (q i) (ed i))
+
+  pub request-refused : (n : ℕ) → n ≡ requestAnswer b p season → (n ≡ 0 → ⊥) → (r : Outcome) → r ≡ giving n none none
+      → result r b ≡ requested b p season
+  unfolding requested
+  request-refused n e f r q =
+      rw (ne-eqb (requestAnswer b p season) 0 (λ z. f (e ∙ z)))
+      (ap (λ (x : Outcome). result x b) (q ∙ ap (λ (x : ℕ). giving x none none) e))

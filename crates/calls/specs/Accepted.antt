@@ -1,0 +1,29 @@
+-- What this crate promises, in document 01's order. That an accepted call is one step of the protocol, `counter` promises of all calls.
+-- Assumes nothing.
+use Prim.Native.Nat.{ℕ}
+use mathlib.Core.Path.{_≡_}
+use Rattle.card.specs.declared.Counts.{Counts}
+use Rattle.card.specs.Card.{countsOf}
+use Rattle.lot.specs.Declaration.{declarationAt, bytesOf}
+use Rattle.message.specs.Message.{gives, readOf}
+use Rattle.entry.specs.Entry.{Decl, Kind}
+use Rattle.protocol.specs.Steps.{say}
+use Rattle.meaning.specs.Book.{Meaning}
+use Rattle.meaning.specs.Legal.{IsDecl}
+use Rattle.calls.specs.Entered.{kindNumber, kindOf, fiveOf, letter, rulesBy}
+
+-- the counts that a book's steps compare with
+abbrev pub countsBy : Meaning → Counts
+countsBy B = countsOf (B .n) (B .care .down)
+
+pub record Claims : Type 0 where
+  -- The counts that a book's steps compare with are the wall card's, at its n and f.
+  pub quorum-by : (B : Meaning) → rulesBy B .quorum ≡ countsBy B .quorum
+  pub amplify-by : (B : Meaning) → rulesBy B .amplify ≡ countsBy B .amplify
+  pub deliver-by : (B : Meaning) → rulesBy B .deliver ≡ countsBy B .deliver
+  -- Each message given on an entry reads as its kind, with the book's season and that entry's sender and number,
+  pub letter-read : (season sender number : ℕ) (k : Kind) (v : Decl)
+      → readOf (letter season sender number (say k v)) ≡ gives (fiveOf (kindNumber k) season sender number (declarationAt v 0))
+  pub kind-read : (k : Kind) → kindOf (kindNumber k) ≡ k
+  -- and carries the declaration itself.
+  pub declaration-read : (v : Decl) → IsDecl v → bytesOf (declarationAt v 0) ≡ v

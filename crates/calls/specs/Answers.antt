@@ -1,0 +1,72 @@
+-- When each answer of publishing and receiving is given: where several apply, the first in the call's order.
+-- Assumes nothing.
+use Prim.Native.Nat.{ℕ, _≤_, _<_}
+use mathlib.Core.Path.{_≡_}
+use mathlib.Core.Bool.{Bool, true, false}
+use mathlib.Core.List.{List}
+use mathlib.Core.Logic.{_⊎_}
+use mathlib.Core.Option.{none, some}
+use Rattle.lot.specs.Declaration.{bytesOf}
+use Rattle.sheet.specs.Kept.{sheetAt}
+use Rattle.message.specs.Message.{Five, gives, malformed, readOf, requestOf}
+use Rattle.entry.specs.Entry.{Decl, heard}
+use Rattle.meaning.specs.Book.{nOf, numbersOf, ownOf, seasonOf, sheetPlace, limitOf, helpedOf, look}
+use Rattle.meaning.specs.Legal.{legal}
+use Rattle.calls.specs.Entered.{okBy, kindOf}
+use Rattle.calls.specs.Call.{published, received}
+
+-- plausible by the book's sheet
+abbrev ok : List ℕ → Decl → Bool
+ok b v = okBy (sheetAt b sheetPlace) v
+
+-- Publishing v at number c: 1, 4, 5, 8.
+pub record Publishing (b : List ℕ) (c : ℕ) (v : Decl) : Type 0 where
+  pub no-book : legal b ≡ false → published b c v .given .answer ≡ 1
+  pub no-number : legal b ≡ true → numbersOf b ≤ c → published b c v .given .answer ≡ 4
+  pub not-plausible : legal b ≡ true → c < numbersOf b → ok b v ≡ false → published b c v .given .answer ≡ 5
+  pub already : legal b ≡ true → c < numbersOf b → ok b v ≡ true → (w : Decl) → look b (ownOf b) c .published ≡ some w
+      → published b c v .given .answer ≡ 8
+  pub accepted : legal b ≡ true → c < numbersOf b → ok b v ≡ true → look b (ownOf b) c .published ≡ none
+      → published b c v .given .answer ≡ 0
+
+-- bytes from house p on a legal book, which read as m, of the book's season
+pub record Reads (b message : List ℕ) (m : Five) : Type 0 where
+  pub legal : legal b ≡ true
+  pub reads : readOf message ≡ gives m
+  pub season : m .season ≡ seasonOf b
+
+-- sender, entry number and house number are in the book
+pub record Inside (b : List ℕ) (p : ℕ) (m : Five) : Type 0 where
+  pub sender : m .sender < nOf b
+  pub number : m .number < numbersOf b
+  pub house : p < nOf b
+
+-- and the declaration is plausible
+pub record Plausible (b : List ℕ) (p : ℕ) (m : Five) : Type 0 where
+  pub inside : Inside b p m
+  pub plausible : ok b (bytesOf (m .declaration)) ≡ true
+
+-- Receiving from house p: 1 to 7 in order; a request 1 to 4, then 14.
+pub record Receiving (b : List ℕ) (p : ℕ) (message : List ℕ) : Type 0 where
+  pub no-book : legal b ≡ false → received b p message .given .answer ≡ 1
+  pub malformed : legal b ≡ true → requestOf message ≡ none → readOf message ≡ malformed → received b p message .given .answer ≡ 2
+  pub other-season : legal b ≡ true → (m : Five) → readOf message ≡ gives m → (m .season ≡ seasonOf b → ⊥)
+      → received b p message .given .answer ≡ 3
+  pub missing : (m : Five) → Reads b message m → (nOf b ≤ m .sender) ⊎ ((numbersOf b ≤ m .number) ⊎ (nOf b ≤ p))
+      → received b p message .given .answer ≡ 4
+  pub not-plausible : (m : Five) → Reads b message m → Inside b p m → ok b (bytesOf (m .declaration)) ≡ false
+      → received b p message .given .answer ≡ 5
+  pub not-sender : (m : Five) → Reads b message m → Plausible b p m → m .kind ≡ 1 → (p ≡ m .sender → ⊥)
+      → received b p message .given .answer ≡ 6
+  pub already : (m : Five) → Reads b message m → Plausible b p m → (m .kind ≡ 1 → p ≡ m .sender)
+      → (w : Decl) → heard (kindOf (m .kind)) p (look b (m .sender) (m .number)) ≡ some w → received b p message .given .answer ≡ 7
+  pub accepted : (m : Five) → Reads b message m → Plausible b p m → (m .kind ≡ 1 → p ≡ m .sender)
+      → heard (kindOf (m .kind)) p (look b (m .sender) (m .number)) ≡ none → received b p message .given .answer ≡ 0
+  -- a request
+  pub request-other-season : legal b ≡ true → (season : ℕ) → requestOf message ≡ some season → (season ≡ seasonOf b → ⊥)
+      → received b p message .given .answer ≡ 3
+  pub request-missing : legal b ≡ true → requestOf message ≡ some (seasonOf b) → nOf b ≤ p → received b p message .given .answer ≡ 4
+  pub request-enough : legal b ≡ true → requestOf message ≡ some (seasonOf b) → p < nOf b → limitOf b ≤ helpedOf b p
+      → received b p message .given .answer ≡ 14
+  pub request-accepted : legal b ≡ true → requestOf message ≡ some (seasonOf b) → p < nOf b → helpedOf b p < limitOf b
+      → received b p message .given .answer ≡ 0

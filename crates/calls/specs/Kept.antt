@@ -1,0 +1,22 @@
+-- What every call keeps of a legal book.
+-- Assumes nothing.
+use Prim.Native.Nat.{ℕ, _≤_}
+use mathlib.Core.Path.{_≡_}
+use mathlib.Core.Bool.{true}
+use mathlib.Core.List.{List}
+use Rattle.words.specs.Words.{Bytes}
+use Rattle.entry.specs.Entry.{Filled}
+use Rattle.meaning.specs.Book.{limitOf, helpedOf, look}
+use Rattle.meaning.specs.Legal.{legal}
+use Rattle.calls.specs.Between.{SameHeader}
+
+-- bytes a after bytes b
+pub record Kept (b a : List ℕ) : Type 0 where
+  pub legal : legal a ≡ true
+  pub bytes : Bytes a
+  pub header : SameHeader a b
+  pub limit : limitOf a ≡ limitOf b
+  -- help is only ever counted
+  pub helped : (p : ℕ) → helpedOf b p ≤ helpedOf a p
+  -- what stands in a slot stays
+  pub fills : (j c : ℕ) → Filled (look b j c) (look a j c)

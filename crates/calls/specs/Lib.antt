@@ -1,0 +1,11 @@
+pub mod Entered
+pub mod Accepted
+pub mod Call
+pub mod Search
+pub mod Again
+pub mod Calls
+pub mod Between
+pub mod Kept
+pub mod Silent
+pub mod Answers
+pub mod Claims

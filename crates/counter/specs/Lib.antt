@@ -1,9 +1,0 @@
-pub mod Call
-pub mod Search
-pub mod Again
-pub mod Calls
-pub mod Between
-pub mod Kept
-pub mod Silent
-pub mod Answers
-pub mod Claims

@@ -1,0 +1,12 @@
+-- `lot::is_finite` meets its contract.
+-- Assumes nothing.
+use mathlib.Core.Path.{sym}
+use Rattle.floats.proofs.Finite.{finite-bits}
+use Rattle.floats.proofs.is_finite.Statement.{statement}
+use Rattle.floats.proofs.is_finite.Tie as tie
+
+returns : tie.Need-returns
+returns c = sym (finite-bits _)
+
+pub is-finite-spec : {M : Type 1} → statement M
+is-finite-spec = tie.close (tie.spec returns)

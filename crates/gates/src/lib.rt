@@ -1,0 +1,80 @@
+// Whether readings are within their gates, and a declaration plausible.
+ghost use mathlib.Core.Path.{_≡_};
+ghost use mathlib.Core.Bool.{true};
+ghost use Prim.Native.Nat.{_*_};
+ghost use Rattle.sheet.specs.Sheet.{finite, within, limitsFinite, gateLegal, sheetLegal, readingsOf, admitted, plausible};
+use lot::Declaration;
+use sheet::Gate;
+use sheet::Readings;
+use sheet::Sheet;
+
+fn readings_of(d: Declaration) -> Readings
+    ensures { λ r. ⌜ r ≡ readingsOf d ⌝ }
+{
+    Readings {
+        moisture: floats::float_of(d.moisture),
+        conductivity: floats::float_of(d.conductivity),
+    }
+}
+
+fn is_within(g: Gate, x: f32) -> bool
+    requires { ⌜ (gateLegal g ≡ true) × (finite x ≡ true) ⌝ }
+    ensures { λ r. ⌜ r ≡ within g x ⌝ }
+{
+    match g {
+        Gate::Open => true,
+        Gate::AtMost(high) => floats::is_at_most(x, high),
+        Gate::Between(low, high) => {
+            if floats::is_at_most(low, x) {
+                return floats::is_at_most(x, high);
+            }
+            false
+        }
+    }
+}
+
+// No low exceeds its high, no limit being NaN or infinite.
+pub fn is_legal_gate(g: Gate) -> bool
+    requires { ⌜ limitsFinite g ≡ true ⌝ }
+    ensures { λ r. ⌜ r ≡ gateLegal g ⌝ }
+{
+    match g {
+        Gate::Open => true,
+        Gate::AtMost(_) => true,
+        Gate::Between(low, high) => floats::is_at_most(low, high),
+    }
+}
+
+// Each reading is within its gate.
+fn admits(s: Sheet, r: Readings) -> bool
+    requires { ⌜ (sheetLegal s ≡ true) × (finite (r .moisture) ≡ true) × (finite (r .conductivity) ≡ true) ⌝ }
+    ensures { λ b. ⌜ b ≡ admitted s r ⌝ }
+{
+    let m = s.moisture;
+    let c = s.conductivity;
+    if is_within(m, r.moisture) {
+        return is_within(c, r.conductivity);
+    }
+    false
+}
+
+// The most kilograms that so many colonies may give: the exact product.
+fn most(colonies: u32, cap: u32) -> u64
+    ensures { λ r. ⌜ r ≡ colonies * cap ⌝ }
+{
+    (colonies as u64) * (cap as u64)
+}
+
+pub fn is_plausible(s: Sheet, d: Declaration) -> bool
+    requires { ⌜ sheetLegal s ≡ true ⌝ }
+    ensures { λ r. ⌜ r ≡ plausible s d ⌝ }
+{
+    if d.kilograms as u64 <= most(d.colonies, s.cap) {
+        if floats::is_finite(d.moisture) {
+            if floats::is_finite(d.conductivity) {
+                return admits(s, readings_of(d));
+            }
+        }
+    }
+    false
+}

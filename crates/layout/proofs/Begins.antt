@@ -1,0 +1,27 @@
+-- An entry of a legal book begins where its first slot stands, and lies within the book.
+use Prim.Native.Nat.{ℕ, _-_, _<_}
+use mathlib.Core.Path.{_≡_, _∙_}
+use mathlib.Core.List.{List}
+use native.Mathlib.Omega.{arith}
+use Rattle.meaning.specs.Layout.{slotPlace, entrySlot}
+use Rattle.meaning.specs.Book.{nOf, numbersOf, placeIn}
+use Rattle.meaning.specs.Legal.{Has}
+use Rattle.meaning.proofs.Legality.{legal-facts}
+use Rattle.layout.specs.Places.{Begins}
+use Rattle.meaning.proofs.Room.{header-room, entry-room}
+
+pub begins : (b : List ℕ) (j c n s k r : ℕ) → Has b j c → n ≡ nOf b → s ≡ numbersOf b → k ≡ entrySlot n s c j 0
+    → r ≡ slotPlace n k → r < 4294967296 → Begins b j c r
+begins b j c n s k r has en es ek er small =
+    let is : r ≡ placeIn b j c 0 = er ∙ (λ i. slotPlace (en i) ((ek ∙ (λ m. entrySlot (en m) (es m) c j 0)) i)) in
+    record {
+      is = is;
+      within = record {
+        n = legal-facts b (has .is-legal) .n;
+        down = legal-facts b (has .is-legal) .down;
+        some = omega (arith, header-room b (has .is-legal));
+        room = omega (arith, entry-room b j c has);
+        small = small;
+      };
+    }
+

@@ -1,0 +1,33 @@
+-- `entry::entry_at` meets its contract.
+-- Assumes nothing.
+use Rattle.meaning.proofs.Room.{header-room}
+use Rattle.layout.proofs.Begins.{begins}
+use native.Mathlib.Omega.{arith}
+use borrow.Author.Needs.{needs}
+use Rattle.layout.proofs.entry_at.Statement.{statement}
+use Rattle.layout.proofs.entry_at.Tie as tie
+
+n-of-requires : tie.Need-n-of-requires
+n-of-requires c κs = let h = header-room _ (c .before .pre .is-legal) in omega arith
+
+numbers-of-requires : tie.Need-numbers-of-requires
+numbers-of-requires c κs = let h = header-room _ (c .before .before .pre .is-legal) in omega arith
+
+entry-slot-requires : tie.Need-entry-slot-requires
+entry-slot-requires c κs = search needs
+
+slot-place-requires : tie.Need-slot-place-requires
+slot-place-requires c κs = search needs
+
+returns : tie.Need-returns
+returns c =
+    let k = c .before in
+    let s = k .before in
+    let n = s .before in
+    begins _ _ _ _ _ _ _ (n .before .before .pre) (n .n-of .ensures .0) (s .numbers-of .ensures .0) (k .entry-slot .ensures .0)
+    (c .slot-place .ensures .0) (c .slot-place .ensures .1)
+
+pub entry-at-spec : {M : Type 1} → statement M
+entry-at-spec =
+    tie.close
+    (tie.spec n-of-requires numbers-of-requires entry-slot-requires slot-place-requires returns)

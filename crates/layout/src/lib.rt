@@ -1,0 +1,165 @@
+// Where a book's parts lie: the header's fields, its slots, the slots of an entry.
+ghost use mathlib.Core.Path.{_≡_};
+ghost use Prim.Native.Nat.{_+_, _*_, _<_, _≤_};
+ghost use lib.ListN.{length, getD};
+ghost use Rattle.sheet.specs.Kept.{sheetAt};
+ghost use Rattle.meaning.specs.Layout.{helpedPlace, headLength, perEntry, slotCount, lengthOf, slotPlace, entrySlot};
+ghost use Rattle.meaning.specs.Book.{nOf, numbersOf, ownOf, seasonOf, sheetPlace, downOf, limitOf, countHelp};
+ghost use Rattle.meaning.specs.Legal.{Has};
+ghost use Rattle.layout.specs.Places.{Begins};
+use sheet::Sheet;
+
+// Where the sheet's 22 bytes stand, then f, d and the help given to each house.
+const SHEET: usize = 7;
+
+const DOWN: usize = 29;
+
+const LIMIT: usize = 30;
+
+const HELPED: usize = 31;
+
+// Houses n.
+pub fn n_of(b: &[u8]) -> usize
+    requires { ⌜ 0 < length (now b) ⌝ }
+    ensures { λ r. ⌜ (r ≡ nOf (now (b .entry))) × (r < 256) ⌝ }
+{
+    octets::wide(b[0]) as usize
+}
+
+// Entry numbers S.
+pub fn numbers_of(b: &[u8]) -> usize
+    requires { ⌜ 1 < length (now b) ⌝ }
+    ensures { λ r. ⌜ (r ≡ numbersOf (now (b .entry))) × (r < 256) ⌝ }
+{
+    octets::wide(b[1]) as usize
+}
+
+// The own number.
+pub fn own_of(b: &[u8]) -> usize
+    requires { ⌜ 2 < length (now b) ⌝ }
+    ensures { λ r. ⌜ (r ≡ ownOf (now (b .entry))) × (r < 256) ⌝ }
+{
+    octets::wide(b[2]) as usize
+}
+
+// The season.
+pub fn season_of(b: &[u8]) -> u32
+    requires { ⌜ 6 < length (now b) ⌝ }
+    ensures { λ r. ⌜ r ≡ seasonOf (now (b .entry)) ⌝ }
+{
+    octets::word_at(b, 3)
+}
+
+// f, how many honest houses may be down.
+pub fn down_of(b: &[u8]) -> usize
+    requires { ⌜ 29 < length (now b) ⌝ }
+    ensures { λ r. ⌜ (r ≡ downOf (now (b .entry))) × (r < 256) ⌝ }
+{
+    octets::wide(b[DOWN]) as usize
+}
+
+// The recovery limit d.
+pub fn limit_of(b: &[u8]) -> usize
+    requires { ⌜ 30 < length (now b) ⌝ }
+    ensures { λ r. ⌜ (r ≡ limitOf (now (b .entry))) × (r < 256) ⌝ }
+{
+    octets::wide(b[LIMIT]) as usize
+}
+
+// How often asker p was helped.
+pub fn helped_at(b: &[u8], p: usize) -> usize
+    requires { ⌜ (p < 256) × (31 + p < length (now b)) ⌝ }
+    ensures { λ r. ⌜ (r ≡ getD (now (b .entry)) (helpedPlace p) 0) × (r < 256) ⌝ }
+{
+    octets::wide(b[HELPED + p]) as usize
+}
+
+// One more help for asker p.
+pub fn count_help(b: &mut [u8], p: usize)
+    requires { ⌜ (p < 256) × (31 + p < length (now b)) × (getD (now b) (helpedPlace p) 0 < 255) ⌝ }
+    ensures { λ _. ⌜ now (b .exit) ≡ countHelp (now (b .entry)) p ⌝ }
+{
+    b[HELPED + p] = b[HELPED + p] + 1;
+}
+
+// The sheet.
+pub fn sheet_of(b: &[u8]) -> Sheet
+    requires { ⌜ 28 < length (now b) ⌝ }
+    ensures { λ r. ⌜ r ≡ sheetAt (now (b .entry)) sheetPlace ⌝ }
+{
+    judge::sheet_at(b, SHEET)
+}
+
+// The header's bytes: n, S, own number, season, sheet, f, d, and for each house how often it was helped.
+fn head_length(n: usize) -> usize
+    requires { ⌜ n < 256 ⌝ }
+    ensures { λ r. ⌜ (r ≡ headLength n) × (r < 512) ⌝ }
+{
+    HELPED + n
+}
+
+// The slots of an entry.
+fn per_entry(n: usize) -> usize
+    requires { ⌜ n < 256 ⌝ }
+    ensures { λ r. ⌜ (r ≡ perEntry n) × (r < 1024) ⌝ }
+{
+    2 * n + 3
+}
+
+// The entries of so many numbers, one for each sender.
+fn entries_of(numbers: usize, n: usize) -> usize
+    requires { ⌜ (numbers < 256) × (n < 256) ⌝ }
+    ensures { λ r. ⌜ (r ≡ numbers * n) × (r ≤ 65025) ⌝ }
+{
+    numbers * n
+}
+
+// The slots of so many entries.
+fn slots_of(entries: usize, n: usize) -> usize
+    requires { ⌜ (entries < 65536) × (n < 256) ⌝ }
+    ensures { λ r. ⌜ (r ≡ entries * perEntry n) × (r < 67108864) ⌝ }
+{
+    entries * per_entry(n)
+}
+
+// The slots of a book.
+pub fn slot_count(n: usize, s: usize) -> usize
+    requires { ⌜ (n < 256) × (s < 256) ⌝ }
+    ensures { λ r. ⌜ (r ≡ slotCount n s) × (r < 134217728) ⌝ }
+{
+    s + slots_of(entries_of(s, n), n)
+}
+
+// Where slot k begins.
+pub fn slot_place(n: usize, k: usize) -> usize
+    requires { ⌜ (n < 256) × (k < 134217728) ⌝ }
+    ensures { λ r. ⌜ (r ≡ slotPlace n k) × (r < 4294967296) ⌝ }
+{
+    head_length(n) + 21 * k
+}
+
+// Slot i of the entry of number c and sender j, counted over the book.
+fn entry_slot(n: usize, s: usize, c: usize, j: usize, i: usize) -> usize
+    requires { ⌜ (n < 256) × (s < 256) × (c < 256) × (j < 256) × (i < 1024) ⌝ }
+    ensures { λ r. ⌜ (r ≡ entrySlot n s c j i) × (r < 134217728) ⌝ }
+{
+    s + slots_of(entries_of(c, n) + j, n) + i
+}
+
+// The bytes of a book.
+pub fn book_length(n: usize, s: usize) -> usize
+    requires { ⌜ (n < 256) × (s < 256) ⌝ }
+    ensures { λ r. ⌜ r ≡ lengthOf n s ⌝ }
+{
+    slot_place(n, slot_count(n, s))
+}
+
+// Where the entry of a sender and a number begins.
+pub fn entry_at(book: &[u8], sender: usize, number: usize) -> usize
+    requires { ⌜ Has (now book) sender number ⌝ }
+    ensures { λ r. ⌜ Begins (now (book .entry)) sender number r ⌝ }
+{
+    let n = n_of(book);
+    let s = numbers_of(book);
+    slot_place(n, entry_slot(n, s, number, sender, 0))
+}

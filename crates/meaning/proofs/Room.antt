@@ -1,0 +1,37 @@
+-- A legal book has room for its header, and for each of its entries.
+-- Assumes nothing.
+use Prim.Native.Nat.{ℕ, _+_, _*_, _-_, _<_, _≤_}
+use mathlib.Core.Path.{_≡_}
+use mathlib.Core.Bool.{true}
+use mathlib.Core.List.{List}
+use native.Mathlib.Omega.{arith}
+use lib.ListN.{length}
+use Rattle.meaning.specs.Layout.{perEntry, slotPlace, entrySlot}
+use Rattle.meaning.specs.Book.{nOf, numbersOf, ownOf, placeIn}
+use Rattle.meaning.specs.Legal.{legal, Has}
+use Rattle.meaning.proofs.Legality.{legal-facts}
+use Rattle.meaning.proofs.Places.{numbers-byte, length-header, slot-within, entry-slot-below, published-slot-below}
+
+pub header-room : (b : List ℕ) → legal b ≡ true → 31 + nOf b ≤ length b
+header-room b h = omega (arith, legal-facts b h .long, length-header (nOf b) (numbersOf b))
+
+pub own-below : (b : List ℕ) → legal b ≡ true → ownOf b < nOf b
+own-below b h = legal-facts b h .own
+
+-- the whole entry lies within the book
+pub entry-room : (b : List ℕ) (j c : ℕ) → Has b j c → placeIn b j c 0 + 21 * perEntry (nOf b) ≤ length b
+unfolding perEntry slotPlace entrySlot
+entry-room b j c has =
+    let n = nOf b in
+    let s = numbersOf b in
+    let below = entry-slot-below n s c j (2 * n + 2) (has .number) (has .sender) (omega arith) in
+    omega (arith, slot-within n s (entrySlot n s c j (2 * n + 2)) below, legal-facts b (has .is-legal) .long)
+
+-- the slot of the own number c lies within the book
+pub published-room : (b : List ℕ) (c : ℕ) → legal b ≡ true → c < numbersOf b → slotPlace (nOf b) c + 21 ≤ length b
+published-room b c h l =
+    omega (arith, slot-within (nOf b) (numbersOf b) c (published-slot-below (nOf b) (numbersOf b) c l), legal-facts b h .long)
+
+-- entry numbers are written in one byte
+pub numbers-small : (b : List ℕ) → legal b ≡ true → numbersOf b < 256
+numbers-small b h = numbers-byte (numbersOf b) (legal-facts b h .numbers)

@@ -1,0 +1,52 @@
+-- `lot::declaration_at` meets its contract.
+-- Assumes nothing.
+use Rattle.lot.specs.Declaration.{declarationAt}
+use borrow.Author.Needs.{needs}
+use Rattle.octets.proofs.declaration_at.Statement.{statement}
+use Rattle.octets.proofs.declaration_at.Tie as tie
+
+word-at-requires : tie.Need-word-at-requires
+word-at-requires c κs = search needs
+
+add-word-at : tie.Need-add-word-at
+add-word-at c = search needs
+
+word-at-requires-2 : tie.Need-word-at-requires-2
+word-at-requires-2 c κs = search needs
+
+add-word-at-2 : tie.Need-add-word-at-2
+add-word-at-2 c = search needs
+
+word-at-requires-3 : tie.Need-word-at-requires-3
+word-at-requires-3 c κs = search needs
+
+add-word-at-3 : tie.Need-add-word-at-3
+add-word-at-3 c = search needs
+
+word-at-requires-4 : tie.Need-word-at-requires-4
+word-at-requires-4 c κs = search needs
+
+add-word-at-4 : tie.Need-add-word-at-4
+add-word-at-4 c = search needs
+
+word-at-requires-5 : tie.Need-word-at-requires-5
+word-at-requires-5 c κs = search needs
+
+returns : tie.Need-returns
+unfolding declarationAt
+returns c = cc
+
+pub declaration-at-spec : {M : Type 1} → statement M
+declaration-at-spec =
+    tie.close
+    (tie.spec
+    word-at-requires
+    add-word-at
+    word-at-requires-2
+    add-word-at-2
+    word-at-requires-3
+    add-word-at-3
+    word-at-requires-4
+    add-word-at-4
+    word-at-requires-5
+    returns)

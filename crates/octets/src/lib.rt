@@ -1,0 +1,80 @@
+// Numbers of 32 bits as four bytes, big-endian, and a declaration as its 20.
+ghost use mathlib.Core.Path.{_≡_};
+ghost use Prim.Native.Nat.{_+_, _<_};
+ghost use lib.ListN.{length};
+ghost use Rattle.words.specs.Words.{quadOf, wordAt};
+ghost use Rattle.lot.specs.Declaration.{declarationAt, bytesOf};
+use lot::Declaration;
+use words::Quad;
+
+pub fn quad_of(x: u32) -> Quad
+    ensures { λ r. ⌜ r ≡ quadOf x ⌝ }
+{
+    Quad {
+        a: (x / 16777216) as u8,
+        b: (x / 65536 % 256) as u8,
+        c: (x / 256 % 256) as u8,
+        d: (x % 256) as u8,
+    }
+}
+
+pub fn wide(x: u8) -> u32
+    ensures { λ r. ⌜ (r ≡ x) × (r < 256) ⌝ }
+{
+    x as u32
+}
+
+// The number whose four bytes stand at i.
+pub fn word_at(s: &[u8], i: usize) -> u32
+    requires { ⌜ i + 3 < length (now s) ⌝ }
+    ensures { λ r. ⌜ r ≡ wordAt (now (s .entry)) i ⌝ }
+{
+    wide(s[i]) * 16777216 + wide(s[i + 1]) * 65536 + wide(s[i + 2]) * 256 + wide(s[i + 3])
+}
+
+// The declaration whose 20 bytes stand at i.
+pub fn declaration_at(s: &[u8], i: usize) -> Declaration
+    requires { ⌜ i + 19 < length (now s) ⌝ }
+    ensures { λ r. ⌜ r ≡ declarationAt (now (s .entry)) i ⌝ }
+{
+    Declaration {
+        lot: word_at(s, i),
+        colonies: word_at(s, i + 4),
+        kilograms: word_at(s, i + 8),
+        moisture: word_at(s, i + 12),
+        conductivity: word_at(s, i + 16),
+    }
+}
+
+// The 20 bytes of a declaration.
+pub fn bytes_of(d: Declaration) -> [u8; 20]
+    ensures { λ r. ⌜ r ≡ bytesOf d ⌝ }
+{
+    let l = quad_of(d.lot);
+    let c = quad_of(d.colonies);
+    let k = quad_of(d.kilograms);
+    let m = quad_of(d.moisture);
+    let e = quad_of(d.conductivity);
+    [
+        l.a,
+        l.b,
+        l.c,
+        l.d,
+        c.a,
+        c.b,
+        c.c,
+        c.d,
+        k.a,
+        k.b,
+        k.c,
+        k.d,
+        m.a,
+        m.b,
+        m.c,
+        m.d,
+        e.a,
+        e.b,
+        e.c,
+        e.d,
+    ]
+}

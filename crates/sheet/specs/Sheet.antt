@@ -1,0 +1,82 @@
+-- The season's sheet: its gates, when it is legal, which declaration is plausible by it, and what judging answers.
+-- Assumes nothing.
+use Prim.Native.Nat.{ℕ, _*_, _≤_}
+use mathlib.Core.Path.{_≡_}
+use mathlib.Core.Bool.{Bool, true, false, cond, not, _&&_}
+use lib.Dec.{T, leb}
+use lib.Ieee.{Float, nan, inf, fin, binary32, fits, ofBits, le, lt}
+use Rattle.sheet.specs.declared.Gate.{Gate}
+use Rattle.sheet.specs.declared.Gate.the-variants.{Open, AtMost, Between}
+use Rattle.sheet.specs.declared.Sheet.{Sheet}
+use Rattle.sheet.specs.declared.Readings.{Readings}
+use Rattle.lot.specs.declared.Declaration.{Declaration}
+
+-- neither NaN nor infinite
+unfoldable pub finite : Float → Bool
+finite nan = false
+finite (inf s) = false
+finite (fin s m e) = true
+
+-- open, at most a limit, or between a low and a high limit; limits count as inside
+unfoldable pub within : Gate → Float → Bool
+within Open x = true
+within (AtMost high) x = le x high
+within (Between low high) x = le low x && le x high
+
+-- no limit is NaN or infinite
+unfoldable pub limitsFinite : Gate → Bool
+unfolding finite
+limitsFinite Open = true
+limitsFinite (AtMost high) = finite high
+limitsFinite (Between low high) = finite low && finite high
+
+-- and no low exceeds its high
+unfoldable pub gateLegal : Gate → Bool
+unfolding finite
+gateLegal Open = true
+gateLegal (AtMost high) = finite high
+gateLegal (Between low high) = finite low && (finite high && not (lt high low))
+
+unfoldable pub sheetLegal : Sheet → Bool
+unfolding gateLegal
+sheetLegal s = gateLegal (s .moisture) && gateLegal (s .conductivity)
+
+-- each limit is a value of binary32, as every `f32` is
+abbrev pub GateFits : Gate → Type 0
+GateFits Open = Unit
+GateFits (AtMost high) = T (fits binary32 high)
+GateFits (Between low high) = T (fits binary32 low) × T (fits binary32 high)
+
+-- the two laboratory readings travel together as one record of floats
+abbrev pub readingsOf : Declaration → Readings
+readingsOf d = record { moisture = ofBits binary32 (d .moisture); conductivity = ofBits binary32 (d .conductivity) }
+
+-- a reading is neither NaN nor infinite, and within its gate by float comparison
+unfoldable pub passes : Gate → Float → Bool
+unfolding finite within
+passes g x = finite x && within g x
+
+unfoldable pub admitted : Sheet → Readings → Bool
+unfolding passes
+admitted s r = passes (s .moisture) (r .moisture) && passes (s .conductivity) (r .conductivity)
+
+-- kilograms is at most colonies times cap (the exact product), and both readings pass
+unfoldable pub plausible : Sheet → Declaration → Bool
+unfolding admitted
+plausible s d = leb (d .kilograms) (d .colonies * s .cap) && admitted s (readingsOf d)
+
+-- judging takes a sheet and a declaration and answers 10, then 5, else 0
+unfoldable pub judgedBy : Sheet → Declaration → ℕ
+unfolding sheetLegal plausible
+judgedBy s d = cond (sheetLegal s) (cond (plausible s d) 0 5) 10
+
+-- a declaration is plausible exactly when all of these hold (proofs/Exactly.antt)
+pub record Plausible (s : Sheet) (d : Declaration) : Type 0 where
+  -- kilograms is at most colonies times cap
+  pub weight : d .kilograms ≤ d .colonies * s .cap
+  -- neither reading is NaN or infinite
+  pub moisture-finite : finite (ofBits binary32 (d .moisture)) ≡ true
+  pub conductivity-finite : finite (ofBits binary32 (d .conductivity)) ≡ true
+  -- each reading is within its gate
+  pub moisture-within : within (s .moisture) (ofBits binary32 (d .moisture)) ≡ true
+  pub conductivity-within : within (s .conductivity) (ofBits binary32 (d .conductivity)) ≡ true

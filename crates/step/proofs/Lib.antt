@@ -1,0 +1,5 @@
+pub mod Marking
+pub mod Recorded
+pub mod Taken
+pub mod Entered
+pub mod Publication

@@ -1,0 +1,3 @@
+pub mod Searching
+pub mod Claims
+pub mod Settled
