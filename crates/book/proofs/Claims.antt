@@ -1,5 +1,4 @@
 -- What this crate promises holds.
--- Assumes nothing.
 use mathlib.Core.Path.{sym, ap, _∙_}
 use Rattle.meaning.specs.Opening.{Opened}
 use Rattle.book.specs.Claims.{Claims}

@@ -1,5 +1,4 @@
 -- The contracts that `Claims` settles are those of the source, as Rattle reads them.
--- Assumes nothing.
 use mathlib.Core.Path.{_≡_}
 use contract.Lifetimes.{Lfts}
 use borrow.Fn.World.{ArgsD, ResD}

@@ -1,5 +1,4 @@
 -- What this crate promises: its contracts settle their outcome. What the answers mean, `meaning` promises.
--- Assumes nothing.
 use Prim.Native.Nat.{ℕ}
 use mathlib.Core.Path.{_≡_}
 use mathlib.Core.Bool.{Bool}

@@ -1,5 +1,4 @@
 -- What the leaves of this crate give, where document 01 has no sentence for it.
--- Assumes nothing.
 use Prim.Native.Nat.{ℕ, _+_, _-_}
 use mathlib.Core.Bool.{Bool, _&&_}
 use mathlib.Core.List.{List, _∷_, _++_}

@@ -1,5 +1,4 @@
 -- The protocol's outcome of a call, answer by answer, from the tests in the order in which the code makes them.
--- Assumes nothing.
 use Prim.Native.Nat.{ℕ, zero, suc, _<_, _≤_}
 use mathlib.Core.Path.{_≡_, refl}
 use mathlib.Core.Bool.{true, false}

@@ -1,6 +1,5 @@
 -- The rule between entries holds: an accepted publication or message changes the named entry alone, and what it gives and leaves there
 -- hangs on the book's header and that entry.
--- Assumes nothing.
 use Prim.Native.Nat.{ℕ}
 use mathlib.Core.Path.{_≡_, refl, sym, ap, _∙_, subst, subst₂}
 use mathlib.Core.Bool.{Bool, true, false, cond}

@@ -1,5 +1,4 @@
 -- A call at the bytes: accepted, it is the step entered; refused, it is the refusal. And what an accepted message shows.
--- Assumes nothing.
 use Prim.Native.Nat.{ℕ, _<_}
 use mathlib.Core.Path.{_≡_, sym, ap, _∙_}
 use mathlib.Core.Bool.{true}

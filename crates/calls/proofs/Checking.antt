@@ -1,5 +1,4 @@
 -- The answers that the code finds, one test after the other, are those of the protocol's step.
--- Assumes nothing.
 use Prim.Native.Nat.{ℕ, _<_, _≤_}
 use mathlib.Core.Path.{_≡_, sym, ap, _∙_}
 use mathlib.Core.Bool.{Bool, true}

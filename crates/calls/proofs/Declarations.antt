@@ -1,5 +1,4 @@
 -- Declarations that come in are 20 bytes, and plausible at the bytes exactly when their numbers are.
--- Assumes nothing.
 use Prim.Native.Nat.{ℕ, zero, suc}
 use mathlib.Core.Path.{_≡_, refl, sym, ap, subst}
 use mathlib.Core.Bool.{Bool, true, false}

@@ -1,5 +1,4 @@
 -- An entry is the earliest waiting one exactly when it waits and none earlier does; there is none exactly when none waits.
--- Assumes nothing.
 use Prim.Native.Nat.{ℕ, zero, suc, _<_}
 use mathlib.Core.Path.{_≡_, refl, sym, ap, ap₂, _∙_}
 use mathlib.Core.Bool.{Bool, true, false}

@@ -1,5 +1,4 @@
 -- A step on an entry that a book may have leaves one that it may have; a refusal leaves the entry and gives nothing.
--- Assumes nothing.
 use Prim.Native.Nat.{ℕ, zero, suc, _≤_, _<_}
 use mathlib.Core.Path.{_≡_, refl}
 use mathlib.Core.Bool.{Bool, true, false, cond, and-eq-true-iff}

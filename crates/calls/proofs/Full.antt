@@ -1,5 +1,4 @@
 -- A full slot of a legal book never changes, and none is reused: whatever call comes, what a slot holds it holds still.
--- Assumes nothing.
 use Prim.Native.Nat.{ℕ, _<_}
 use mathlib.Core.Path.{_≡_, sym, ap, subst₂, _∙_}
 use mathlib.Core.Bool.{true}

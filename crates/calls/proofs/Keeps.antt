@@ -1,6 +1,5 @@
 -- What a call keeps of a legal book: it stays legal, its header stays but for the help counted, slots only ever fill; and an accepted
 -- call's bytes mean the book with the named entry as the step leaves it.
--- Assumes nothing.
 use Prim.Native.Nat.{ℕ, suc, _≤_}
 use mathlib.Core.Path.{_≡_, refl, sym, ap, ap₂, _∙_, subst}
 use mathlib.Core.Bool.{Bool, true, false, cond, and-eq-true-iff}

@@ -1,5 +1,4 @@
 -- Receiving, answer by answer, from what the code found.
--- Assumes nothing.
 use Prim.Native.Nat.{ℕ}
 use mathlib.Core.Path.{_≡_, ap, sym, _∙_}
 use mathlib.Core.Bool.{true, false}

@@ -1,5 +1,4 @@
 -- Every refusal leaves the lent buffer byte for byte and carries no message and no delivery.
--- Assumes nothing.
 use Prim.Native.Nat.{ℕ}
 use mathlib.Core.Path.{_≡_, refl}
 use mathlib.Core.Bool.{Bool, true, false, cond, _&&_}

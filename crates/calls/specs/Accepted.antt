@@ -1,5 +1,4 @@
 -- What this crate promises, in document 01's order. That an accepted call is one step of the protocol, `counter` promises of all calls.
--- Assumes nothing.
 use Prim.Native.Nat.{ℕ}
 use mathlib.Core.Path.{_≡_}
 use Rattle.card.specs.declared.Counts.{Counts}

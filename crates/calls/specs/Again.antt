@@ -1,5 +1,4 @@
 -- A house that returns: the request that it asks all with, and what it sent, to send again. Both are read off the book, which stays.
--- Assumes nothing.
 use Prim.Native.Nat.{ℕ}
 use mathlib.Core.Bool.{cond, _&&_}
 use mathlib.Core.List.{List}

@@ -1,5 +1,4 @@
 -- When each answer of publishing and receiving is given: where several apply, the first in the call's order.
--- Assumes nothing.
 use Prim.Native.Nat.{ℕ, _≤_, _<_}
 use mathlib.Core.Path.{_≡_}
 use mathlib.Core.Bool.{Bool, true, false}

@@ -1,6 +1,5 @@
 -- The rule between entries, of publishing and receiving at the bytes. The waiting search reads all entries and is the one exception; a
 -- return or a request names no entry and is left out.
--- Assumes nothing.
 use Prim.Native.Nat.{ℕ}
 use mathlib.Core.Path.{_≡_}
 use mathlib.Core.Bool.{true, false}

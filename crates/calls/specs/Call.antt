@@ -1,6 +1,5 @@
 -- Publishing and receiving at the bytes, a request for help among what is received: the order of answers, and what a call gives and
 -- leaves in the lent buffer.
--- Assumes nothing.
 use Prim.Native.Nat.{ℕ}
 use mathlib.Core.Bool.{cond}
 use mathlib.Core.List.{List}

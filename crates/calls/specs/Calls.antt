@@ -1,5 +1,4 @@
 -- One type of call on a book, and one function from bytes and call to outcome, for whoever speaks of sequences of calls.
--- Assumes nothing.
 use Prim.Native.Nat.{ℕ}
 use mathlib.Core.List.{List}
 use Rattle.entry.specs.Entry.{Decl}

@@ -1,5 +1,4 @@
 -- An accepted call at the bytes: what it gives, and the bytes that mean the book with the named entry as the step leaves it.
--- Assumes nothing.
 use Prim.Native.Nat.{ℕ}
 use mathlib.Core.Bool.{Bool, true, false, cond, _&&_}
 use mathlib.Core.List.{List, [], _∷_}

@@ -1,5 +1,4 @@
 -- Every refusal leaves the lent buffer byte for byte and carries no message and no delivery: what it does not carry is zeros.
--- Assumes nothing.
 use Prim.Native.Nat.{ℕ}
 use mathlib.Core.Path.{_≡_}
 use mathlib.Core.Bool.{false}

@@ -1,5 +1,4 @@
 -- What this crate promises holds.
--- Assumes nothing.
 use Rattle.card.specs.Claims.{Claims}
 use Rattle.card.proofs.Wall as wall
 use Rattle.card.proofs.Overlap as counts

@@ -1,5 +1,4 @@
 -- The overlap of two quorums, once for all n and t, and what n > 3t + 2f gives the counts.
--- Assumes nothing.
 use mathlib.Core.Path.{_≡_}
 use Prim.Native.Nat.{ℕ, _+_, _*_, _-_, _≤_, _<_}
 use mathlib.Core.Bool.{Bool, not, _&&_}

@@ -1,5 +1,4 @@
 -- The card's two formulas, proved over the whole card by one test that antt computes.
--- Assumes nothing.
 use mathlib.Core.Path.{_≡_, _∙_, ap, refl}
 use mathlib.Core.Bool.{Bool, true, _&&_, and-eq-true-iff}
 use Prim.Native.Nat.{ℕ, _+_, _*_, _-_, _<_, _≤_}

@@ -1,5 +1,4 @@
 -- Numbers on the wall: how many houses there may be, the tolerated t, the echo quorum, and the counts that the steps compare with.
--- Assumes nothing.
 use Prim.Native.Nat.{ℕ, _+_, _*_, _-_, _/_, _≤_, _<_}
 use mathlib.Core.Bool.{Bool, _&&_}
 use mathlib.Core.List.{List, [], _∷_}

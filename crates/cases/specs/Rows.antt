@@ -1,5 +1,4 @@
 -- Document 01's starred cases: rows of a single table, `rows`, under a single claim, `all-hold`.
--- Assumes nothing.
 use Prim.Native.Nat.{ℕ}
 use mathlib.Core.Path.{_≡_, refl}
 use mathlib.Core.Bool.{Bool, true, false}

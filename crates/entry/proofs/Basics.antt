@@ -1,5 +1,4 @@
 -- Small facts of tests, slots, marks and vouchers.
--- Assumes nothing.
 use mathlib.Core.Path.{_≡_, refl, sym, ap, subst}
 use mathlib.Core.Bool.{Bool, true, false, not, cond, _&&_}
 use mathlib.Core.Logic.{_≢_, _⊎_, inl, inr}

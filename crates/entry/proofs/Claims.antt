@@ -1,14 +1,15 @@
 -- What this crate promises holds.
 use Prim.Native.Nat.{ℕ, suc, _<_}
 use mathlib.Core.Path.{_≡_, refl, sym, ap}
-use mathlib.Core.Bool.{Bool, true, false}
+use mathlib.Core.Bool.{true}
 use mathlib.Core.Logic.{_↔_}
 use mathlib.Core.Option.{Option, none, some}
 use native.Mathlib.Omega.{arith}
 use Rattle.card.proofs.Counting.{count-set}
 use Rattle.entry.specs.Entry.{Decl, same, holds, votes, upd}
 use Rattle.entry.specs.Claims.{Claims}
-use Rattle.entry.proofs.Basics.{bcase, T-of, true-of, same-refl, same-eq, holds-eq, eq-holds, upd-same, upd-other, votes-up, votes-other}
+use Rattle.entry.proofs.Basics.{bcase, T-of, true-of, same-refl, same-eq, holds-eq, eq-holds, upd-same, upd-other, votes-up}
+use Rattle.entry.proofs.Basics.{votes-other}
 use Rattle.entry.proofs.Filled.{recorded-filled, recorded-heard}
 
 same-exactly : (v w : Decl) → (same v w ≡ true) ↔ (v ≡ w)

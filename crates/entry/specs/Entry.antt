@@ -1,5 +1,4 @@
 -- One entry of one house's book: what it heard, what it sent, delivered and published; vouchers, and what filling its slots leaves.
--- Assumes nothing.
 use mathlib.Core.Path.{_≡_}
 use mathlib.Core.Bool.{Bool, true, false, cond, _&&_}
 use mathlib.Core.Option.{Option, none, some}

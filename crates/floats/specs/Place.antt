@@ -1,5 +1,4 @@
 -- Where a binary32's bits stand in the order of all floats, as a whole number: zero and minus zero stand in the middle, in one place.
--- Assumes nothing.
 use Prim.Native.Nat.{ℕ, _+_, _-_, _%_}
 use mathlib.Core.Bool.{cond}
 use lib.Dec.{leb}

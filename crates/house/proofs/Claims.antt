@@ -1,5 +1,4 @@
 -- What the ten calls promise beside their contracts holds.
--- Assumes nothing.
 use mathlib.Core.Path.{sym, _∙_}
 use Rattle.book.proofs.Claims as book
 use Rattle.calls.proofs.Claims as counter

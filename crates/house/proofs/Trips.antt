@@ -1,5 +1,4 @@
 -- Both round trips of the very bytes that `gm_write` and `gm_read` exchange, and of a request's.
--- Assumes nothing.
 use Prim.Native.Nat.{ℕ}
 use mathlib.Core.Path.{_≡_, refl, sym, ap, _∙_}
 use mathlib.Core.Bool.{Bool, true, false, true≢false}

@@ -1,6 +1,5 @@
 -- What the exported reader hands back: answer 2 and zeros, or answer 0 and the five things, the declaration as its 20 bytes; of a request
 -- kind 9 and the season, and zeros.
--- Assumes nothing.
 use Prim.Native.Nat.{ℕ}
 use mathlib.Core.Option.{Option, none, some}
 use lib.ListN.{replicate}

@@ -1,5 +1,4 @@
 -- Two outcomes that meet the contract of `judge`, as Rattle reads it from the source, are equal.
--- Assumes nothing.
 use mathlib.Core.Path.{_≡_, sym, _∙_}
 use contract.Lifetimes.{Lfts}
 use borrow.Fn.World.{ArgsD, ResD}

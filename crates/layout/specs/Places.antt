@@ -1,5 +1,4 @@
 -- Where the slots of an entry stand, and what the code asks of the book it works on.
--- Assumes nothing.
 use Prim.Native.Nat.{ℕ, _+_, _*_, _≤_, _<_}
 use mathlib.Core.Path.{_≡_}
 use mathlib.Core.Bool.{true}

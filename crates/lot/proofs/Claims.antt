@@ -1,5 +1,4 @@
 -- What this crate promises.
--- Assumes nothing.
 use Rattle.lot.specs.Claims.{Claims}
 use Rattle.lot.proofs.Declared.{numbers-of-bytes, bytes-of-numbers, same-numbers, same-bytes}
 

@@ -1,5 +1,4 @@
 -- A declaration's 20 bytes and its five numbers settle each other: two declarations are the same exactly when all 20 bytes are.
--- Assumes nothing.
 use Prim.Native.Nat.{ℕ, _+_}
 use mathlib.Core.Path.{_≡_, sym, ap, _∙_}
 use mathlib.Core.Logic.{_↔_}

@@ -1,5 +1,4 @@
 -- What this crate promises: a declaration is its 20 bytes.
--- Assumes nothing.
 use Prim.Native.Nat.{ℕ}
 use mathlib.Core.Path.{_≡_}
 use mathlib.Core.Logic.{_↔_}

@@ -1,5 +1,4 @@
 -- A declaration: its 20 bytes and its five numbers.
--- Assumes nothing.
 use Prim.Native.Nat.{ℕ, _+_}
 use mathlib.Core.List.{List, _++_}
 use Rattle.words.specs.declared.Quad.{Quad}

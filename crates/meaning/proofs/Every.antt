@@ -1,5 +1,4 @@
 -- For every meaning that a book may have there are legal bytes that mean exactly that; and legal bytes are no others.
--- Assumes nothing.
 use Prim.Native.Nat.{ℕ, _+_, _*_, _<_}
 use mathlib.Core.Path.{_≡_, refl, sym, ap, _∙_, fun-ext}
 use mathlib.Core.Logic.{_↔_}

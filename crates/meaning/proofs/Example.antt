@@ -1,5 +1,4 @@
 -- The worked example of docs/BOOK.md, computed: a book of one house and one number, freshly opened, and with a SEND recorded.
--- Assumes nothing.
 use Prim.Native.Nat.{ℕ}
 use mathlib.Core.Path.{_≡_, refl}
 use mathlib.Core.Bool.{true}

@@ -1,5 +1,4 @@
 -- What a book's entries hold, slot by slot where the bytes stand, and how many vouch for a declaration.
--- Assumes nothing.
 use Prim.Native.Nat.{ℕ, _≤_, _<_}
 use mathlib.Core.Path.{_≡_, ap, _∙_, subst₂}
 use mathlib.Core.Bool.{cond}

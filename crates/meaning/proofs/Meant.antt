@@ -1,5 +1,4 @@
 -- A legal book means what a book may mean: each slot none or 20 bytes, and nothing outside the book.
--- Assumes nothing.
 use Prim.Native.Nat.{ℕ, _≤_, _<_}
 use mathlib.Core.Path.{_≡_, refl}
 use mathlib.Core.Bool.{Bool, true, false, cond, _&&_}

@@ -1,5 +1,4 @@
 -- A legal book is the bytes of its meaning, so two legal books with the same meaning are the same bytes; and the bytes after a store.
--- Assumes nothing.
 use Prim.Native.Nat.{ℕ, _+_, _*_}
 use mathlib.Core.Path.{_≡_, sym, ap, ap₂, _∙_}
 use mathlib.Core.Bool.{true}

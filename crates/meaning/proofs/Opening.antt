@@ -1,5 +1,4 @@
 -- A book freshly opened is its header and then zeros, legal, and means that nothing was heard, sent, delivered or published.
--- Assumes nothing.
 use Prim.Native.Nat.{ℕ, _+_, _*_, _^_, _≤_, _<_}
 use mathlib.Core.Path.{_≡_, refl, sym, ap, _∙_, fun-ext}
 use mathlib.Core.Bool.{Bool, true, false, cond, _&&_, and-eq-true-iff}

@@ -1,5 +1,4 @@
 -- Parts of a list: so many elements from a place on, of a list made of two, of a part, and two parts that meet; and that they are bytes.
--- Assumes nothing.
 use Prim.Native.Nat.{ℕ, zero, suc, _+_, _-_, _≤_, _<_}
 use mathlib.Core.Path.{_≡_, refl, sym, ap, _∙_}
 use mathlib.Core.List.{List, [], _∷_, _++_}

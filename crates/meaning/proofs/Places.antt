@@ -1,5 +1,4 @@
 -- Where the slots lie: each within the book, no two on the same bytes, and how long a book is at most.
--- Assumes nothing.
 use Prim.Native.Nat.{ℕ, suc, _+_, _*_, _≤_, _<_}
 use mathlib.Core.Path.{_≡_, sym}
 use mathlib.Core.Logic.{_⊎_, inl, inr}

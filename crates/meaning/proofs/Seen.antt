@@ -1,5 +1,4 @@
 -- What stands in the slots of an entry, counted from where it begins, is what the entry means; and so are its vouchers.
--- Assumes nothing.
 use Prim.Native.Nat.{ℕ, _+_, _*_, _<_}
 use mathlib.Core.Path.{_≡_, refl, sym, ap, _∙_}
 use mathlib.Core.List.{List}

@@ -1,5 +1,4 @@
 -- What a slot's 21 bytes say, and what a filled slot changes: its own bytes, and nothing else.
--- Assumes nothing.
 use Prim.Native.Nat.{ℕ, suc, _+_, _-_, _≤_, _<_}
 use mathlib.Core.Path.{_≡_, refl, sym, ap, _∙_}
 use mathlib.Core.Logic.{_⊎_, inl, inr, ⊎-elim}

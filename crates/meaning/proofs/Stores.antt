@@ -1,5 +1,4 @@
 -- A slot filled in a legal book: the book stays legal, its header stays, and one entry has one slot more. Stores follow one another.
--- Assumes nothing.
 use Prim.Native.Nat.{ℕ, _+_, _≤_, _<_}
 use mathlib.Core.Path.{_≡_, refl, sym, ap, _∙_, fun-ext, subst₂}
 use mathlib.Core.Logic.{inl}
@@ -12,8 +11,7 @@ use lib.ListN.{length, getD}
 use borrow.Author.Tests.{eqb-true, eqb-false, eq-eqb}
 use Rattle.words.specs.Words.{Bytes}
 use Rattle.sheet.specs.Kept.{sheetAt}
-use Rattle.entry.specs.Entry.{Decl, Kind, SEND, ECHO, READY, Entry, upd, recorded, marked, PerEntry, sameEntry, place}
-use Rattle.entry.specs.Entry.{announced}
+use Rattle.entry.specs.Entry.{Decl, Kind, SEND, ECHO, READY, Entry, upd, recorded, marked, PerEntry, sameEntry, place, announced}
 use Rattle.meaning.specs.Slot.{slotAt, slotOk, putSlot}
 use Rattle.meaning.specs.Layout.{helpedPlace, perEntry, slotCount, slotPlace, entrySlot, sendSlot, echoSlot, readySlot, readySentSlot}
 use Rattle.meaning.specs.Layout.{deliveredSlot, heardSlot}

@@ -1,6 +1,5 @@
 -- Where a book's parts lie: a header; what this house published, a slot for each number; then the entries, number first and then
 -- sender, each a row of slots: SEND, an ECHO from each house, a READY from each house, READY sent, delivered.
--- Assumes nothing.
 use Prim.Native.Nat.{ℕ, _+_, _*_}
 use mathlib.Core.Bool.{Bool, _&&_}
 use lib.Dec.{leb}

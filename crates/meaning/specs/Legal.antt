@@ -1,5 +1,4 @@
 -- Which bytes are a legal book, and which meanings a legal book has.
--- Assumes nothing.
 use Prim.Native.Nat.{ℕ, zero, suc, _^_, _≤_, _<_}
 use mathlib.Core.Path.{_≡_}
 use mathlib.Core.Bool.{Bool, true, _&&_}

@@ -1,5 +1,4 @@
 -- Opening a book, and the answer that gives its length.
--- Assumes nothing.
 use Prim.Native.Nat.{ℕ}
 use mathlib.Core.Bool.{Bool, cond, _&&_}
 use mathlib.Core.List.{List}

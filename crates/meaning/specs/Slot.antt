@@ -1,5 +1,4 @@
 -- A slot: a presence byte, 0 or 1, and 20 declaration bytes, which are zero where the slot is empty.
--- Assumes nothing.
 use Prim.Native.Nat.{ℕ, _+_}
 use mathlib.Core.Bool.{Bool, true, cond, _&&_}
 use mathlib.Core.List.{List, _∷_, _++_}

@@ -1,5 +1,4 @@
 -- What this crate promises holds.
--- Assumes nothing.
 use mathlib.Core.Path.{sym, _∙_}
 use Rattle.message.specs.Claims.{Claims}
 use Rattle.message.proofs.RoundTrip as trip

@@ -1,5 +1,4 @@
 -- Reading undoes writing, and bytes that read are the bytes that writing gives: so a message has exactly one written form.
--- Assumes nothing.
 use Prim.Native.Nat.{ℕ, _+_, _*_, _<_}
 use mathlib.Core.Path.{_≡_, refl, sym, ap, _∙_}
 use mathlib.Core.Bool.{Bool, true, false, and-eq-true-iff}

@@ -1,5 +1,4 @@
 -- The numbers and values of the reader's cases settle the case.
--- Assumes nothing.
 use mathlib.Core.Path.{_≡_, refl, sym, _∙_}
 use mathlib.Core.Option.{Option, none, some}
 use Rattle.message.specs.declared.Reading.{Reading}

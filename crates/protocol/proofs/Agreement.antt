@@ -1,5 +1,4 @@
 -- Where at most t houses are wrong, all READYs of honest houses on an entry are for one declaration, and so are deliveries.
--- Assumes nothing.
 use mathlib.Core.Path.{_≡_, refl, sym, _∙_}
 use mathlib.Core.Bool.{Bool, true, false, cond}
 use mathlib.Core.Logic.{⊎-elim}

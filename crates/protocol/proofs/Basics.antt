@@ -1,5 +1,4 @@
 -- Small facts of answers, and of vouchers that are heeded.
--- Assumes nothing.
 use mathlib.Core.Path.{_≡_, refl}
 use mathlib.Core.Bool.{Bool, true, false}
 use mathlib.Core.Option.{Option, none, some}

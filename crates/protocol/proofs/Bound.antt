@@ -1,6 +1,5 @@
 -- With any number of wrong houses: how many copies are sent on one entry, one delivery at each house, none implausible, and every
 -- copy of an honest house accepted.
--- Assumes nothing.
 use mathlib.Core.Path.{_≡_, refl, sym, ap, subst, _∙_}
 use mathlib.Core.Bool.{Bool, true, false, not, cond, _&&_, and-true}
 use mathlib.Core.Logic.{inl, inr, ⊎-elim}

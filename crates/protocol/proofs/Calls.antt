@@ -1,5 +1,4 @@
 -- What a call on a book does to the entry that it names, for publishing and receiving alike; and the rule between entries.
--- Assumes nothing.
 use mathlib.Core.Path.{_≡_, refl, sym, ap, _∙_}
 use mathlib.Core.Bool.{Bool, true, false, cond}
 use mathlib.Core.Logic.{_⊎_, inl, inr, ⊎-elim}

@@ -1,5 +1,4 @@
 -- A call on an entry, as the run makes it: one that brings nothing from an honest house, or the consumption of a copy, which is accepted.
--- Assumes nothing.
 use mathlib.Core.Path.{_≡_, refl, sym, ap, subst, _∙_}
 use mathlib.Core.Bool.{Bool, true, false, not, _&&_}
 use mathlib.Core.Logic.{_⊎_, inl, inr, ⊎-elim}

@@ -1,6 +1,5 @@
 -- Every run can be drained: a request consumed is one request less, and a copy consumed one more consumed copy, of which there are at most
 -- as many as the returns and helps so far allow.
--- Assumes nothing.
 use mathlib.Core.Path.{_≡_, refl, ap, _∙_}
 use mathlib.Core.Bool.{Bool, true, false, not, cond, _&&_}
 use mathlib.Core.Option.{Option, none, some}

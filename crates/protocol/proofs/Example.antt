@@ -1,5 +1,4 @@
 -- The run of six houses, computed: the premises of the claims can be met, and so what they claim comes of it.
--- Assumes nothing.
 use mathlib.Core.Path.{refl}
 use mathlib.Core.Bool.{Bool, true, false, cond}
 use Prim.Native.Nat.{_≤_}

@@ -1,5 +1,4 @@
 -- What holds of one entry in every state of a run, with any number of wrong houses, and that each call keeps it.
--- Assumes nothing.
 use mathlib.Core.Path.{_≡_, refl, sym, ap, _∙_}
 use mathlib.Core.Bool.{Bool, true, false, not, cond, _&&_}
 use mathlib.Core.Logic.{_⊎_, inl, inr, ⊎-elim}

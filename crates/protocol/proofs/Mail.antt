@@ -1,5 +1,4 @@
 -- Counting the copies of a mail that pass a test, and what sending and consuming do to the count.
--- Assumes nothing.
 use mathlib.Core.Path.{_≡_, refl, ap}
 use mathlib.Core.Bool.{Bool, true, false, not, _&&_}
 use mathlib.Core.Option.{some}

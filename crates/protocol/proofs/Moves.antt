@@ -1,5 +1,4 @@
 -- What one call does to one entry: which slots it fills, what it gives, and what holds of the entry by itself.
--- Assumes nothing.
 use mathlib.Core.Path.{_≡_, refl, sym, ap, _∙_}
 use mathlib.Core.Bool.{Bool, true, false}
 use mathlib.Core.Logic.{_⊎_, inl, inr, ⊎-elim}
@@ -13,7 +12,7 @@ use Rattle.entry.specs.Entry.{Filled}
 use Rattle.protocol.specs.Steps.{Rules, Say, say, Out, refused, given, reached, may, takesSend, takesEcho, takesReady, takes}
 use Rattle.protocol.specs.Run.{push}
 use Rattle.entry.proofs.Filled.{filled-refl, filled-trans, recorded-filled}
-use Rattle.entry.proofs.Basics.{T-not-of, and-l, and-r, isKind-refl, none-of, none-some, upd-keeps, votes-up, mark-keeps, mark-new}
+use Rattle.entry.proofs.Basics.{T-not-of, and-l, and-r, isKind-refl, none-of, none-some, votes-up, mark-keeps, mark-new}
 use Rattle.protocol.proofs.Basics.{Heeded, heeds}
 
 -- what holds of each honest house's entry by itself

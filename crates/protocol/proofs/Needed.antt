@@ -1,5 +1,4 @@
 -- The two runs, computed.
--- Assumes nothing.
 use mathlib.Core.Path.{refl}
 use lib.Dec.{lit≤}
 use Rattle.card.specs.Card.{quorum, amplify, deliver}

@@ -1,5 +1,4 @@
 -- What crashes, returns, requests and help leave of what holds of one entry: the books stay as they are.
--- Assumes nothing.
 use mathlib.Core.Path.{_≡_, refl, sym, ap, _∙_}
 use mathlib.Core.Bool.{Bool, true, false, not, cond, _&&_, and-true}
 use mathlib.Core.Option.{some}

@@ -1,5 +1,4 @@
 -- What is claimed of every run, proved of every entry; and for the rules of the wall card.
--- Assumes nothing.
 use mathlib.Core.Path.{_≡_, refl, sym, ap, _∙_}
 use mathlib.Core.Bool.{Bool, true, false, not, _&&_}
 use mathlib.Core.Option.{Option, none, some}

@@ -1,5 +1,4 @@
 -- Slots only ever fill: what stands in a slot stays, whatever calls come and in any state.
--- Assumes nothing.
 use mathlib.Core.Path.{_≡_, refl}
 use mathlib.Core.Bool.{Bool, true, false, not, cond, _&&_}
 use mathlib.Core.Option.{Option, none, some}

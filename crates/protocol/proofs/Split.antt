@@ -1,5 +1,4 @@
 -- The run with a lying sender, computed; and what the claims say of it: where one honest house delivered, all did.
--- Assumes nothing.
 use mathlib.Core.Path.{refl, ap}
 use mathlib.Core.List.{List, [], _∷_}
 use mathlib.Core.Bool.{true}

@@ -1,5 +1,4 @@
 -- Sums over the houses 0 to n - 1.
--- Assumes nothing.
 use mathlib.Core.Path.{_≡_, refl}
 use mathlib.Core.Bool.{Bool}
 use mathlib.Core.Logic.{_≢_}

@@ -1,6 +1,5 @@
 -- With at most t wrong houses and an entry's copies consumed: what an honest sender published, and what one honest house delivered, all
 -- that take part deliver; and what that cost.
--- Assumes nothing.
 use mathlib.Core.Path.{_≡_, sym, ap, subst, _∙_}
 use mathlib.Core.Bool.{Bool, true, not, _&&_}
 use mathlib.Core.Option.{Option, none, some}

@@ -1,5 +1,4 @@
 -- What one entry sees of a call: its own change where the call names it, and nothing but other entries' copies where not.
--- Assumes nothing.
 use mathlib.Core.Path.{_≡_, refl, subst, _∙_, fun-ext}
 use mathlib.Core.Bool.{Bool, true, false, cond, _&&_}
 use mathlib.Core.Option.{Option, none, some}

@@ -1,5 +1,4 @@
 -- What is claimed of every run, of the entry of sender j and number c, in document 01's order.
--- Assumes nothing.
 use mathlib.Core.Path.{_≡_}
 use mathlib.Core.Bool.{Bool, false, not, _&&_}
 use mathlib.Core.Logic.{_⊎_}

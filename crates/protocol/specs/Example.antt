@@ -1,6 +1,5 @@
 -- One run with f = 1 and d = 1: six houses, house 0 publishing, house 1 down when the SEND comes and back later, house 4 down at the end,
 -- house 5 a liar that asks for help twice.
--- Assumes nothing.
 use mathlib.Core.Path.{_≡_}
 use mathlib.Core.Bool.{true}
 use mathlib.Core.Option.{none, some}

@@ -1,6 +1,5 @@
 -- Two runs of three honest houses, f = 1, that show what the drained claims ask for: a house that returned once more than d times, and a
 -- sender that is down at the end.
--- Assumes nothing.
 use mathlib.Core.Path.{_≡_}
 use mathlib.Core.Bool.{true}
 use mathlib.Core.List.{[], _∷_, _++_}

@@ -1,5 +1,4 @@
 -- A run of n houses with whole books, in any order of calls; and what is counted of it, copy by copy.
--- Assumes nothing.
 use mathlib.Core.Path.{_≡_}
 use mathlib.Core.Bool.{Bool, true, false, not, cond, _&&_}
 use mathlib.Core.Option.{Option, none, some}

@@ -1,6 +1,5 @@
 -- One run of four houses with a lying sender, d = 0: houses 0 to 2 honest, house 3 sending two declarations on each of its two entries. The
 -- first entry stays undelivered; the second is delivered at all, at the house that heard the other declaration too.
--- Assumes nothing.
 use mathlib.Core.Path.{_≡_}
 use mathlib.Core.List.{List, [], _∷_, _++_}
 use mathlib.Core.Option.{Option, some}

@@ -1,5 +1,4 @@
 -- The steps on one entry and the answers of the counter, in document 01's order and words.
--- Assumes nothing.
 use mathlib.Core.Bool.{Bool, true, false, _&&_}
 use mathlib.Core.Option.{Option, none, some}
 use Prim.Native.Nat.{ℕ, zero, suc}

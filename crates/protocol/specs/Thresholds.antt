@@ -1,5 +1,4 @@
 -- The inequalities that the proofs take from the thresholds, and the rules that the wall card gives.
--- Assumes nothing.
 use mathlib.Core.Bool.{Bool, not, _&&_}
 use Prim.Native.Nat.{ℕ, _+_, _≤_, _<_}
 use Rattle.card.specs.Card.{quorum, amplify, deliver}

@@ -1,5 +1,4 @@
 -- What the four computed runs show, proved.
--- Assumes nothing.
 use Rattle.runs.specs.Claims.{Claims}
 use Rattle.runs.proofs.PowerCut as power-cut
 use Rattle.runs.proofs.Liar as liar

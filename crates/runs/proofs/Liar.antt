@@ -1,5 +1,4 @@
 -- The run of four houses with a liar, computed at the bytes: the premises of the claims are met, and without the help nobody delivers.
--- Assumes nothing.
 use mathlib.Core.Path.{_≡_, refl, sym, ap, subst}
 use mathlib.Core.Bool.{Bool, true, false, cond}
 use mathlib.Core.List.{[], _∷_}

@@ -1,5 +1,4 @@
 -- The run with d = 0, computed at the bytes: the premises of 01's exact counts can be met, and so what they claim comes of it.
--- Assumes nothing.
 use mathlib.Core.Path.{_≡_, refl, sym, ap, subst}
 use Prim.Native.Nat.{ℕ, _≤_}
 use lib.Dec.{ltb, lit<, lit≤}

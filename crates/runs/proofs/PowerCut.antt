@@ -1,5 +1,4 @@
 -- The run of three houses, computed at the bytes: the premises of the claims can be met, and so what they claim comes of it.
--- Assumes nothing.
 use mathlib.Core.Path.{_≡_, refl, sym, ap, subst}
 use mathlib.Core.Bool.{Bool, true, false, cond}
 use Prim.Native.Nat.{ℕ, _≤_}

@@ -1,5 +1,4 @@
 -- The houses of the computed seasons open their books with answer 0.
--- Assumes nothing.
 use Prim.Native.Nat.{ℕ}
 use mathlib.Core.Path.{_≡_}
 use mathlib.Core.Bool.{Bool, true}

@@ -1,5 +1,4 @@
 -- The run with a lying sender, computed at the bytes: the premises of the claims are met, and so what they claim comes of it.
--- Assumes nothing.
 use mathlib.Core.Path.{_≡_, refl, sym, ap, subst}
 use mathlib.Core.List.{List, [], _∷_}
 use Prim.Native.Nat.{ℕ, _≤_}

@@ -1,5 +1,4 @@
 -- What the four computed runs show: each meets the premises of the season's claims, and this comes of them.
--- Assumes nothing.
 use mathlib.Core.Path.{_≡_}
 use Rattle.season.specs.Run.{copies, readies}
 use Rattle.season.specs.Claims.{Everywhere}

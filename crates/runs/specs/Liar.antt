@@ -1,6 +1,5 @@
 -- One run at the bytes with a liar and d = 1: four houses, house 0 publishing, house 1 down when the SEND comes and back later, house 3 a
 -- liar that is heard and asks for help twice.
--- Assumes nothing.
 use Prim.Native.Nat.{ℕ, _≤_}
 use mathlib.Core.Path.{_≡_}
 use mathlib.Core.Bool.{not, cond, _&&_}
@@ -11,8 +10,8 @@ use Rattle.message.specs.Message.{requestWire}
 use Rattle.protocol.specs.Run.{tally}
 use Rattle.meaning.specs.Layout.{echoSlot}
 use Rattle.meaning.specs.Book.{slotIn, helpedOf}
-use Rattle.season.specs.Run.{Houses, State, Step, publish, consume, wrong, crash, comeback, help, start, run, copiesOf, copies}
-use Rattle.season.specs.Run.{Open, upBetween, Drained, Limited, downs}
+use Rattle.season.specs.Run.{Houses, State, Step, publish, consume, wrong, crash, comeback, help, start, run, copiesOf, copies, Open}
+use Rattle.season.specs.Run.{upBetween, Drained, Limited, downs}
 use Rattle.season.specs.Claims.{Few}
 use Rattle.runs.specs.Sample.{sample, lot, lie, says, consumeFrom}
 

@@ -1,6 +1,5 @@
 -- One run at the bytes with d = 0 and no house down, as in document 01: four houses, one number, house 0 honest and publishing, house 3 a
 -- liar that sends two declarations, forges a READY and hands in bytes that are no message.
--- Assumes nothing.
 use Prim.Native.Nat.{ℕ}
 use mathlib.Core.Path.{_≡_}
 use mathlib.Core.Bool.{not, _&&_}
@@ -9,8 +8,8 @@ use mathlib.Core.Option.{Option, some}
 use lib.Dec.{ltb}
 use Rattle.meaning.specs.Layout.{echoSlot, readySlot}
 use Rattle.meaning.specs.Book.{slotIn}
-use Rattle.season.specs.Run.{Houses, Open, State, Step, publish, consume, wrong, start, run, copiesOf, copies, between, isBetween}
-use Rattle.season.specs.Run.{Limited, downs}
+use Rattle.season.specs.Run.{Houses, Open, State, Step, publish, consume, wrong, start, run, copiesOf, copies, between, isBetween, Limited}
+use Rattle.season.specs.Run.{downs}
 use Rattle.season.specs.Claims.{Few, Delivered, Published}
 use Rattle.runs.specs.Sample.{sample, lot, lie, says, consumeFrom}
 

@@ -1,6 +1,5 @@
 -- One run at the bytes with f = 1 and d = 1: three honest houses, one number, house 0 publishing, house 2 down when the SEND comes and
 -- back later, house 1 down at the end; and bytes under a number not below n, a request among them.
--- Assumes nothing.
 use Prim.Native.Nat.{ℕ, _≤_}
 use mathlib.Core.Path.{_≡_}
 use mathlib.Core.Bool.{true, not, cond, _&&_}

@@ -1,6 +1,5 @@
 -- What the computed seasons have in common: one number, season 2026, cap 20 and open gates, each house lending zeros to opening; a lot and
 -- a lie; and copies consumed in their turn.
--- Assumes nothing.
 use Prim.Native.Nat.{ℕ, zero, suc}
 use mathlib.Core.Bool.{Bool}
 use mathlib.Core.List.{List, [], _∷_}

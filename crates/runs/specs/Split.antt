@@ -1,6 +1,5 @@
 -- One run at the bytes with a lying sender, d = 0: four houses, house 0 sending two declarations on its entry and vouching for both, the
 -- others honest. One of the two is delivered at all, at the house that heard the other too.
--- Assumes nothing.
 use Prim.Native.Nat.{ℕ, _≤_}
 use mathlib.Core.Path.{_≡_}
 use mathlib.Core.Bool.{not, _&&_}

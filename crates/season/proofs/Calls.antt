@@ -1,6 +1,5 @@
 -- A call at the bytes is the protocol's call, and an accepted request the protocol's help: where books, copies and requests mean the same
 -- before, they mean the same afterwards.
--- Assumes nothing.
 use Prim.Native.Nat.{ℕ, zero, suc, _<_}
 use mathlib.Core.Path.{_≡_, refl, sym, ap, _∙_, subst}
 use mathlib.Core.Bool.{Bool, true, false, cond}

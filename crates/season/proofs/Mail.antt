@@ -1,6 +1,5 @@
 -- Copies and requests at the bytes beside the protocol's: each says what the other says, so both are posted, found, consumed and counted
 -- alike.
--- Assumes nothing.
 use Prim.Native.Nat.{ℕ, zero, suc, _<_}
 use mathlib.Core.Path.{_≡_, refl, ap, ap₂}
 use mathlib.Core.Bool.{Bool, true, false, cond}

@@ -1,5 +1,4 @@
 -- The book is its own outbox: what an honest house sent is what its book gives, and what its book gives it sent to all.
--- Assumes nothing.
 use Prim.Native.Nat.{ℕ, _≤_, _<_}
 use mathlib.Core.Path.{_≡_, refl, sym, ap, _∙_, subst}
 use mathlib.Core.Bool.{Bool, true, false, cond, _&&_, true≢false}
@@ -31,7 +30,7 @@ use Rattle.calls.proofs.KindNumber.{kind-number}
 use Rattle.season.specs.Run.{Houses, isHonest, Copy, State}
 use Rattle.season.specs.Claims.{OfSeason, Outgoing, SentTo}
 use Rattle.season.proofs.Mail.{Says, Both, mails-at}
-use Rattle.season.proofs.Calls.{wall, IsOf, Means, sent-is}
+use Rattle.season.proofs.Calls.{wall, Means, sent-is}
 
 -- another kind gives nothing
 known-kind : (b : List ℕ) (kind j c : ℕ) → sentOf b kind j c .gives ≡ true → message.isKind kind ≡ true

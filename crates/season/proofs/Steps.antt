@@ -1,5 +1,4 @@
 -- A step of a run at the bytes is a step of the protocol's run or leaves it; so every run at the bytes means a run of the protocol.
--- Assumes nothing.
 use Prim.Native.Nat.{ℕ, suc}
 use mathlib.Core.Path.{_≡_, refl, sym, ap, subst, _∙_}
 use mathlib.Core.Logic.{_⊎_, inl, inr, ⊎-elim}
@@ -28,9 +27,8 @@ use Rattle.calls.specs.Entered.{kindOf}
 use Rattle.calls.specs.Call.{called, published, asked, heardFrom, heardAny, received}
 use Rattle.calls.specs.Again.{returned}
 use Rattle.season.specs.Run.{Houses, isHonest, isWrong, isUp, Open, opens, Copy, State, start, namedBy, nothing, entry, sends, ended}
-use Rattle.season.specs.Run.{publicationOf, Step, publish, consume, wrong, crash, comeback, help, publishes}
-use Rattle.season.specs.Run.{receives, consumedCopy, consumeAt, consumes, goesDown, toAll, again, comes, taken, asks}
-use Rattle.season.specs.Run.{underWrong, step, run}
+use Rattle.season.specs.Run.{publicationOf, Step, publish, consume, wrong, crash, comeback, help, publishes, receives, consumedCopy}
+use Rattle.season.specs.Run.{consumeAt, consumes, goesDown, toAll, again, comes, taken, asks, underWrong, step, run}
 use Rattle.season.specs.Claims.{consumption}
 use Rattle.season.proofs.Mail.{asked-is, Says, says-consumed, Asks, asks-consumed, Mails, Both, mails-at, mails-append}
 use Rattle.season.proofs.Mail.{mails-changed, mails-requests}

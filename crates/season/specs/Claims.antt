@@ -1,5 +1,4 @@
 -- What is claimed of every run at the bytes, of the entry of sender j and number c, in document 01's order.
--- Assumes nothing.
 use Prim.Native.Nat.{ℕ, _+_, _*_, _≤_, _<_}
 use mathlib.Core.Path.{_≡_}
 use mathlib.Core.Logic.{_⊎_}

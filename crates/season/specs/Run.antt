@@ -2,7 +2,6 @@
 -- it, copy by copy. Of `protocol` it takes words for functions and lists only: `upd f p x` is f with x at p, `at` the element at a place,
 -- `changeAt` the list with that element changed, `each` what a function gives at 0, 1 and so on, `noted` one more on the list of a house,
 -- sender and number, `tally` how many pass a test.
--- Assumes nothing.
 use Prim.Native.Nat.{ℕ, suc, _^_, _≤_, _<_}
 use mathlib.Core.Path.{_≡_}
 use mathlib.Core.Bool.{Bool, true, false, not, cond, _&&_}

@@ -1,5 +1,4 @@
 -- The test `plausible` is true exactly when document 01's conditions hold.
--- Assumes nothing.
 use Prim.Native.Nat.{_*_, _≤_, zero-le}
 use mathlib.Core.Path.{_≡_, refl}
 use mathlib.Core.Logic.{_↔_}

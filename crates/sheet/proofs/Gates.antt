@@ -1,5 +1,4 @@
 -- A gate kept in the one form of a legal gate is legal, and so is the sheet; a sheet's bytes are 22.
--- Assumes nothing.
 use Prim.Native.Nat.{ℕ, _+_}
 use mathlib.Core.Path.{_≡_}
 use mathlib.Core.Bool.{true, and-eq-true-iff}

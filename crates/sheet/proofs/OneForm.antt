@@ -1,5 +1,4 @@
 -- A sheet and its 22 bytes settle each other, so a sheet has one byte form; judging at the bytes is judging.
--- Assumes nothing.
 use Prim.Native.Nat.{ℕ, _+_, _^_, _<_}
 use mathlib.Core.Path.{_≡_, refl, sym, ap, ap₂, _∙_}
 use mathlib.Core.Bool.{Bool, true, false, cond, _&&_, and-eq-true-iff}

@@ -1,5 +1,4 @@
 -- What this crate promises: when a declaration is plausible, and that a sheet has one byte form.
--- Assumes nothing.
 use mathlib.Core.Logic.{_↔_}
 use Prim.Native.Nat.{ℕ}
 use mathlib.Core.Path.{_≡_}

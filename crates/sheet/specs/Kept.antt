@@ -1,5 +1,4 @@
 -- The sheet's 22 bytes: the cap, and for each gate a kind byte and two limits as bits, low then high. Judging at the bytes.
--- Assumes nothing.
 use Prim.Native.Nat.{ℕ, _+_}
 use mathlib.Core.Bool.{Bool, cond, _&&_}
 use mathlib.Core.List.{List, _∷_, _++_}

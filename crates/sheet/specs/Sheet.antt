@@ -1,5 +1,4 @@
 -- The season's sheet: its gates, when it is legal, which declaration is plausible by it, and what judging answers.
--- Assumes nothing.
 use Prim.Native.Nat.{ℕ, _*_, _≤_}
 use mathlib.Core.Path.{_≡_}
 use mathlib.Core.Bool.{Bool, true, false, cond, not, _&&_}

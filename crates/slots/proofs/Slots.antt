@@ -1,5 +1,4 @@
 -- What the presence byte says of a slot, one slot more in a count, and the bytes after a slot is filled.
--- Assumes nothing.
 use Prim.Native.Nat.{ℕ, _+_, _<_, _≤_}
 use mathlib.Core.Path.{_≡_, refl}
 use mathlib.Core.Bool.{Bool, true, false, cond}

@@ -1,5 +1,4 @@
 -- What the code leaves and gives for an accepted message is the protocol's step, entered in the book.
--- Assumes nothing.
 use Prim.Native.Nat.{ℕ, _+_, _*_, _<_}
 use mathlib.Core.Path.{_≡_, refl, sym, ap, ap₂, _∙_, subst}
 use mathlib.Core.Bool.{true, false, cond}

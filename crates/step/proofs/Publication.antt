@@ -1,5 +1,4 @@
 -- An accepted publication at the bytes is the protocol's step, entered in the book.
--- Assumes nothing.
 use Prim.Native.Nat.{ℕ, _<_}
 use mathlib.Core.Path.{_≡_, refl, ap, ap₂, _∙_}
 use mathlib.Core.Bool.{true, false}

@@ -1,5 +1,4 @@
 -- The slot that the code looks at is the one in which the message would be recorded.
--- Assumes nothing.
 use Prim.Native.Nat.{ℕ, _+_, _*_, _<_}
 use mathlib.Core.Path.{_≡_, sym, ap, _∙_}
 use mathlib.Core.List.{List}

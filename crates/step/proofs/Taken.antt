@@ -1,5 +1,4 @@
 -- An accepted message at the bytes: what the code stores, gives and delivers is the protocol's step on the entry.
--- Assumes nothing.
 use Prim.Native.Nat.{ℕ, _+_, _*_, _<_}
 use mathlib.Core.Path.{_≡_, refl, sym, ap, _∙_}
 use mathlib.Core.Bool.{true, false, _&&_}

@@ -1,5 +1,4 @@
 -- Lists of bytes, put together and taken apart; a number below 2^32 is written in bytes.
--- Assumes nothing.
 use Prim.Native.Nat.{ℕ, zero, suc, _+_, _^_, _<_}
 use mathlib.Core.List.{List, [], _∷_, _++_}
 use native.Mathlib.Omega.{arith}

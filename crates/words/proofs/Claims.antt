@@ -1,5 +1,4 @@
 -- What this crate promises holds.
--- Assumes nothing.
 use Rattle.words.specs.Claims.{Claims}
 use Rattle.words.proofs.Laws as laws
 use Rattle.words.proofs.Bytes as bytes

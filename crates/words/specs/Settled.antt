@@ -1,5 +1,4 @@
 -- A contract settles a call's outcome: two outcomes that meet it are equal.
--- Assumes nothing.
 use Prim.Native.Nat.{ℕ}
 use mathlib.Core.Path.{_≡_}
 use mathlib.Core.List.{List}

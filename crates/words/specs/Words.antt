@@ -1,5 +1,4 @@
 -- A number of 32 bits as four bytes, big-endian, and the number that four bytes stand for.
--- Assumes nothing.
 use Prim.Native.Nat.{ℕ, _+_, _*_, _/_, _%_, _<_}
 use mathlib.Core.List.{List, [], _∷_}
 use lib.ListN.{getD}

@@ -1,5 +1,4 @@
 -- `counter::sent_entry` meets its contract.
--- Assumes nothing.
 use Rattle.again.proofs.Sent.{sent-send, sent-other, sent-echo, sent-ready}
 use Rattle.meaning.proofs.Room.{header-room, published-room}
 use Rattle.meaning.specs.Layout.{slotPlace, perEntry}

@@ -1,5 +1,4 @@
 -- `counter::sent_in` meets its contract.
--- Assumes nothing.
 use Rattle.again.proofs.Sent.{sent-full, sent-empty}
 use denote.Ref.{now}
 use borrow.Author.Needs.{needs}

@@ -1,5 +1,4 @@
 -- `book::are_slots_ok` meets its contract.
--- Assumes nothing.
 use Prim.Native.Nat.{_≤_, _-_}
 use mathlib.Core.Path.{_≡_, sym}
 use mathlib.Core.Bool.{true}

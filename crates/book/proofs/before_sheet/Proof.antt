@@ -1,5 +1,4 @@
 -- `book::before_sheet` meets its contract.
--- Assumes nothing.
 use mathlib.Core.Path.{ap}
 use mathlib.Core.List.{_∷_}
 use Rattle.words.specs.declared.Quad.{Quad}

@@ -1,5 +1,4 @@
 -- `book::is_allowed` meets its contract.
--- Assumes nothing.
 use Rattle.meaning.specs.Layout.{mostLimit}
 use Rattle.book.proofs.Sizes.{size-refused, own-refused, down-refused, all-allowed}
 use borrow.Author.Needs.{needs}

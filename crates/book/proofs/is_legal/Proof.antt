@@ -1,5 +1,4 @@
 -- `book::is_legal` meets its contract.
--- Assumes nothing.
 use Rattle.book.proofs.Legality.{sized-room, slots-room, legal-unsized, legal-bad-slot, legal-bad-help, legal-sheet, helps-room}
 use borrow.Author.Needs.{needs}
 use Rattle.book.proofs.is_legal.Statement.{statement}

@@ -1,5 +1,4 @@
 -- `book::is_numbers` meets its contract.
--- Assumes nothing.
 use borrow.Author.Tests.{le-leb, lt-leb}
 use Rattle.meaning.specs.Layout.{mostNumbers, numbersOk}
 use Rattle.book.proofs.is_numbers.Statement.{statement}

@@ -1,5 +1,4 @@
 -- `book::is_size` meets its contract.
--- Assumes nothing.
 use borrow.Author.Needs.{needs}
 use Rattle.book.proofs.is_size.Statement.{statement}
 use Rattle.book.proofs.is_size.Tie as tie

@@ -1,5 +1,4 @@
 -- `book::is_sized` meets its contract.
--- Assumes nothing.
 use native.Mathlib.Omega.{arith}
 use Rattle.book.proofs.Legality.{not-sized, not-allowed, sized-is}
 use borrow.Author.Needs.{needs}

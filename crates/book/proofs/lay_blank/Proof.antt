@@ -1,5 +1,4 @@
 -- `book::lay_blank` meets its contract.
--- Assumes nothing.
 use Rattle.book.proofs.Filling.{blank-laid}
 use borrow.Author.Needs.{needs}
 use Rattle.book.proofs.lay_blank.Statement.{statement}

@@ -1,5 +1,4 @@
 -- `book::length_of` meets its contract.
--- Assumes nothing.
 use Rattle.meaning.specs.Opening.{lengthAnswer}
 use Rattle.book.proofs.Sizes.{n-byte, numbers-byte}
 use borrow.Author.Needs.{needs}

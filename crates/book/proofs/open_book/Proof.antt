@@ -1,5 +1,4 @@
 -- `book::open_book` meets its contract.
--- Assumes nothing.
 use mathlib.Core.Path.{sym, _∙_}
 use native.Mathlib.Omega.{arith}
 use Rattle.sheet.proofs.Gates.{sheet-sized}

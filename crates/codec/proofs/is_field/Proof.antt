@@ -1,5 +1,4 @@
 -- `message::is_field` meets its contract.
--- Assumes nothing.
 use borrow.Author.Tests.{eq-eqb, ne-eqb}
 use borrow.Author.Needs.{needs}
 use Rattle.codec.proofs.is_field.Statement.{statement}

@@ -1,5 +1,4 @@
 -- `message::is_request` meets its contract.
--- Assumes nothing.
 use Rattle.message.specs.Message.{isRequest}
 use borrow.Author.Tests.{eq-eqb, ne-eqb}
 use borrow.Author.Needs.{needs}

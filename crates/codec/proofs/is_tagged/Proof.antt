@@ -1,5 +1,4 @@
 -- `message::is_tagged` meets its contract.
--- Assumes nothing.
 use Rattle.message.specs.Message.{tagged}
 use borrow.Author.Needs.{needs}
 use Rattle.codec.proofs.is_tagged.Statement.{statement}

@@ -1,5 +1,4 @@
 -- `message::is_well_formed` meets its contract.
--- Assumes nothing.
 use Rattle.message.specs.Message.{wellFormed}
 use borrow.Author.Tests.{eq-eqb, ne-eqb}
 use borrow.Author.Needs.{needs}

@@ -1,12 +1,10 @@
 -- `message::read_message` meets its contract.
--- Assumes nothing.
 use Rattle.message.proofs.Form.{sized}
 use Rattle.message.specs.Message.{fiveAt, gives, readOf}
 use lib.ListN.{length, getD}
 use denote.Ref.{now}
 use native.Mathlib.Omega.{arith}
 use mathlib.Core.Path.{_≡_, _∙_, sym}
-use Prim.Native.Nat.{ℕ}
 use borrow.Author.Needs.{needs}
 use Rattle.codec.proofs.read_message.Statement.{statement}
 use Rattle.codec.proofs.read_message.Tie as tie

@@ -1,5 +1,4 @@
 -- `message::write_message` meets its contract.
--- Assumes nothing.
 use Rattle.message.specs.Message.{wire, writtenOf}
 use Rattle.lot.specs.Declaration.{five, bytesOf}
 use Rattle.words.specs.Words.{listOf}

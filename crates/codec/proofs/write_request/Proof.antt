@@ -1,5 +1,4 @@
 -- `message::write_request` meets its contract.
--- Assumes nothing.
 use Rattle.message.specs.Message.{requestWire}
 use Rattle.words.specs.Words.{listOf}
 use mathlib.Core.List.{_∷_}

@@ -1,5 +1,4 @@
 -- `counter::answer_message` meets its contract.
--- Assumes nothing.
 use Rattle.calls.proofs.Carried.{called-refused, message-has, message-from, message-taken, send-taken}
 use Rattle.calls.specs.Entered.{kindOf}
 use Rattle.protocol.specs.Book.{receiving}

@@ -1,5 +1,4 @@
 -- `counter::check_from` meets its contract.
--- Assumes nothing.
 use Rattle.calls.proofs.Checking.{from-sender, from-another, from-voucher}
 use borrow.Author.Needs.{needs}
 use Rattle.counter.proofs.check_from.Statement.{statement}

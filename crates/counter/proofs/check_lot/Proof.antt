@@ -1,5 +1,4 @@
 -- `counter::check_lot` meets its contract.
--- Assumes nothing.
 use Rattle.calls.proofs.Checking.{book-sheet, ok-is}
 use Rattle.meaning.proofs.Room.{header-room}
 use Rattle.calls.specs.Entered.{kindOf}

@@ -1,5 +1,4 @@
 -- `counter::check_message` meets its contract.
--- Assumes nothing.
 use Rattle.calls.proofs.Checking.{sender-missing, number-missing, house-missing, answer-past}
 use Rattle.meaning.proofs.Room.{header-room}
 use native.Mathlib.Omega.{arith}

@@ -1,5 +1,4 @@
 -- `counter::check_publication` meets its contract.
--- Assumes nothing.
 use Rattle.calls.proofs.Published.{own-number-missing, lot-not-plausible, published-already, publication-accepted}
 use Rattle.calls.proofs.Checking.{book-sheet, ok-is}
 use Rattle.meaning.proofs.Room.{header-room, published-room}

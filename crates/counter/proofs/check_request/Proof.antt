@@ -1,5 +1,4 @@
 -- `counter::check_request` meets its contract.
--- Assumes nothing.
 use Rattle.calls.proofs.Requests.{other-season, asker-missing, helped-enough, request-accepted}
 use Rattle.meaning.proofs.Room.{header-room}
 use native.Mathlib.Omega.{arith}

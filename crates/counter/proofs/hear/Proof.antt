@@ -1,5 +1,4 @@
 -- `counter::hear` meets its contract.
--- Assumes nothing.
 use Rattle.calls.proofs.Received.{heard-season, heard-other-season}
 use Rattle.meaning.proofs.Room.{header-room}
 use Rattle.calls.specs.Entered.{fiveOf}

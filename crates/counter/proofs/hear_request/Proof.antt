@@ -1,5 +1,4 @@
 -- `counter::hear_request` meets its contract.
--- Assumes nothing.
 use Rattle.calls.proofs.Requests.{request-from, request-byte, request-helped, request-refused}
 use Rattle.card.proofs.Wall.{houses-byte}
 use Rattle.meaning.proofs.Legality.{legal-facts}

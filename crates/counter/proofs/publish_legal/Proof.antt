@@ -1,5 +1,4 @@
 -- `counter::publish_legal` meets its contract.
--- Assumes nothing.
 use Rattle.calls.proofs.Published.{publication-number, publication-called}
 use Rattle.calls.proofs.Carried.{called-refused}
 use Rattle.protocol.specs.Book.{publishing}

@@ -1,5 +1,4 @@
 -- `counter::publish_slice` meets its contract.
--- Assumes nothing.
 use Rattle.calls.proofs.Published.{published-no-book, published-lent}
 use Rattle.calls.proofs.Declarations.{read-decl}
 use Rattle.meaning.specs.Legal.{IsDecl}

@@ -1,5 +1,4 @@
 -- `counter::receive` meets its contract.
--- Assumes nothing.
 use Rattle.calls.proofs.Received.{received-no-book, received-request, received-malformed, received-message}
 use Rattle.calls.proofs.Declarations.{message-decl}
 use Rattle.message.specs.Message.{told}

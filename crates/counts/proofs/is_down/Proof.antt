@@ -1,5 +1,4 @@
 -- `card::is_down` meets its contract.
--- Assumes nothing.
 use borrow.Author.Needs.{needs}
 use borrow.Author.Tests.{le-leb, lt-leb}
 use Rattle.card.specs.Card.{mostDown, downOk}

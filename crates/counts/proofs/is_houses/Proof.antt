@@ -1,5 +1,4 @@
 -- `card::is_houses` meets its contract.
--- Assumes nothing.
 use borrow.Author.Tests.{le-leb, lt-leb}
 use Rattle.card.specs.Card.{largest, houses}
 use Rattle.counts.proofs.is_houses.Statement.{statement}

@@ -1,5 +1,4 @@
 -- `lot::float_of` meets its contract: the two ways agree at a NaN.
--- Assumes nothing.
 use borrow.Author.Tests.{lt-ltb, le-ltb}
 use lib.Ieee.Bits.{nanBits-is, nanBits-above}
 use lib.Ieee.{Float, nan, inf, fin, binary32, div, ofBits, isNan}

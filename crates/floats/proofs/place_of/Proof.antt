@@ -1,5 +1,4 @@
 -- `lot::place_of` meets its contract.
--- Assumes nothing.
 use mathlib.Core.Path.{refl}
 use borrow.Author.Tests.{le-leb, lt-leb}
 use Rattle.floats.specs.Place.{place}

@@ -1,5 +1,4 @@
 -- `lot::admits` meets its contract.
--- Assumes nothing.
 use Rattle.sheet.specs.Sheet.{passes, admitted}
 use Rattle.sheet.proofs.Finite.{gates-legal}
 use Rattle.gates.proofs.admits.Statement.{statement}

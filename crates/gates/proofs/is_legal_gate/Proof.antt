@@ -1,5 +1,4 @@
 -- `lot::is_legal_gate` meets its contract.
--- Assumes nothing.
 use mathlib.Core.Path.{sym, ap, _∙_}
 use Rattle.sheet.specs.Sheet.{limitsFinite, gateLegal}
 use Rattle.sheet.proofs.Finite.{at-most-legal, both-finite}

@@ -1,5 +1,4 @@
 -- `lot::is_within` meets its contract.
--- Assumes nothing.
 use mathlib.Core.Path.{sym, ap, _∙_}
 use Rattle.sheet.specs.Sheet.{within, gateLegal}
 use Rattle.sheet.proofs.Finite.{at-most-finite, low-finite, high-finite}

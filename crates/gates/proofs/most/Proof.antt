@@ -1,5 +1,4 @@
 -- `lot::most` meets its contract.
--- Assumes nothing.
 use Rattle.gates.proofs.Product.{below}
 use borrow.Author.Needs.{needs}
 use Rattle.gates.proofs.most.Statement.{statement}

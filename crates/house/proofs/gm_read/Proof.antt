@@ -1,5 +1,4 @@
 -- `house::gm_read` meets its contract.
--- Assumes nothing.
 use Rattle.house.specs.Read.{readAnswer}
 use Rattle.message.specs.Message.{Told, told}
 use Rattle.message.proofs.Request.{request-long, request-names, no-request}

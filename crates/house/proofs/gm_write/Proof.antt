@@ -1,7 +1,6 @@
 -- `house::gm_write` meets its contract.
--- Assumes nothing.
 use Rattle.message.specs.Message.{writtenOf}
-use mathlib.Core.Path.{_≡_, ap, _∙_}
+use mathlib.Core.Path.{ap, _∙_}
 use borrow.Author.Needs.{needs}
 use Rattle.house.proofs.gm_write.Statement.{statement}
 use Rattle.house.proofs.gm_write.Tie as tie

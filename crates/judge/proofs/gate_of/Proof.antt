@@ -1,5 +1,4 @@
 -- `sheet::gate_of` meets its contract.
--- Assumes nothing.
 use borrow.Author.Tests.{eq-eqb, ne-eqb}
 use Rattle.sheet.specs.Kept.{gateOf}
 use Rattle.sheet.specs.declared.Gate.the-variants.{AtMost, Between}

@@ -1,7 +1,6 @@
 -- `sheet::has_finite_limits` meets its contract.
--- Assumes nothing.
 use borrow.Author.Tests.{eq-eqb, ne-eqb}
-use mathlib.Core.Path.{refl, sym, _∙_}
+use mathlib.Core.Path.{refl}
 use Rattle.sheet.specs.Sheet.{limitsFinite}
 use Rattle.sheet.specs.Kept.{gateOf}
 use borrow.Author.Needs.{needs}

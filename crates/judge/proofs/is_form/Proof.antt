@@ -1,5 +1,4 @@
 -- `sheet::is_form` meets its contract.
--- Assumes nothing.
 use borrow.Author.Tests.{eq-eqb, ne-eqb}
 use Rattle.sheet.specs.Kept.{keptForm}
 use Rattle.judge.proofs.is_form.Statement.{statement}

@@ -1,6 +1,5 @@
 -- `sheet::is_legal_kept` meets its contract.
--- Assumes nothing.
-use Rattle.sheet.specs.Kept.{gateOf, keptForm, keptLegal}
+use Rattle.sheet.specs.Kept.{keptLegal}
 use Rattle.sheet.specs.Sheet.{limitsFinite, gateLegal}
 use Rattle.sheet.proofs.Finite.{not-legal}
 use mathlib.Core.Path.{sym, ap, _∙_}

@@ -1,7 +1,6 @@
 -- `sheet::is_sheet_at` meets its contract.
--- Assumes nothing.
 use Rattle.sheet.specs.Kept.{keptLegal, sheetLegalAt}
-use mathlib.Core.Path.{ap, _∙_, sym}
+use mathlib.Core.Path.{ap, _∙_}
 use borrow.Author.Needs.{needs}
 use Rattle.judge.proofs.is_sheet_at.Statement.{statement}
 use Rattle.judge.proofs.is_sheet_at.Tie as tie

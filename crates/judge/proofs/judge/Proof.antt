@@ -1,12 +1,9 @@
 -- `sheet::judge` meets its contract.
--- Assumes nothing.
 use Rattle.sheet.proofs.Gates.{sheet-sized, sheet-legal}
 use Rattle.sheet.specs.Kept.{judged}
-use denote.Ref.{now}
-use lib.ListN.{length}
 use native.Mathlib.Omega.{arith}
 use Rattle.sheet.specs.Sheet.{sheetLegal, plausible}
-use mathlib.Core.Path.{_≡_, _∙_, sym, ap, ap₂}
+use mathlib.Core.Path.{_∙_, sym, ap, ap₂}
 use borrow.Author.Needs.{needs}
 use Rattle.judge.proofs.judge.Statement.{statement}
 use Rattle.judge.proofs.judge.Tie as tie

@@ -1,5 +1,4 @@
 -- `sheet::kept_at` meets its contract.
--- Assumes nothing.
 use borrow.Author.Needs.{needs}
 use Rattle.judge.proofs.kept_at.Statement.{statement}
 use Rattle.judge.proofs.kept_at.Tie as tie

@@ -1,5 +1,4 @@
 -- `sheet::sheet_at` meets its contract.
--- Assumes nothing.
 use Rattle.sheet.specs.Kept.{gateOf, sheetAt}
 use mathlib.Core.Path.{ap, _∙_}
 use borrow.Author.Needs.{needs}

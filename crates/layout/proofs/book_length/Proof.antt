@@ -1,5 +1,4 @@
 -- `book::book_length` meets its contract.
--- Assumes nothing.
 use Rattle.meaning.specs.Layout.{slotPlace, lengthOf}
 use borrow.Author.Needs.{needs}
 use Rattle.layout.proofs.book_length.Statement.{statement}

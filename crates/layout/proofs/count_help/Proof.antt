@@ -1,5 +1,4 @@
 -- `book::count_help` meets its contract.
--- Assumes nothing.
 use native.Mathlib.Numerals.{add-one}
 use Rattle.meaning.specs.Book.{countHelp}
 use borrow.Author.Needs.{needs}

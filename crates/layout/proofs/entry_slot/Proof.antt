@@ -1,5 +1,4 @@
 -- `book::entry_slot` meets its contract.
--- Assumes nothing.
 use Rattle.meaning.specs.Layout.{entrySlot}
 use borrow.Author.Needs.{needs}
 use Rattle.layout.proofs.entry_slot.Statement.{statement}

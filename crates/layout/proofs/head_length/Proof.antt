@@ -1,5 +1,4 @@
 -- `book::head_length` meets its contract.
--- Assumes nothing.
 use Rattle.meaning.specs.Layout.{headLength}
 use borrow.Author.Needs.{needs}
 use Rattle.layout.proofs.head_length.Statement.{statement}

@@ -1,5 +1,4 @@
 -- `book::slot_count` meets its contract.
--- Assumes nothing.
 use Rattle.meaning.specs.Layout.{slotCount}
 use borrow.Author.Needs.{needs}
 use Rattle.layout.proofs.slot_count.Statement.{statement}

@@ -1,5 +1,4 @@
 -- `book::slot_place` meets its contract.
--- Assumes nothing.
 use Rattle.meaning.specs.Layout.{slotPlace}
 use borrow.Author.Needs.{needs}
 use Rattle.layout.proofs.slot_place.Statement.{statement}

@@ -1,5 +1,4 @@
 -- `lot::bytes_of` meets its contract.
--- Assumes nothing.
 use Rattle.lot.specs.Declaration.{bytesOf, five}
 use borrow.Author.Needs.{needs}
 use Rattle.octets.proofs.bytes_of.Statement.{statement}

@@ -1,5 +1,4 @@
 -- `lot::declaration_at` meets its contract.
--- Assumes nothing.
 use Rattle.lot.specs.Declaration.{declarationAt}
 use borrow.Author.Needs.{needs}
 use Rattle.octets.proofs.declaration_at.Statement.{statement}

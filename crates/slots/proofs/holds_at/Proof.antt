@@ -1,5 +1,4 @@
 -- `book::holds_at` meets its contract.
--- Assumes nothing.
 use Rattle.slots.proofs.Slots.{holds-full, holds-empty}
 use borrow.Author.Needs.{needs}
 use Rattle.slots.proofs.holds_at.Statement.{statement}

@@ -1,5 +1,4 @@
 -- `book::is_full` meets its contract.
--- Assumes nothing.
 use Rattle.slots.proofs.Slots.{full-is}
 use borrow.Author.Needs.{needs}
 use Rattle.slots.proofs.is_full.Statement.{statement}

@@ -1,5 +1,4 @@
 -- `book::is_same_at` meets its contract.
--- Assumes nothing.
 use mathlib.Core.Path.{sym, _∙_}
 use Rattle.slots.proofs.Same.{first-differs, second-differs, third-decides}
 use borrow.Author.Needs.{needs}

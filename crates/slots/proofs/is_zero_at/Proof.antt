@@ -1,5 +1,4 @@
 -- `book::is_zero_at` meets its contract.
--- Assumes nothing.
 use mathlib.Core.Path.{refl, sym, _∙_}
 use lib.ListN.{replicate}
 use Rattle.slots.proofs.Same.{first-differs, second-differs, third-decides, zero-bytes}

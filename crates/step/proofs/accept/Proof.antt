@@ -1,5 +1,4 @@
 -- `entry::accept` meets its contract.
--- Assumes nothing.
 use Rattle.calls.specs.Entered.{isThere, wired}
 use Rattle.protocol.specs.Steps.{given}
 use Prim.Native.Nat.{ℕ}

@@ -1,5 +1,4 @@
 -- `entry::check_slot` meets its contract.
--- Assumes nothing.
 use Rattle.step.proofs.Recorded.{slot-checked}
 use Rattle.meaning.specs.Layout.{perEntry}
 use native.Mathlib.Omega.{arith}

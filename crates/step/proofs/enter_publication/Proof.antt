@@ -1,5 +1,4 @@
 -- `entry::enter_publication` meets its contract.
--- Assumes nothing.
 use Rattle.step.proofs.Publication.{publication-entered}
 use Rattle.meaning.proofs.Room.{header-room, published-room, numbers-small}
 use Rattle.meaning.specs.Layout.{slotPlace}

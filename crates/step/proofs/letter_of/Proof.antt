@@ -1,5 +1,4 @@
 -- `entry::letter_of` meets its contract.
--- Assumes nothing.
 use Rattle.message.specs.declared.Written.{Written}
 use Rattle.message.specs.Message.{writtenOf}
 use mathlib.Core.Path.{ap}

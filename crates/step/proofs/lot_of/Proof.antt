@@ -1,5 +1,4 @@
 -- `entry::lot_of` meets its contract.
--- Assumes nothing.
 use borrow.Author.Needs.{needs}
 use Rattle.step.proofs.lot_of.Statement.{statement}
 use Rattle.step.proofs.lot_of.Tie as tie

@@ -1,5 +1,4 @@
 -- `entry::mark` meets its contract.
--- Assumes nothing.
 use borrow.Author.Needs.{needs}
 use Rattle.step.proofs.mark.Statement.{statement}
 use Rattle.step.proofs.mark.Tie as tie

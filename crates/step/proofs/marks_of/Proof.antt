@@ -1,5 +1,4 @@
 -- `entry::marks_of` meets its contract.
--- Assumes nothing.
 use Rattle.step.proofs.Marking.{echo-marks, ready-marks}
 use Rattle.meaning.specs.Layout.{perEntry}
 use Rattle.card.specs.Card.{houses, downOk}

@@ -1,5 +1,4 @@
 -- `entry::take_send` meets its contract.
--- Assumes nothing.
 use Rattle.step.proofs.Entered.{send-entered}
 use Rattle.meaning.proofs.Room.{header-room}
 use Rattle.calls.specs.Entered.{taken}

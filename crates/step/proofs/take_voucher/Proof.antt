@@ -1,5 +1,4 @@
 -- `entry::take_voucher` meets its contract.
--- Assumes nothing.
 use Rattle.step.proofs.Entered.{heard-within, voucher-taken}
 use Rattle.meaning.proofs.Room.{header-room}
 use Rattle.calls.specs.Entered.{taken}

@@ -1,5 +1,4 @@
 -- `counter::waits_at` meets its contract.
--- Assumes nothing.
 use Rattle.waiting.proofs.Searching.{waits-heard, waits-unheard}
 use Rattle.meaning.specs.Layout.{perEntry}
 use native.Mathlib.Omega.{arith}

@@ -1,5 +1,4 @@
 -- `transcript::lots::show_column` meets its contract: the card has the column that it shows.
--- Assumes nothing.
 use mathlib.Core.Path.{_∙_, sym}
 use borrow.Author.Needs.{needs}
 use Rattle.transcript.proofs.lots.show_column.Statement.{statement}

@@ -1,5 +1,4 @@
 -- `transcript::run::consume_from` meets its contract: the loop ends past what two digits can name.
--- Assumes nothing.
 use Prim.Native.Nat.{_-_}
 use mathlib.Core.Path.{_≡_}
 use lib.ListN.{length}

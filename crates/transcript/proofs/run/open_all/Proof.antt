@@ -1,5 +1,4 @@
 -- `transcript::run::open_all` meets its contract: the loop ends at the last honest house.
--- Assumes nothing.
 use Prim.Native.Nat.{_-_}
 use mathlib.Core.Path.{_≡_}
 use lib.ListN.{length}

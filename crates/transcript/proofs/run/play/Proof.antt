@@ -1,5 +1,4 @@
 -- `transcript::run::play` meets its contract: the loop ends at the most steps that it takes.
--- Assumes nothing.
 use Prim.Native.Nat.{_-_}
 use mathlib.Core.Path.{_≡_}
 use lib.ListN.{length}

@@ -1,5 +1,4 @@
 -- `transcript::run::say_houses` meets its contract: the loop ends at the last honest house.
--- Assumes nothing.
 use Prim.Native.Nat.{_≤_, _-_}
 use borrow.Author.Needs.{needs}
 use Rattle.transcript.proofs.run.say_houses.Statement.{statement}

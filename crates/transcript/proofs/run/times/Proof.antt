@@ -1,5 +1,4 @@
 -- `transcript::run::times` meets its contract: a byte is at most 255.
--- Assumes nothing.
 use Prim.Native.Nat.{_*_, _≤_}
 use native.Mathlib.Nat.{mul-le-mul-left}
 use native.Mathlib.Omega.{arith}

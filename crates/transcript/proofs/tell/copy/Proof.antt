@@ -1,5 +1,4 @@
 -- `transcript::tell::copy` meets its contract: the loop ends at the last byte.
--- Assumes nothing.
 use Prim.Native.Nat.{_≤_, _-_}
 use mathlib.Core.Path.{_≡_}
 use lib.ListN.{length}

@@ -1,5 +1,4 @@
 -- `transcript::tell::say_bytes` meets its contract: the loop ends at the last byte.
--- Assumes nothing.
 use Prim.Native.Nat.{_≤_, _-_}
 use lib.ListN.{length}
 use borrow.Author.Needs.{needs}
