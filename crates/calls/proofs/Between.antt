@@ -6,21 +6,22 @@ use mathlib.Core.Bool.{Bool, true, false, cond}
 use mathlib.Core.List.{List}
 use mathlib.Core.Option.{Option, none, some}
 use lib.Dec.{eqb}
+use Rattle.lot.specs.Declaration.{bytesOf}
 use Rattle.card.specs.Card.{fitting}
 use Rattle.words.specs.Words.{Bytes, wordAt}
 use Rattle.message.specs.Message.{Five, readOf, isRequest, requestOf}
 use Rattle.message.proofs.Request.{request-names, no-request}
-use Rattle.entry.specs.Entry.{Decl, Entry, PerEntry, sameEntry, place}
+use Rattle.entry.specs.Entry.{Decl, Entry, PerEntry, sameEntry, place, Kind}
 use Rattle.protocol.specs.Steps.{Out}
-use Rattle.protocol.specs.Book.{Call, publishing, senderOf, numberOf, outcome}
+use Rattle.protocol.specs.Book.{Call, publishing, senderOf, numberOf, outcome, receiving}
 use Rattle.protocol.specs.Thresholds.{rulesOf}
 use Rattle.protocol.proofs.Calls.{alone}
 use Rattle.meaning.specs.Book.{careOf, numbersOf, ownOf, seasonOf, look, meant}
 use Rattle.meaning.specs.Legal.{legal}
 use Rattle.meaning.proofs.Entries.{same-entry}
 use Rattle.meaning.proofs.Stores.{stored-entry}
-use Rattle.calls.specs.Entered.{Result, giving, okBy, rulesBy, letters}
-use Rattle.calls.specs.Call.{refusal, stepOf, called, published, asked, heardFrom, heardAny, received}
+use Rattle.calls.specs.Entered.{Result, giving, okBy, rulesBy, letters, kindOf}
+use Rattle.calls.specs.Call.{refusal, stepOf, called, published, asked, heardFrom, heardAny, received, answering, askedAs}
 use Rattle.calls.specs.Between.{Other, SameHeader, Alike, Between}
 use Rattle.calls.proofs.Keeps.{kept-none, called-stored, called-given, called-keeps, requested-entries}
 
@@ -50,9 +51,14 @@ module _ (b : List ℕ) (h : legal b ≡ true) (bytes : Bytes b) where
   unfolding received
   received-others p message j c d = rw h (any (requestOf message) (readOf message .five) d)
     where
+      asking : (m : Five) → Other (m .sender) (m .number) j c → (o : Option Kind)
+          → look (answering b (askedAs p m o) .book) j c ≡ look b j c
+      asking m d none = refl
+      asking m d (some k) = called-others (receiving p k (m .sender) (m .number) (bytesOf (m .declaration))) j c d
+
       in-season : (m : Five) → Other (m .sender) (m .number) j c → (t : Bool)
-          → look (cond t (called b (asked p m)) (refusal 3 b) .book) j c ≡ look b j c
-      in-season m d true = called-others (asked p m) j c d
+          → look (cond t (answering b (asked p m)) (refusal 3 b) .book) j c ≡ look b j c
+      in-season m d true = asking m d (kindOf (m .kind))
       in-season m d false = refl
 
       go : (x : Option Five) → ((m : Five) → x ≡ some m → Other (m .sender) (m .number) j c) → look (heardFrom b p x .book) j c ≡ look b j c
@@ -82,8 +88,12 @@ module _ (b : List ℕ) (h : legal b ≡ true) (bytes : Bytes b) where
   unfolding received
   received-header p message t = rw (h, no-request message t) (go (readOf message .five))
     where
-      in-season : (m : Five) (t : Bool) → Stay (cond t (called b (asked p m)) (refusal 3 b))
-      in-season m true = called-header (asked p m)
+      asking : (x : Option Call) → Stay (answering b x)
+      asking none = stays 2
+      asking (some a) = called-header a
+
+      in-season : (m : Five) (t : Bool) → Stay (cond t (answering b (asked p m)) (refusal 3 b))
+      in-season m true = asking (asked p m)
       in-season m false = stays 3
 
       go : (x : Option Five) → Stay (heardFrom b p x)
@@ -133,17 +143,23 @@ module _ (b d : List ℕ) (hb : legal b ≡ true) (hd : legal d ≡ true) (bb : 
   unfolding received
   received-same p message j c t names e = rw (hb, hd, no-request message t) (go (readOf message .five) names)
     where
+      asking : (m : Five) → m .sender ≡ j → m .number ≡ c → (o : Option Kind)
+          → Alike (answering b (askedAs p m o)) (answering d (askedAs p m o)) j c
+      asking m x y none = record { given = refl; entry = e }
+      asking m x y (some k) =
+          let a : Call = receiving p k (m .sender) (m .number) (bytesOf (m .declaration)) in
+          subst₂ (λ (j c : ℕ). Alike (called b a) (called d a) j c) x y (called-same a (rw (x, y) e))
+
       in-season : (m : Five) → m .sender ≡ j → m .number ≡ c → (t : Bool)
-          → Alike (cond t (called b (asked p m)) (refusal 3 b)) (cond t (called d (asked p m)) (refusal 3 d)) j c
-      in-season m x y true =
-          subst₂ (λ (j c : ℕ). Alike (called b (asked p m)) (called d (asked p m)) j c) x y (called-same (asked p m) (rw (x, y) e))
+          → Alike (cond t (answering b (asked p m)) (refusal 3 b)) (cond t (answering d (asked p m)) (refusal 3 d)) j c
+      in-season m x y true = asking m x y (kindOf (m .kind))
       in-season m x y false = record { given = refl; entry = e }
 
       go : (x : Option Five) → ((m : Five) → x ≡ some m → (m .sender ≡ j) × (m .number ≡ c)) → Alike (heardFrom b p x) (heardFrom d p x) j c
       go none f = record { given = refl; entry = e }
       go (some m) f =
           let names = f m refl in
-          subst (λ (x : ℕ). Alike (heardFrom b p (some m)) (cond (eqb (m .season) x) (called d (asked p m)) (refusal 3 d)) j c)
+          subst (λ (x : ℕ). Alike (heardFrom b p (some m)) (cond (eqb (m .season) x) (answering d (asked p m)) (refusal 3 d)) j c)
           (same .season) (in-season m (names .0) (names .1) (eqb (m .season) (seasonOf b)))
 
 pub between : Between

@@ -1,73 +1,97 @@
--- The answers that the code finds, one test after the other, are those of the protocol's step.
+-- A message on a legal book, test by test as the code makes them: each refusal, and at the end the step.
 use Prim.Native.Nat.{ℕ, _<_, _≤_}
 use mathlib.Core.Path.{_≡_, sym, ap, _∙_}
-use mathlib.Core.Bool.{Bool, true}
+use mathlib.Core.Bool.{true, false}
 use mathlib.Core.List.{List}
-use native.Mathlib.Decide.{ℕ-discrete}
+use mathlib.Core.Logic.{_⊎_}
+use mathlib.Core.Option.{none}
+use native.Mathlib.Omega.{arith}
 use borrow.Author.Tests.{eq-eqb, ne-eqb, lt-ltb}
 use Rattle.sheet.specs.declared.Sheet.{Sheet}
-use Rattle.lot.specs.declared.Declaration.{Declaration}
-use Rattle.lot.specs.Declaration.{bytesOf}
-use Rattle.sheet.specs.Sheet.{sheetLegal, plausible}
+use Rattle.sheet.specs.Sheet.{sheetLegal}
 use Rattle.sheet.specs.Kept.{sheetAt}
-use Rattle.entry.specs.Entry.{Decl, Kind, heard}
-use Rattle.protocol.specs.Steps.{may, recording, receiveAnswer}
-use Rattle.protocol.specs.Book.{receiving}
-use Rattle.protocol.specs.Thresholds.{rulesOf}
-use Rattle.meaning.specs.Book.{nOf, numbersOf, ownOf, look, meant, sheetPlace}
-use Rattle.meaning.specs.Legal.{legal, IsDecl}
-use Rattle.meaning.proofs.Legality.{legal-facts}
 use Rattle.sheet.proofs.Gates.{legal-sheet}
-use Rattle.calls.specs.Entered.{kindOf, okBy, rulesBy}
-use Rattle.calls.specs.Call.{fromAnswer, lotAnswer, stepOf}
-use Rattle.calls.proofs.Answers.{no-sender, no-number, no-house, answer-is}
-use Rattle.calls.proofs.Declarations.{plausible-ok}
-
-module _ (b : List ℕ) (j c p kind : ℕ) (v : Decl) where
-  abbrev k : Kind
-  k = kindOf kind
-
-  -- 6
-  pub from-sender : kind ≡ 1 → p ≡ j → (r : ℕ) → r ≡ recording (heard k p (look b j c)) v → r ≡ fromAnswer b p k j c v
-  from-sender e s r er = rw (eq-eqb _ _ e, eq-eqb _ _ s) (rw (eq-eqb _ _ e) at er)
-
-  pub from-another : kind ≡ 1 → (p ≡ j → ⊥) → 6 ≡ fromAnswer b p k j c v
-  from-another e f = rw (eq-eqb _ _ e, ne-eqb _ _ f)
-
-  may-vouch : (kind ≡ 1 → ⊥) → may j k p ≡ true
-  may-vouch f = go (ℕ-discrete kind 2)
-    where
-      go : Dec (kind ≡ 2) → may j k p ≡ true
-      go (yes e) = rw (ne-eqb _ _ f, eq-eqb _ _ e)
-      go (no g) = rw (ne-eqb _ _ f, ne-eqb _ _ g)
-
-  pub from-voucher : (kind ≡ 1 → ⊥) → (r : ℕ) → r ≡ recording (heard k p (look b j c)) v → r ≡ fromAnswer b p k j c v
-  from-voucher f r er = rw (may-vouch f) er
+use Rattle.entry.specs.Entry.{Decl, Kind, SEND, heard}
+use Rattle.protocol.specs.Steps.{takes, may, recording, receiveAnswer}
+use Rattle.protocol.specs.Book.{Call, receiving, senderOf, numberOf}
+use Rattle.protocol.specs.Order.{ReceivingOrder}
+use Rattle.protocol.specs.Thresholds.{rulesOf}
+use Rattle.protocol.proofs.Order.{receiving-ordered, answer-is, accepted-is}
+use Rattle.meaning.specs.Book.{nOf, numbersOf, ownOf, look, meant, sheetPlace}
+use Rattle.meaning.specs.Legal.{legal, Has}
+use Rattle.meaning.proofs.Legality.{legal-facts}
+use Rattle.calls.specs.declared.Outcome.{Outcome}
+use Rattle.calls.specs.Entered.{result, giving, okBy, rulesBy, entered, taken}
+use Rattle.calls.specs.Call.{stepOf, called}
 
 -- the sheet of a legal book is legal
 pub book-sheet : (b : List ℕ) (s : Sheet) → legal b ≡ true → s ≡ sheetAt b sheetPlace → sheetLegal s ≡ true
 book-sheet b s h e = ap sheetLegal e ∙ legal-sheet b sheetPlace (legal-facts b h .sheet)
 
--- 5
-module _ (b : List ℕ) (s : Sheet) (d : Declaration) (t : Bool) (decl : IsDecl (bytesOf d))
-    (es : s ≡ sheetAt b sheetPlace) (et : t ≡ plausible s d) where
-  pub ok-is : t ≡ okBy (sheetAt b sheetPlace) (bytesOf d)
-  ok-is = et ∙ ap (λ (x : Sheet). plausible x d) es ∙ plausible-ok (sheetAt b sheetPlace) d decl
+module _ (b : List ℕ) (a : Call) where
+  pub called-accepted : stepOf b a .answer ≡ 0 → called b a ≡ entered b (senderOf (ownOf b) a) (numberOf a) (stepOf b a)
+  unfolding called
+  called-accepted z = rw (eq-eqb _ _ z)
 
--- 4
+  -- the number that the code found, refused
+  pub called-refused : (n : ℕ) (r : Outcome) → n ≡ stepOf b a .answer → (n ≡ 0 → ⊥) → r ≡ giving n none none → result r b ≡ called b a
+  unfolding called
+  called-refused n r e f q =
+      rw (ne-eqb (stepOf b a .answer) 0 (λ z. f (e ∙ z))) (ap (λ (x : Outcome). result x b) (q ∙ ap (λ (x : ℕ). giving x none none) e))
+
 module _ (b : List ℕ) (j c p : ℕ) (k : Kind) (v : Decl) where
-  pub sender-missing : nOf b ≤ j → 4 ≡ stepOf b (receiving p k j c v) .answer
-  unfolding stepOf rulesBy rulesOf meant
-  sender-missing l = sym (ap (λ o. o .answer) (no-sender (rulesBy (meant b)) (numbersOf b) (ownOf b) p k j c v (look b) l))
+  abbrev a : Call
+  a = receiving p k j c v
 
-  pub number-missing : j < nOf b → numbersOf b ≤ c → 4 ≡ stepOf b (receiving p k j c v) .answer
-  unfolding stepOf rulesBy rulesOf meant
-  number-missing h l = sym (ap (λ o. o .answer) (no-number (rulesBy (meant b)) (numbersOf b) (ownOf b) p k j c v (look b) h l))
+  pub ordered : ReceivingOrder (rulesBy (meant b)) (numbersOf b) (ownOf b) p k j c v (look b)
+  ordered = receiving-ordered (rulesBy (meant b)) (numbersOf b) (ownOf b) p k j c v (look b)
 
-  pub house-missing : j < nOf b → c < numbersOf b → nOf b ≤ p → 4 ≡ stepOf b (receiving p k j c v) .answer
+  pub missing : (nOf b ≤ j) ⊎ ((numbersOf b ≤ c) ⊎ (nOf b ≤ p)) → 4 ≡ stepOf b a .answer
   unfolding stepOf rulesBy rulesOf meant
-  house-missing h l m = sym (ap (λ o. o .answer) (no-house (rulesBy (meant b)) (numbersOf b) (ownOf b) p k j c v (look b) h l m))
+  missing x = sym (ordered .missing x)
 
-  pub answer-past : j < nOf b → c < numbersOf b → p < nOf b → stepOf b (receiving p k j c v) .answer ≡ lotAnswer b p k j c v
-  unfolding stepOf rulesBy rulesOf meant receiveAnswer
-  answer-past h l m = answer-is (rulesBy (meant b)) (numbersOf b) (ownOf b) p k j c v (look b) h l ∙ rw (lt-ltb _ _ m)
+  -- 4
+  pub missing-refused : (nOf b ≤ j) ⊎ ((numbersOf b ≤ c) ⊎ (nOf b ≤ p)) → (r : Outcome) → r ≡ giving 4 none none → result r b ≡ called b a
+  missing-refused x r q = called-refused b a 4 r (missing x) (λ z. omega arith) q
+
+  module _ (has : Has b j c) (hp : p < nOf b) where
+    pub not-plausible : okBy (sheetAt b sheetPlace) v ≡ false → 5 ≡ stepOf b a .answer
+    unfolding stepOf rulesBy rulesOf meant
+    not-plausible f = sym (ordered .not-plausible (has .sender) (has .number) hp f)
+
+    -- 5
+    pub implausible-refused : okBy (sheetAt b sheetPlace) v ≡ false → (r : Outcome) → r ≡ giving 5 none none → result r b ≡ called b a
+    implausible-refused f r q = called-refused b a 5 r (not-plausible f) (λ z. omega arith) q
+
+    module _ (ok : okBy (sheetAt b sheetPlace) v ≡ true) where
+      pub not-sender : may j k p ≡ false → 6 ≡ stepOf b a .answer
+      unfolding stepOf rulesBy rulesOf meant
+      not-sender f = sym (ordered .not-sender (has .sender) (has .number) hp ok f)
+
+      module _ (from : may j k p ≡ true) where
+        -- past these, what recording answers
+        pub answer-past : stepOf b a .answer ≡ recording (heard k p (look b j c)) v
+        unfolding stepOf rulesBy rulesOf meant receiveAnswer
+        answer-past =
+            answer-is (rulesBy (meant b)) (numbersOf b) (ownOf b) p k j c v (look b) (has .sender) (has .number)
+            ∙ rw (lt-ltb _ _ hp, ok, from)
+
+        pub recorded-refused : (n : ℕ) → n ≡ recording (heard k p (look b j c)) v → (n ≡ 0 → ⊥) → (r : Outcome) → r ≡ giving n none none
+            → result r b ≡ called b a
+        recorded-refused n e f r q = called-refused b a n r (e ∙ sym answer-past) f q
+
+        step-takes : recording (heard k p (look b j c)) v ≡ 0 → stepOf b a ≡ takes (rulesBy (meant b)) k p v (look b j c)
+        unfolding stepOf rulesBy rulesOf meant
+        step-takes z =
+            accepted-is (rulesBy (meant b)) (numbersOf b) (ownOf b) p k j c v (look b) (has .sender) (has .number)
+            (sym (answer-is (rulesBy (meant b)) (numbersOf b) (ownOf b) p k j c v (look b) (has .sender) (has .number)) ∙ answer-past ∙ z)
+
+        pub message-taken : recording (heard k p (look b j c)) v ≡ 0 → taken b p k j c v ≡ called b a
+        unfolding taken
+        message-taken z = sym (called-accepted b a (answer-past ∙ z) ∙ ap (entered b j c) (step-takes z))
+
+-- 6
+module _ (b : List ℕ) (j c p : ℕ) (v : Decl) (has : Has b j c) (hp : p < nOf b) (ok : okBy (sheetAt b sheetPlace) v ≡ true) where
+  pub another-refused : (p ≡ j → ⊥) → (r : Outcome) → r ≡ giving 6 none none → result r b ≡ called b (receiving p SEND j c v)
+  another-refused f r q =
+      called-refused b (receiving p SEND j c v) 6 r (not-sender b j c p SEND v has hp ok (ne-eqb p j f)) (λ z. omega arith) q

@@ -41,6 +41,7 @@ use Rattle.calls.specs.Kept.{Kept}
 use Rattle.calls.specs.Calls.{Calling, publish, receive, search, comeback, sent, answered}
 use Rattle.calls.proofs.Requests.{request-from, request-low}
 use Rattle.calls.proofs.Fits.{is-decl, Fits, outcome-fits, outcome-in-book, outcome-refused}
+use Rattle.calls.specs.Call.{answering}
 
 -- what is plausible by a sheet is 20 bytes
 pub plausible-decl : (s : Sheet) (v : Decl) → T (okBy s v) → IsDecl v
@@ -250,8 +251,12 @@ module _ (b : List ℕ) (h : legal b ≡ true) (bytes : Bytes b) where
   unfolding received
   received-keeps p message = rw h (any (requestOf message) (readOf message .five))
     where
-      in-season : (m : Five) (t : Bool) → Kept b (cond t (called b (asked p m)) (refusal 3 b) .book)
-      in-season m true = called-keeps (asked p m)
+      asking : (x : Option Call) → Kept b (answering b x .book)
+      asking none = kept-none
+      asking (some a) = called-keeps a
+
+      in-season : (m : Five) (t : Bool) → Kept b (cond t (answering b (asked p m)) (refusal 3 b) .book)
+      in-season m true = asking (asked p m)
       in-season m false = kept-none
 
       go : (x : Option Five) → Kept b (heardFrom b p x .book)

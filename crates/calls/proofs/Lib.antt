@@ -2,10 +2,8 @@ pub mod KindNumber
 pub mod Entered
 pub mod Accepted
 pub mod Earliest
-pub mod Answers
 pub mod Declarations
 pub mod Checking
-pub mod Carried
 pub mod Received
 pub mod Requests
 pub mod Published

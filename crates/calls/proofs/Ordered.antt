@@ -3,9 +3,7 @@ use Prim.Native.Nat.{ℕ, _≤_, _<_}
 use mathlib.Core.Path.{_≡_, refl, sym, ap, _∙_}
 use mathlib.Core.Bool.{Bool, true, false, cond}
 use mathlib.Core.List.{List}
-use mathlib.Core.Logic.{_⊎_, inl, inr}
 use mathlib.Core.Option.{none, some}
-use native.Mathlib.Decide.{decLt, ℕ-discrete}
 use native.Mathlib.Omega.{arith}
 use lib.Dec.{eqb}
 use lib.ListN.{getD}
@@ -14,22 +12,20 @@ use Rattle.lot.specs.Declaration.{bytesOf}
 use Rattle.sheet.specs.Kept.{sheetAt}
 use Rattle.message.specs.Message.{Five, Told, gives, malformed, readOf, requestOf}
 use Rattle.message.proofs.Request.{message-unasked}
-use Rattle.entry.specs.Entry.{Decl, Kind, heard}
-use Rattle.protocol.specs.Steps.{Out, publishes, recording}
-use Rattle.protocol.specs.Book.{Call, publishing, senderOf, numberOf}
-use Rattle.protocol.specs.Thresholds.{rulesOf}
+use Rattle.entry.specs.Entry.{Decl, Kind, SEND, ECHO, READY, heard}
+use Rattle.protocol.specs.Steps.{Out, publishes, may, recording}
+use Rattle.protocol.specs.Book.{Call, publishing, receiving, senderOf, numberOf}
 use Rattle.meaning.specs.Layout.{helpedPlace}
-use Rattle.meaning.specs.Book.{nOf, numbersOf, ownOf, seasonOf, sheetPlace, limitOf, helpedOf, countHelp, look, meant}
-use Rattle.meaning.specs.Legal.{legal}
-use Rattle.calls.specs.Entered.{helping, okBy, kindOf, rulesBy, entered}
-use Rattle.meaning.proofs.Room.{own-below}
-use Rattle.calls.specs.Call.{refusal, fromAnswer, lotAnswer, stepOf, called, published, asked, requestAnswer, requested, received}
+use Rattle.meaning.specs.Book.{nOf, numbersOf, ownOf, seasonOf, sheetPlace, limitOf, helpedOf, countHelp, look}
+use Rattle.meaning.specs.Legal.{legal, Has}
+use Rattle.calls.specs.Entered.{helping, okBy, kindNumber, kindOf, entered}
+use Rattle.calls.specs.Call.{refusal, stepOf, called, published, requestAnswer, requested, received}
 use Rattle.calls.specs.Answers.{Publishing, Reads, Inside, Receiving}
-use Rattle.calls.proofs.Answers.{already-published, publishes-it}
-use Rattle.calls.proofs.Checking.{sender-missing, number-missing, house-missing, answer-past, from-sender, from-another}
-use Rattle.calls.proofs.Checking.{from-voucher}
 use Rattle.calls.proofs.Requests as requests
-use Rattle.calls.proofs.Published.{own-number-missing, lot-not-plausible}
+use Rattle.calls.proofs.Checking.{missing, not-plausible, not-sender, answer-past}
+use Rattle.calls.proofs.Published.{number-missing, lot-not-plausible, already-there, step-publishes}
+use Rattle.calls.proofs.KindNumber.{kind-known, kind-send, number-of-kind}
+use Rattle.message.proofs.RoundTrip.{read-known}
 
 module _ (b : List ℕ) where
   called-answer : (a : Call) → called b a .given .answer ≡ stepOf b a .answer
@@ -56,25 +52,17 @@ module _ (b : List ℕ) where
       publishing-answer n e = rw h (called-answer (publishing c v) ∙ sym e)
 
       module _ (l : c < numbersOf b) (t : okBy (sheetAt b sheetPlace) v ≡ true) where
-        already : (w : Decl) → look b (ownOf b) c .published ≡ some w → 8 ≡ stepOf b (publishing c v) .answer
-        unfolding stepOf rulesBy rulesOf meant
-        already w e =
-            sym (ap (λ (o : Out). o .answer)
-            (already-published (rulesBy (meant b)) (numbersOf b) (ownOf b) c v (look b) (own-below b h) l t w e))
-
         accepted : look b (ownOf b) c .published ≡ none → 0 ≡ stepOf b (publishing c v) .answer
-        unfolding stepOf rulesBy rulesOf meant publishes
-        accepted e =
-            sym (ap (λ (o : Out). o .answer)
-            (publishes-it (rulesBy (meant b)) (numbersOf b) (ownOf b) c v (look b) (own-below b h) l t e))
+        unfolding publishes
+        accepted e = sym (ap (λ (o : Out). o .answer) (step-publishes b h c v l t e))
 
     pub publishing-ordered : Publishing b c v
     publishing-ordered =
         record {
           no-book = no-book;
-          no-number = λ h l. publishing-answer h 4 (own-number-missing b h c v l);
+          no-number = λ h l. publishing-answer h 4 (number-missing b h c v l);
           not-plausible = λ h l f. publishing-answer h 5 (lot-not-plausible b h c v l f);
-          already = λ h l t w e. publishing-answer h 8 (already h l t w e);
+          already = λ h l t w e. publishing-answer h 8 (already-there b h c v l t w e);
           accepted = λ h l t e. publishing-answer h 0 (accepted h l t e);
         }
 
@@ -98,9 +86,6 @@ module _ (b : List ℕ) where
     other-season h m r f = rw (h, message-unasked message m (five-of m r), r, ne-eqb (m .season) (seasonOf b) f)
 
     module _ (m : Five) (R : Reads b message m) where
-      abbrev k : Kind
-      k = kindOf (m .kind)
-
       abbrev j : ℕ
       j = m .sender
 
@@ -110,51 +95,38 @@ module _ (b : List ℕ) where
       abbrev v : Decl
       v = bytesOf (m .declaration)
 
-      receiving-answer : (n : ℕ) → n ≡ stepOf b (asked p m) .answer → received b p message .given .answer ≡ n
-      unfolding received
-      receiving-answer n e =
-          rw (R .legal, message-unasked message m (five-of m (R .reads)), R .reads, eq-eqb (m .season) (seasonOf b) (R .season))
-          (called-answer (asked p m) ∙ sym e)
+      -- the kind that it has
+      module _ (k : Kind) (ek : kindOf (m .kind) ≡ some k) where
+        abbrev a : Call
+        a = receiving p k j c v
 
-      missing : (nOf b ≤ j) ⊎ ((numbersOf b ≤ c) ⊎ (nOf b ≤ p)) → 4 ≡ stepOf b (asked p m) .answer
-      missing = go (decLt j (nOf b)) (decLt c (numbersOf b))
-        where
-          go : Dec (j < nOf b) → Dec (c < numbersOf b) → (nOf b ≤ j) ⊎ ((numbersOf b ≤ c) ⊎ (nOf b ≤ p))
-              → 4 ≡ stepOf b (asked p m) .answer
-          go (no l) d x = sender-missing b j c p k v (omega arith)
-          go (yes l) (no i) x = number-missing b j c p k v l (omega arith)
-          go (yes l) (yes i) (inl x) = absurd (omega arith)
-          go (yes l) (yes i) (inr (inl x)) = absurd (omega arith)
-          go (yes l) (yes i) (inr (inr x)) = house-missing b j c p k v l i x
+        receiving-answer : (n : ℕ) → n ≡ stepOf b a .answer → received b p message .given .answer ≡ n
+        unfolding received
+        receiving-answer n e =
+            rw (R .legal, message-unasked message m (five-of m (R .reads)), R .reads, eq-eqb (m .season) (seasonOf b) (R .season), ek)
+            (called-answer a ∙ sym e)
 
-      module _ (I : Inside b p m) where
-        past : stepOf b (asked p m) .answer ≡ lotAnswer b p k j c v
-        past = answer-past b j c p k v (I .sender) (I .number) (I .house)
+        module _ (I : Inside b p m) where
+          has : Has b j c
+          has = record { is-legal = R .legal; sender = I .sender; number = I .number }
 
-        not-plausible : okBy (sheetAt b sheetPlace) v ≡ false → 5 ≡ stepOf b (asked p m) .answer
-        not-plausible f = sym (past ∙ rw f)
+          module _ (t : okBy (sheetAt b sheetPlace) v ≡ true) (from : may j k p ≡ true) where
+            already-heard : (w : Decl) → heard k p (look b j c) ≡ some w → 7 ≡ stepOf b a .answer
+            unfolding recording
+            already-heard w e = sym (answer-past b j c p k v has (I .house) t from ∙ rw e)
 
-        module _ (t : okBy (sheetAt b sheetPlace) v ≡ true) where
-          from : (n : ℕ) → n ≡ fromAnswer b p k j c v → n ≡ stepOf b (asked p m) .answer
-          from n e = sym (past ∙ rw t (sym e))
+            first-heard : heard k p (look b j c) ≡ none → 0 ≡ stepOf b a .answer
+            unfolding recording
+            first-heard e = sym (answer-past b j c p k v has (I .house) t from ∙ rw e)
 
-          not-sender : m .kind ≡ 1 → (p ≡ j → ⊥) → 6 ≡ stepOf b (asked p m) .answer
-          not-sender e f = from 6 (from-another b j c p (m .kind) v e f)
+      -- what is well formed has one
+      known : (k : Kind) × (kindOf (m .kind) ≡ some k) × (kindNumber k ≡ m .kind)
+      known = kind-known (m .kind) (read-known message m (R .reads))
 
-          recorded : (m .kind ≡ 1 → p ≡ j) → (n : ℕ) → n ≡ recording (heard k p (look b j c)) v → n ≡ stepOf b (asked p m) .answer
-          recorded s n e = from n (go (ℕ-discrete (m .kind) 1))
-            where
-              go : Dec (m .kind ≡ 1) → n ≡ fromAnswer b p k j c v
-              go (yes i) = from-sender b j c p (m .kind) v i (s i) n e
-              go (no f) = from-voucher b j c p (m .kind) v f n e
-
-          already-heard : (m .kind ≡ 1 → p ≡ j) → (w : Decl) → heard k p (look b j c) ≡ some w → 7 ≡ stepOf b (asked p m) .answer
-          unfolding recording
-          already-heard s w e = recorded s 7 (rw e)
-
-          first-heard : (m .kind ≡ 1 → p ≡ j) → heard k p (look b j c) ≡ none → 0 ≡ stepOf b (asked p m) .answer
-          unfolding recording
-          first-heard s e = recorded s 0 (rw e)
+      may-send : (k : Kind) → kindOf (m .kind) ≡ some k → (m .kind ≡ 1 → p ≡ j) → may j k p ≡ true
+      may-send SEND e s = eq-eqb p j (s (number-of-kind (m .kind) SEND e))
+      may-send ECHO e s = refl
+      may-send READY e s = refl
 
     -- a request
     module _ (h : legal b ≡ true) where
@@ -194,11 +166,19 @@ module _ (b : List ℕ) where
           no-book = no-legal;
           malformed = no-message;
           other-season = other-season;
-          missing = λ m R x. receiving-answer m R 4 (missing m R x);
-          not-plausible = λ m R I f. receiving-answer m R 5 (not-plausible m R I f);
-          not-sender = λ m R P e f. receiving-answer m R 6 (not-sender m R (P .inside) (P .plausible) e f);
-          already = λ m R P s w e. receiving-answer m R 7 (already-heard m R (P .inside) (P .plausible) s w e);
-          accepted = λ m R P s e. receiving-answer m R 0 (first-heard m R (P .inside) (P .plausible) s e);
+          missing = λ m R x. let k = known m R in receiving-answer m R (k .0) (k .1) 4 (missing b (m .sender) (m .number) p (k .0) (v m R) x);
+          not-plausible = λ m R I f.
+              let k = known m R in
+              receiving-answer m R (k .0) (k .1) 5
+              (not-plausible b (m .sender) (m .number) p (k .0) (v m R) (has m R (k .0) (k .1) I) (I .house) f);
+          not-sender = λ m R P e f.
+              receiving-answer m R SEND (kind-send (m .kind) e) 6
+              (not-sender b (m .sender) (m .number) p SEND (v m R) (has m R SEND (kind-send (m .kind) e) (P .inside)) (P .inside .house)
+              (P .plausible) (ne-eqb p (m .sender) f));
+          already = λ m R P s k e w h.
+              receiving-answer m R k e 7 (already-heard m R k e (P .inside) (P .plausible) (may-send m R k e s) w h);
+          accepted = λ m R P s k e h.
+              receiving-answer m R k e 0 (first-heard m R k e (P .inside) (P .plausible) (may-send m R k e s) h);
           request-other-season = request-season;
           request-missing = request-missing;
           request-enough = request-enough;

@@ -3,18 +3,12 @@ use Prim.Native.Nat.{ℕ, _<_, _≤_}
 use mathlib.Core.Path.{_≡_, refl, sym, ap, _∙_}
 use mathlib.Core.Bool.{Bool, true, false}
 use mathlib.Core.List.{List}
-use mathlib.Core.Option.{none}
-use native.Mathlib.Decide.{decLt}
+use mathlib.Core.Option.{none, some}
 use native.Mathlib.Omega.{arith}
-use lib.ListN.{length}
-use Rattle.words.specs.Words.{Bytes}
-use Rattle.lot.specs.declared.Declaration.{Declaration}
-use Rattle.lot.specs.Declaration.{declarationAt, bytesOf}
-use Rattle.lot.proofs.Declared.{bytes-of-numbers}
 use Rattle.sheet.specs.Kept.{sheetAt}
 use Rattle.entry.specs.Entry.{Decl, isSome}
 use Rattle.protocol.specs.Steps.{Out, publishes}
-use Rattle.protocol.specs.Book.{publishing}
+use Rattle.protocol.specs.Book.{Call, publishing}
 use Rattle.protocol.specs.Thresholds.{rulesOf}
 use Rattle.meaning.specs.Slot.{slotAt}
 use Rattle.meaning.specs.Layout.{slotPlace}
@@ -23,70 +17,62 @@ use Rattle.meaning.specs.Legal.{legal}
 use Rattle.calls.specs.declared.Outcome.{Outcome}
 use Rattle.calls.specs.Entered.{Result, result, giving, okBy, rulesBy, entered, publishedAt}
 use Rattle.calls.specs.Call.{stepOf, called, published}
-use Rattle.calls.proofs.Answers.{no-own-number, not-publishable, already-published, publishes-it}
-use Rattle.calls.proofs.Carried.{called-accepted}
+use Rattle.protocol.specs.Order.{PublishingOrder}
+use Rattle.protocol.proofs.Order.{publishing-ordered}
+use Rattle.calls.proofs.Checking.{called-accepted, called-refused}
 use Rattle.entry.proofs.Fullness.{full-holds, empty-holds}
 use Rattle.meaning.proofs.Room.{own-below}
 use Rattle.meaning.proofs.Seen.{published-seen}
 
 module _ (b : List ℕ) (h : legal b ≡ true) (c : ℕ) (v : Decl) where
+  abbrev a : Call
+  a = publishing c v
+
+  ordered : PublishingOrder (rulesBy (meant b)) (numbersOf b) (ownOf b) c v (look b)
+  unfolding rulesBy rulesOf meant
+  ordered = publishing-ordered (rulesBy (meant b)) (numbersOf b) (ownOf b) c v (look b) (own-below b h)
+
+  pub number-missing : numbersOf b ≤ c → 4 ≡ stepOf b a .answer
+  unfolding stepOf meant
+  number-missing l = sym (ordered .missing l)
+
   -- 4
-  pub own-number-missing : numbersOf b ≤ c → 4 ≡ stepOf b (publishing c v) .answer
-  unfolding stepOf rulesBy rulesOf meant
-  own-number-missing l =
-      sym (ap (λ (o : Out). o .answer) (no-own-number (rulesBy (meant b)) (numbersOf b) (ownOf b) c v (look b) (own-below b h) l))
+  pub number-refused : numbersOf b ≤ c → (r : Outcome) → r ≡ giving 4 none none → result r b ≡ called b a
+  number-refused l r q = called-refused b a 4 r (number-missing l) (λ z. omega arith) q
 
   module _ (l : c < numbersOf b) where
-    -- 5
-    pub lot-not-plausible : okBy (sheetAt b sheetPlace) v ≡ false → 5 ≡ stepOf b (publishing c v) .answer
+    pub lot-not-plausible : okBy (sheetAt b sheetPlace) v ≡ false → 5 ≡ stepOf b a .answer
     unfolding stepOf rulesBy rulesOf meant
-    lot-not-plausible f =
-        sym (ap (λ (o : Out). o .answer) (not-publishable (rulesBy (meant b)) (numbersOf b) (ownOf b) c v (look b) (own-below b h) l f))
+    lot-not-plausible f = sym (ordered .not-plausible l f)
 
-    seen : look b (ownOf b) c .published ≡ slotAt b (slotPlace (nOf b) c)
-    seen = published-seen b (ownOf b) c (record { is-legal = h; sender = own-below b h; number = l }) refl
+    -- 5
+    pub lot-refused : okBy (sheetAt b sheetPlace) v ≡ false → (r : Outcome) → r ≡ giving 5 none none → result r b ≡ called b a
+    lot-refused f r q = called-refused b a 5 r (lot-not-plausible f) (λ z. omega arith) q
 
-    module _ (ok : okBy (sheetAt b sheetPlace) v ≡ true) (t : Bool) (et : t ≡ isSome (slotAt b (slotPlace (nOf b) c))) where
-      -- 8
-      pub published-already : t ≡ true → 8 ≡ stepOf b (publishing c v) .answer
+    module _ (ok : okBy (sheetAt b sheetPlace) v ≡ true) where
+      pub already-there : (w : Decl) → look b (ownOf b) c .published ≡ some w → 8 ≡ stepOf b a .answer
       unfolding stepOf rulesBy rulesOf meant
-      published-already e =
-          let w = full-holds (slotAt b (slotPlace (nOf b) c)) (sym et ∙ e) in
-          sym
-          (ap (λ (o : Out). o .answer)
-          (already-published (rulesBy (meant b)) (numbersOf b) (ownOf b) c v (look b) (own-below b h) l ok (w .0) (seen ∙ w .1)))
+      already-there w e = sym (ordered .already l ok w e)
 
-      step-publishes : t ≡ false → stepOf b (publishing c v) ≡ publishes v (look b (ownOf b) c)
+      pub step-publishes : look b (ownOf b) c .published ≡ none → stepOf b a ≡ publishes v (look b (ownOf b) c)
       unfolding stepOf rulesBy rulesOf meant
-      step-publishes e =
-          publishes-it (rulesBy (meant b)) (numbersOf b) (ownOf b) c v (look b) (own-below b h) l ok
-          (seen ∙ empty-holds (slotAt b (slotPlace (nOf b) c)) (sym et ∙ e))
+      step-publishes e = ordered .accepted l ok e
 
-      pub publication-accepted : t ≡ false → 0 ≡ stepOf b (publishing c v) .answer
-      unfolding publishes
-      publication-accepted e = sym (ap (λ (o : Out). o .answer) (step-publishes e))
+      seen : look b (ownOf b) c .published ≡ slotAt b (slotPlace (nOf b) c)
+      seen = published-seen b (ownOf b) c (record { is-legal = h; sender = own-below b h; number = l }) refl
 
-  -- an accepted publication names a number of the book, is plausible, and stands alone there
-  module _ (z : stepOf b (publishing c v) .answer ≡ 0) where
-    pub publication-number : c < numbersOf b
-    publication-number = go (decLt c (numbersOf b))
-      where
-        go : Dec (c < numbersOf b) → c < numbersOf b
-        go (yes l) = l
-        go (no l) = absurd (omega (arith, own-number-missing (omega arith), z))
+      module _ (t : Bool) (et : t ≡ isSome (slotAt b (slotPlace (nOf b) c))) where
+        -- 8
+        pub already-refused : t ≡ true → (r : Outcome) → r ≡ giving 8 none none → result r b ≡ called b a
+        already-refused e r q =
+            let w = full-holds (slotAt b (slotPlace (nOf b) c)) (sym et ∙ e) in
+            called-refused b a 8 r (already-there (w .0) (seen ∙ w .1)) (λ z. omega arith) q
 
-    step-is : stepOf b (publishing c v) ≡ publishes v (look b (ownOf b) c)
-    step-is = go (okBy (sheetAt b sheetPlace) v) (isSome (slotAt b (slotPlace (nOf b) c))) refl refl
-      where
-        go : (ok t : Bool) → okBy (sheetAt b sheetPlace) v ≡ ok → t ≡ isSome (slotAt b (slotPlace (nOf b) c))
-            → stepOf b (publishing c v) ≡ publishes v (look b (ownOf b) c)
-        go false t eo et = absurd (omega (arith, lot-not-plausible publication-number eo, z))
-        go true true eo et = absurd (omega (arith, published-already publication-number eo true et refl, z))
-        go true false eo et = step-publishes publication-number eo false et refl
-
-    pub publication-called : publishedAt b c v ≡ called b (publishing c v)
-    unfolding publishedAt
-    publication-called = sym (called-accepted b (publishing c v) z ∙ ap (entered b (ownOf b) c) step-is)
+        pub publication-called : t ≡ false → publishedAt b c v ≡ called b a
+        unfolding publishedAt publishes
+        publication-called e =
+            let s = step-publishes (seen ∙ empty-holds (slotAt b (slotPlace (nOf b) c)) (sym et ∙ e)) in
+            sym (called-accepted b a (ap (λ (o : Out). o .answer) s) ∙ ap (entered b (ownOf b) c) s)
 
 -- 1, or past it
 module _ (b : List ℕ) (c : ℕ) (v : List ℕ) where
@@ -94,8 +80,6 @@ module _ (b : List ℕ) (c : ℕ) (v : List ℕ) where
   unfolding published
   published-no-book h r q = rw h (ap (λ (x : Outcome). result x b) q)
 
-  pub published-lent : legal b ≡ true → length v ≡ 20 → Bytes v → (d : Declaration) → d ≡ declarationAt v 0 → (x : Result)
-      → x ≡ called b (publishing c (bytesOf d)) → x ≡ published b c v
+  pub published-legal : legal b ≡ true → (x : Result) → x ≡ called b (publishing c v) → x ≡ published b c v
   unfolding published
-  published-lent h l bytes d e x q =
-      rw h (q ∙ ap (λ (y : Decl). called b (publishing c y)) (ap bytesOf e ∙ bytes-of-numbers v l bytes))
+  published-legal h x q = rw h q

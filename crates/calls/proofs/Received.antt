@@ -1,26 +1,16 @@
 -- Receiving, answer by answer, from what the code found.
 use Prim.Native.Nat.{ℕ}
-use mathlib.Core.Path.{_≡_, ap, sym, _∙_}
+use mathlib.Core.Path.{_≡_, ap, _∙_}
 use mathlib.Core.Bool.{true, false}
 use mathlib.Core.List.{List}
 use mathlib.Core.Option.{none, some}
-use borrow.Author.Tests.{eq-eqb, ne-eqb}
 use Rattle.message.specs.Message.{Five, Told, gives, malformed, readOf, isRequest}
 use Rattle.message.proofs.Request.{request-names, no-request}
 use Rattle.words.specs.Words.{wordAt}
-use Rattle.meaning.specs.Book.{seasonOf}
 use Rattle.meaning.specs.Legal.{legal}
 use Rattle.calls.specs.declared.Outcome.{Outcome}
 use Rattle.calls.specs.Entered.{Result, result, giving}
-use Rattle.calls.specs.Call.{asked, called, heardFrom, requested, received}
-
--- 3, or past it
-module _ (b : List ℕ) (p : ℕ) (m : Five) (season : ℕ) (e : season ≡ seasonOf b) where
-  pub heard-season : m .season ≡ season → (x : Result) → x ≡ called b (asked p m) → x ≡ heardFrom b p (some m)
-  heard-season s x q = rw (eq-eqb _ _ (s ∙ e)) q
-
-  pub heard-other-season : (m .season ≡ season → ⊥) → (r : Outcome) → r ≡ giving 3 none none → result r b ≡ heardFrom b p (some m)
-  heard-other-season f r q = rw (ne-eqb _ _ (λ s. f (s ∙ sym e))) (ap (λ (x : Outcome). result x b) q)
+use Rattle.calls.specs.Call.{heardFrom, requested, received}
 
 -- 1, 2, or past them
 module _ (b : List ℕ) (p : ℕ) (message : List ℕ) where

@@ -7,8 +7,8 @@ use mathlib.Core.Option.{Option, none, some}
 use lib.Dec.{eqb, ltb}
 use lib.ListN.{replicate}
 use borrow.Author.Tests.{eqb-true}
-use Rattle.message.specs.Message.{Five, isKind, readOf, requestOf, requestWire}
-use Rattle.entry.specs.Entry.{Decl}
+use Rattle.message.specs.Message.{Five, readOf, requestOf, requestWire}
+use Rattle.entry.specs.Entry.{Decl, Kind}
 use Rattle.protocol.specs.Steps.{Out}
 use Rattle.protocol.specs.Book.{Call, publishing, senderOf, numberOf}
 use Rattle.meaning.specs.Book.{nOf, numbersOf, ownOf, seasonOf, countHelp}
@@ -17,9 +17,9 @@ use Rattle.calls.specs.Entered.{Result, helping, kindOf, entered}
 use Rattle.calls.specs.declared.Waiting.{Waiting}
 use Rattle.calls.specs.declared.Returned.{Returned}
 use Rattle.calls.specs.declared.Sent.{Sent}
-use Rattle.calls.specs.Call.{refusal, stepOf, called, published, asked, heardAny, requestAnswer, requested, received}
+use Rattle.calls.specs.Call.{refusal, stepOf, called, published, asked, answering, heardAny, requestAnswer, requested, received}
 use Rattle.calls.specs.Search.{earliest, found, waiting, Place}
-use Rattle.calls.specs.Again.{returned, sending, sentOn, sentOf}
+use Rattle.calls.specs.Again.{returned, sending, sentOn, sentAs, sentOf}
 use Rattle.calls.specs.Silent.{Refuses, Silent}
 
 module _ (b : List ℕ) where
@@ -61,8 +61,12 @@ module _ (b : List ℕ) where
   unfolding received
   received-silent p message = go (legal b) (requestOf message) (readOf message .five)
     where
-      in-season : (m : Five) (t : Bool) → Silently (cond t (called b (asked p m)) (refusal 3 b))
-      in-season m true f = called-silent (asked p m) f
+      asking : (x : Option Call) → Silently (answering b x)
+      asking none f = refuses 2
+      asking (some a) f = called-silent a f
+
+      in-season : (m : Five) (t : Bool) → Silently (cond t (answering b (asked p m)) (refusal 3 b))
+      in-season m true f = asking (asked p m) f
       in-season m false f = refuses 3
 
       go : (t : Bool) (o : Option ℕ) (x : Option Five) → Silently (cond t (heardAny b p o x) (refusal 1 b))
@@ -97,16 +101,19 @@ module _ (b : List ℕ) where
   sent-silent : (kind j c : ℕ) → (sentOf b kind j c .answer ≡ 0 → ⊥)
       → (sentOf b kind j c .gives ≡ false) × (sentOf b kind j c .message ≡ replicate 36 0)
   unfolding sentOf
-  sent-silent kind j c = go (legal b) (isKind kind) (ltb j (nOf b) && ltb c (numbersOf b))
+  sent-silent kind j c = go (legal b) (kindOf kind)
     where
-      tells : Bool → Bool → Bool → Sent
-      tells t u w = cond t (cond u (cond w (sending 0 (sentOn b (kindOf kind) j c)) (sending 4 none)) (sending 2 none)) (sending 1 none)
+      Nothing : Sent → Type 0
+      Nothing s = (s .answer ≡ 0 → ⊥) → (s .gives ≡ false) × (s .message ≡ replicate 36 0)
 
-      go : (t u w : Bool) → (tells t u w .answer ≡ 0 → ⊥) → (tells t u w .gives ≡ false) × (tells t u w .message ≡ replicate 36 0)
-      go true true true f = absurd (f refl)
-      go true true false f = (refl, refl)
-      go true false w f = (refl, refl)
-      go false u w f = (refl, refl)
+      inside : (k : Kind) (w : Bool) → Nothing (cond w (sending 0 (sentOn b k j c)) (sending 4 none))
+      inside k true f = absurd (f refl)
+      inside k false f = (refl, refl)
+
+      go : (t : Bool) (o : Option Kind) → Nothing (cond t (sentAs b o j c) (sending 1 none))
+      go true none f = (refl, refl)
+      go true (some k) f = inside k (ltb j (nOf b) && ltb c (numbersOf b)) f
+      go false o f = (refl, refl)
 
 pub silent : Silent
 silent =

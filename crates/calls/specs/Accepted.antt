@@ -10,6 +10,7 @@ use Rattle.protocol.specs.Steps.{say}
 use Rattle.meaning.specs.Book.{Meaning}
 use Rattle.meaning.specs.Legal.{IsDecl}
 use Rattle.calls.specs.Entered.{kindNumber, kindOf, fiveOf, letter, rulesBy}
+use mathlib.Core.Option.{some}
 
 -- the counts that a book's steps compare with
 abbrev pub countsBy : Meaning → Counts
@@ -23,6 +24,6 @@ pub record Claims : Type 0 where
   -- Each message given on an entry reads as its kind, with the book's season and that entry's sender and number,
   pub letter-read : (season sender number : ℕ) (k : Kind) (v : Decl)
       → readOf (letter season sender number (say k v)) ≡ gives (fiveOf (kindNumber k) season sender number (declarationAt v 0))
-  pub kind-read : (k : Kind) → kindOf (kindNumber k) ≡ k
+  pub kind-read : (k : Kind) → kindOf (kindNumber k) ≡ some k
   -- and carries the declaration itself.
   pub declaration-read : (v : Decl) → IsDecl v → bytesOf (declarationAt v 0) ≡ v

@@ -5,7 +5,7 @@ use mathlib.Core.List.{List}
 use mathlib.Core.Option.{Option, none, some}
 use lib.Dec.{ltb}
 use lib.ListN.{replicate}
-use Rattle.message.specs.Message.{isKind, requestWire}
+use Rattle.message.specs.Message.{requestWire}
 use Rattle.entry.specs.Entry.{Decl, Kind, own}
 use Rattle.protocol.specs.Steps.{Say, say}
 use Rattle.meaning.specs.Book.{nOf, numbersOf, seasonOf, look}
@@ -33,12 +33,12 @@ unfoldable pub sentOn : List ℕ → Kind → (sender number : ℕ) → Option (
 unfolding letter
 sentOn b k j c = letters (seasonOf b) j c (saidOf k (own k (look b j c)))
 
+-- past answer 1: 2 for a number that is no kind's, 4
+abbrev pub sentAs : List ℕ → Option Kind → (sender number : ℕ) → Sent
+sentAs b none j c = sending 2 none
+sentAs b (some k) j c = cond (ltb j (nOf b) && ltb c (numbersOf b)) (sending 0 (sentOn b k j c)) (sending 4 none)
+
 -- What was sent: 1, 2 for a kind not 1 to 3, 4; else the writer's 36 bytes, or a plain none.
 unfoldable pub sentOf : List ℕ → (kind sender number : ℕ) → Sent
 unfolding sentOn
-sentOf b kind j c =
-    cond (legal b)
-    (cond (isKind kind)
-    (cond (ltb j (nOf b) && ltb c (numbersOf b)) (sending 0 (sentOn b (kindOf kind) j c)) (sending 4 none))
-    (sending 2 none))
-    (sending 1 none)
+sentOf b kind j c = cond (legal b) (sentAs b (kindOf kind) j c) (sending 1 none)

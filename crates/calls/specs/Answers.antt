@@ -8,7 +8,7 @@ use mathlib.Core.Option.{none, some}
 use Rattle.lot.specs.Declaration.{bytesOf}
 use Rattle.sheet.specs.Kept.{sheetAt}
 use Rattle.message.specs.Message.{Five, gives, malformed, readOf, requestOf}
-use Rattle.entry.specs.Entry.{Decl, heard}
+use Rattle.entry.specs.Entry.{Decl, heard, Kind}
 use Rattle.meaning.specs.Book.{nOf, numbersOf, ownOf, seasonOf, sheetPlace, limitOf, helpedOf, look}
 use Rattle.meaning.specs.Legal.{legal}
 use Rattle.calls.specs.Entered.{okBy, kindOf}
@@ -58,9 +58,11 @@ pub record Receiving (b : List ℕ) (p : ℕ) (message : List ℕ) : Type 0 wher
   pub not-sender : (m : Five) → Reads b message m → Plausible b p m → m .kind ≡ 1 → (p ≡ m .sender → ⊥)
       → received b p message .given .answer ≡ 6
   pub already : (m : Five) → Reads b message m → Plausible b p m → (m .kind ≡ 1 → p ≡ m .sender)
-      → (w : Decl) → heard (kindOf (m .kind)) p (look b (m .sender) (m .number)) ≡ some w → received b p message .given .answer ≡ 7
+      → (k : Kind) → kindOf (m .kind) ≡ some k → (w : Decl) → heard k p (look b (m .sender) (m .number)) ≡ some w
+      → received b p message .given .answer ≡ 7
   pub accepted : (m : Five) → Reads b message m → Plausible b p m → (m .kind ≡ 1 → p ≡ m .sender)
-      → heard (kindOf (m .kind)) p (look b (m .sender) (m .number)) ≡ none → received b p message .given .answer ≡ 0
+      → (k : Kind) → kindOf (m .kind) ≡ some k → heard k p (look b (m .sender) (m .number)) ≡ none
+      → received b p message .given .answer ≡ 0
   -- a request
   pub request-other-season : legal b ≡ true → (season : ℕ) → requestOf message ≡ some season → (season ≡ seasonOf b → ⊥)
       → received b p message .given .answer ≡ 3

@@ -46,14 +46,23 @@ unfoldable pub published : List ℕ → (number : ℕ) → Decl → Result
 unfolding called
 published b c v = cond (legal b) (called b (publishing c v)) (refusal 1 b)
 
--- the call that a message asks for
-abbrev pub asked : (house : ℕ) → Five → Call
-asked p m = receiving p (kindOf (m .kind)) (m .sender) (m .number) (bytesOf (m .declaration))
+-- the call that a message of the kind asks for
+abbrev pub askedAs : (house : ℕ) → Five → Option Kind → Option Call
+askedAs p m none = none
+askedAs p m (some k) = some (receiving p k (m .sender) (m .number) (bytesOf (m .declaration)))
+
+abbrev pub asked : (house : ℕ) → Five → Option Call
+asked p m = askedAs p m (kindOf (m .kind))
+
+-- A number that is no kind's asks for no call: 2. What is well formed has a kind (proofs/KindNumber.antt), so that it is never given here.
+abbrev pub answering : List ℕ → Option Call → Result
+answering b none = refusal 2 b
+answering b (some a) = called b a
 
 -- past answer 1: 2 unless the message is well formed, 3 unless it is of the book's season
 abbrev pub heardFrom : List ℕ → (house : ℕ) → Option Five → Result
 heardFrom b p none = refusal 2 b
-heardFrom b p (some m) = cond (eqb (m .season) (seasonOf b)) (called b (asked p m)) (refusal 3 b)
+heardFrom b p (some m) = cond (eqb (m .season) (seasonOf b)) (answering b (asked p m)) (refusal 3 b)
 
 -- the answer to house p's request for help: 3, 4, then, past d, 14
 unfoldable pub requestAnswer : List ℕ → (house season : ℕ) → ℕ

@@ -81,8 +81,9 @@ kindNumber SEND = 1
 kindNumber ECHO = 2
 kindNumber READY = 3
 
-abbrev pub kindOf : ℕ → Kind
-kindOf k = cond (eqb k 1) SEND (cond (eqb k 2) ECHO READY)
+-- the kind of a number, or none
+abbrev pub kindOf : ℕ → Option Kind
+kindOf k = cond (eqb k 1) (some SEND) (cond (eqb k 2) (some ECHO) (cond (eqb k 3) (some READY) none))
 
 -- the five things, and the writer's 36 bytes of them
 abbrev pub fiveOf : (kind season sender number : ℕ) → Declaration → Five

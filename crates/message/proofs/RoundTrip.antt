@@ -82,6 +82,21 @@ module _ (s : List ℕ) (bytes : Bytes s) where
           absurd (omega arith)
 
 -- two byte strings that read as the same message are equal
+-- what reads is of a known kind
+pub read-known : (s : List ℕ) (m : Five) → readOf s ≡ gives m → isKind (m .kind) ≡ true
+unfolding readOf fiveAt
+read-known s m r = go (wellFormed s) refl
+  where
+    go : (t : Bool) → wellFormed s ≡ t → isKind (m .kind) ≡ true
+    go true h =
+        let q : gives (fiveAt s) ≡ gives m = rw h at r in
+        let e = ap (λ (x : Told). fiveOr m (x .five)) q in
+        sym (ap (λ (x : Five). isKind (x .kind)) e) ∙ known-kind s h
+    go false h =
+        let q : malformed ≡ gives m = rw h at r in
+        let z : _≡_ {A = ℕ} 2 0 = ap (λ (x : Told). x .answer) q in
+        absurd (omega arith)
+
 pub one-form : (s r : List ℕ) (m : Five) → Bytes s → Bytes r → readOf s ≡ gives m → readOf r ≡ gives m → s ≡ r
 one-form s r m b c p q = wire-of-read s b m p .0 ∙ sym (wire-of-read r c m q .0)
 

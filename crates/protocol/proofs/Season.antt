@@ -16,6 +16,7 @@ use Rattle.protocol.specs.Run.{upCopy, upRequest, Drained, Limited}
 use Rattle.protocol.specs.Thresholds.{rulesOf, wallOf, AtMost, Tolerated, TakePart, downs}
 use Rattle.protocol.specs.Claims.{Agreed, Complete, Exact, Delivered, Published, Everywhere, Season, Claims}
 use Rattle.entry.proofs.Basics.{bcase, T-of, not-of, and-l, and-r, and-mk, none-some}
+use Rattle.protocol.proofs.Order.{receiving-ordered, publishing-ordered}
 use Rattle.protocol.proofs.Moves.{listOf}
 use Rattle.protocol.proofs.Calls.{alone}
 use Rattle.protocol.proofs.Mail.{tally-mono, tally-at, copies-split}
@@ -234,4 +235,6 @@ claims =
             exact = λ few low. S .exact (C few) (P few e low);
           };
       alone = alone;
+      receiving = receiving-ordered;
+      publishing = publishing-ordered;
     }

@@ -7,11 +7,12 @@ use mathlib.Core.List.{List, [], _∷_}
 use Prim.Native.Nat.{ℕ, _+_, _*_, _≤_, _<_}
 use lib.Dec.{T}
 use lib.ListN.{length}
-use Rattle.entry.specs.Entry.{Decl, heard, Filled}
+use Rattle.entry.specs.Entry.{Decl, heard, Filled, Kind}
 use Rattle.protocol.specs.Steps.{Rules, Out}
 use Rattle.protocol.specs.Book.{Book, Call, publishing, senderOf, numberOf, outcome, after}
 use Rattle.protocol.specs.Run.{n, Wall, Copy, State, Step, right, isUp, h, start, run, at, opens, onIt, copies, readies, between}
 use Rattle.protocol.specs.Run.{consumedBetween, isBetween, copiesOf, consume, help, Drained, Limited}
+use Rattle.protocol.specs.Order.{ReceivingOrder, PublishingOrder}
 use Rattle.protocol.specs.Thresholds.{wallOf, AtMost, Tolerated, TakePart, downs}
 
 -- An accepted publication or message changes the named entry alone. Two books that agree on one entry give the same answer, message
@@ -133,3 +134,6 @@ pub record Claims : Type 0 where
       (λ s. downs (wallOf n t f d numbers ok honest) s ≤ f) l
   -- and the rule between entries.
   pub alone : (R : Rules) (numbers own : ℕ) (a : Call) → Alone R numbers own a
+  -- Each answer is given exactly when the rules say.
+  pub receiving : (R : Rules) (numbers own p : ℕ) (k : Kind) (j c : ℕ) (v : Decl) (b : Book) → ReceivingOrder R numbers own p k j c v b
+  pub publishing : (R : Rules) (numbers own c : ℕ) (v : Decl) (b : Book) → own < R .n → PublishingOrder R numbers own c v b

@@ -2,6 +2,7 @@ pub mod Steps
 pub mod Book
 pub mod Run
 pub mod Thresholds
+pub mod Order
 pub mod Claims
 pub mod Example
 pub mod Split

@@ -25,6 +25,7 @@ use Rattle.protocol.specs.Thresholds.{rulesOf, wallOf}
 use Rattle.entry.proofs.Basics.{upd-all}
 use Rattle.protocol.proofs.Calls.{outcome-done}
 use Rattle.protocol.proofs.Views.{noted-none}
+use Rattle.calls.proofs.KindNumber.{kind-is}
 use Rattle.calls.specs.declared.Outcome.{Outcome}
 use Rattle.calls.specs.Entered.{result, giving, helping, okBy, rulesBy, kindNumber, letters}
 use Rattle.calls.specs.Call.{refusal, stepOf, called, requestAnswer, requested}
@@ -33,7 +34,7 @@ use Rattle.calls.specs.Kept.{Kept}
 use Rattle.calls.proofs.Keeps.{plausible-decl, called-stored, called-given, called-keeps, helped-meant, helped-keeps}
 use Rattle.season.specs.Run.{Houses, isHonest, Copy, Noted, Given, State, messageOf, deliveryOf, publicationOf, Named, nothing, entry}
 use Rattle.season.specs.Run.{noting, posted, sentAgain, againOn, again, sends, ended}
-use Rattle.season.proofs.Mail.{kind-known, kind-of-number, Says, Asks, Mails, mails-append, mails-each, mails-to-those, mails-posted}
+use Rattle.season.proofs.Mail.{Says, Asks, Mails, mails-append, mails-each, mails-to-those, mails-posted}
 
 message-of : (a : ℕ) (m : Option (List ℕ)) (d : Option Decl) → messageOf (giving a m d) ≡ m
 message-of a none d = refl
@@ -263,7 +264,7 @@ module _ (H : Houses) where
       sent-is k j c lj lc =
           let in-senders = lt-ltb j (nOf d) (omega (arith, D .n)) in
           let in-numbers = lt-ltb c (numbersOf d) (omega (arith, D .numbers)) in
-          rw (D .legal, kind-known k, kind-of-number k, in-senders, in-numbers)
+          rw (D .legal, kind-is k, in-senders, in-numbers)
           (ap (λ (x : ℕ). sending 0 (letters x j c (saidOf k (own k (look d j c))))) (D .season))
 
       slot-again : (k : Kind) (j c : ℕ) (x : Option Decl) → IsSlot x

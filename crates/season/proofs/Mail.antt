@@ -1,7 +1,7 @@
 -- Copies and requests at the bytes beside the protocol's: each says what the other says, so both are posted, found, consumed and counted
 -- alike.
 use Prim.Native.Nat.{ℕ, zero, suc, _<_}
-use mathlib.Core.Path.{_≡_, refl, ap, ap₂}
+use mathlib.Core.Path.{_≡_, refl, ap, _∙_}
 use mathlib.Core.Bool.{Bool, true, false, cond}
 use mathlib.Core.List.{List, [], _∷_, _++_}
 use mathlib.Core.Option.{Option, none, some}
@@ -19,20 +19,10 @@ use Rattle.protocol.specs.Steps.{Say, say}
 use Rattle.protocol.specs.Book.{receiving}
 use Rattle.protocol.specs.Run.{at, changeAt, each, tally}
 use Rattle.protocol.specs.Run as protocol
-use Rattle.calls.specs.Entered.{kindNumber, kindOf, fiveOf, letter, letters}
-use Rattle.calls.specs.Call.{asked}
+use Rattle.calls.specs.Call.{askedAs, asked}
+use Rattle.calls.proofs.KindNumber.{kind-is, is-known}
+use Rattle.calls.specs.Entered.{kindNumber, fiveOf, letter, letters}
 use Rattle.season.specs.Run.{Copy, copyTo, toThose, toAll, posted, consumedCopy, onIt, isReady}
-
-pub kind-known : (k : Kind) → message.isKind (kindNumber k) ≡ true
-unfolding message.isKind
-kind-known SEND = refl
-kind-known ECHO = refl
-kind-known READY = refl
-
-pub kind-of-number : (k : Kind) → kindOf (kindNumber k) ≡ k
-kind-of-number SEND = refl
-kind-of-number ECHO = refl
-kind-of-number READY = refl
 
 ready-number : (k : Kind) → eqb (kindNumber k) 3 ≡ isKind READY k
 ready-number SEND = refl
@@ -46,12 +36,13 @@ fiveFor season j c k v = fiveOf (kindNumber k) season j c (declarationAt v 0)
 -- a message that a call gave reads as what the step said
 read-letter : (season j c : ℕ) (k : Kind) (v : Decl) → readOf (letter season j c (say k v)) .five ≡ some (fiveFor season j c k v)
 unfolding letter
-read-letter season j c k v = ap (λ (x : Told). x .five) (read-of-wire (fiveFor season j c k v) (kind-known k))
+read-letter season j c k v = ap (λ (x : Told). x .five) (read-of-wire (fiveFor season j c k v) (is-known k))
 
 -- and asks for the call that says it
-pub asked-is : (p season j c : ℕ) (k : Kind) (v : Decl) → IsDecl v → asked p (fiveFor season j c k v) ≡ receiving p k j c v
+pub asked-is : (p season j c : ℕ) (k : Kind) (v : Decl) → IsDecl v → asked p (fiveFor season j c k v) ≡ some (receiving p k j c v)
 asked-is p season j c k v d =
-    ap₂ (λ (k : Kind) (v : Decl). receiving p k j c v) (kind-of-number k) (bytes-of-numbers v (d .long) (d .bytes))
+    ap (askedAs p (fiveFor season j c k v)) (kind-is k)
+    ∙ ap (λ (v : Decl). some (receiving p k j c v)) (bytes-of-numbers v (d .long) (d .bytes))
 
 -- ---- two lists side by side
 

@@ -23,24 +23,24 @@ use Rattle.protocol.proofs.Mail.{find}
 use Rattle.protocol.proofs.Again.{way}
 use Rattle.protocol.proofs.Invariant.{Inv, true-copy}
 use Rattle.protocol.proofs.Views.{view}
+use Rattle.calls.specs.Again.{sentAs, sending, saidOf, sentOf}
 use Rattle.calls.specs.Entered.{isThere, kindNumber, kindOf, letter, letters}
 use Rattle.calls.specs.declared.Sent.{Sent}
-use Rattle.calls.specs.Again.{sending, saidOf, sentOf}
-use Rattle.calls.proofs.KindNumber.{kind-number}
+use Rattle.calls.proofs.KindNumber.{number-of-kind}
 use Rattle.season.specs.Run.{Houses, isHonest, Copy, State}
 use Rattle.season.specs.Claims.{OfSeason, Outgoing, SentTo}
 use Rattle.season.proofs.Mail.{Says, Both, mails-at}
 use Rattle.season.proofs.Calls.{wall, Means, sent-is}
 
--- another kind gives nothing
-known-kind : (b : List ℕ) (kind j c : ℕ) → sentOf b kind j c .gives ≡ true → message.isKind kind ≡ true
+-- what is given is of a kind
+known : (b : List ℕ) (kind j c : ℕ) → sentOf b kind j c .gives ≡ true → (k : Kind) × (kindOf kind ≡ some k)
 unfolding sentOf
-known-kind b kind j c e = go (legal b) (message.isKind kind) _ e
+known b kind j c e = go (legal b) (kindOf kind) e
   where
-    go : (t k : Bool) (x : Sent) → cond t (cond k x (sending 2 none)) (sending 1 none) .gives ≡ true → k ≡ true
-    go true true x q = refl
-    go true false x q = absurd (true≢false (sym q))
-    go false k x q = absurd (true≢false (sym q))
+    go : (t : Bool) (o : Option Kind) → cond t (sentAs b o j c) (sending 1 none) .gives ≡ true → (k : Kind) × (o ≡ some k)
+    go true none q = absurd (true≢false (sym q))
+    go true (some k) q = (k, refl)
+    go false o q = absurd (true≢false (sym q))
 
 same-some : (v w : Decl) → some v ≡ some w → v ≡ w
 same-some v w e = cc
@@ -166,9 +166,9 @@ module _ (H : Houses) (s : State) (z : protocol.State) (M : Means H s z)
         → SentTo s r q (sentOf (s .gave .books r) kind j c .message)
     sent r kind t e q lq =
         let b = s .gave .books r in
-        let k : Kind = kindOf kind in
-        let number : kindNumber k ≡ kind = kind-number kind (known-kind b kind j c e) in
-        let is = ap (λ (x : ℕ). sentOf b x j c) (sym number)
+        let found = known b kind j c e in
+        let k : Kind = found .0 in
+        let is = ap (λ (x : ℕ). sentOf b x j c) (number-of-kind kind k (found .1))
         ∙ sent-is H r s z M t b (M .gave .books r t) (λ q. true) k j c lj lc in
         let y = said (H .season) j c k (own k (look b j c)) (sym (ap (λ (o : Sent). o .gives) is) ∙ e) in
         let message = ap (λ (o : Sent). o .message) is

@@ -34,6 +34,7 @@ use Rattle.protocol.proofs.Invariant.{Inv}
 use Rattle.protocol.proofs.Views.{view}
 use Rattle.protocol.proofs.Runs.{holds-from-start}
 use Rattle.protocol.proofs.Season as protocol-season
+use Rattle.calls.proofs.KindNumber.{kind-is}
 use Rattle.calls.specs.Entered.{Result, isDecl, okBy}
 use Rattle.calls.specs.Call.{published, received}
 use Rattle.calls.specs.Again.{returned}
@@ -43,7 +44,7 @@ use Rattle.season.specs.Run.{copies, readies, isBetween, between, consum
 use Rattle.season.specs.Run as season
 use Rattle.season.specs.Claims.{Stands, Delivered, Published, Safe, Bounded, Agreed, Complete, Single, Exact, Few, Season}
 use Rattle.season.specs.Claims.{consumption, Drainable, Deliverable, Claims}
-use Rattle.season.proofs.Mail.{kind-of-number, Says, says-on-it, says-ready, Asks, Both, mails-at, mails-tally}
+use Rattle.season.proofs.Mail.{Says, says-on-it, says-ready, Asks, Both, mails-at, mails-tally}
 use Rattle.season.proofs.Calls.{wall, Means, answer-is, asked-answer}
 use Rattle.season.proofs.Outbox.{reads, outbox, sent}
 use Rattle.season.proofs.Steps as steps-proofs
@@ -103,9 +104,12 @@ module _ (H : Houses) (s : State) (z : protocol.State) (M : Means H s z) where
       → Stands (s .gave .books (m .to)) (m .from) (readOf (m .message) .five)
   copy-stands m x S t e =
       let book = sym (M .gave .entries (m .to) t) ∙ ap (z .gave .books) (S .to) in
-      rw (S .read)
-      ((λ i. heard (kind-of-number (x .kind) i) (S .from i) (book i (x .sender) (x .number))) ∙ e
-      ∙ ap some (sym (bytes-of-numbers (x .decl) (S .decl .long) (S .decl .bytes))))
+      rw (S .read) (
+        x .kind,
+        kind-is (x .kind),
+        (λ i. heard (x .kind) (S .from i) (book i (x .sender) (x .number))) ∙ e
+            ∙ ap some (sym (bytes-of-numbers (x .decl) (S .decl .long) (S .decl .bytes))),
+      )
 
   module _ (j c : ℕ) where
     counted : (P : Copy → Bool) (Q : protocol.Copy → Bool) → ((m : Copy) (x : protocol.Copy) → Says (H .season) m x → P m ≡ Q x)

@@ -16,15 +16,15 @@ use Rattle.meaning.specs.Legal.{legal}
 use Rattle.meaning.specs.Opening.{freshBook}
 use Rattle.sheet.specs.Kept.{sheetAt}
 use Rattle.meaning.proofs.Opening.{opened-legal, opened-bytes, opened-meant}
-use Rattle.entry.specs.Entry.{Decl, fresh, upd}
+use Rattle.entry.specs.Entry.{Decl, fresh, upd, Kind}
 use Rattle.protocol.specs.Book.{Call, publishing, receiving, senderOf, numberOf, publication}
 use Rattle.protocol.specs.Run.{at}
 use Rattle.protocol.specs.Run as protocol
 use Rattle.protocol.specs.Claims as protocol-claims
 use Rattle.protocol.specs.Thresholds.{wallOf, rulesOf}
 use Rattle.entry.proofs.Basics.{T-of, and-l}
+use Rattle.calls.specs.Call.{answering, called, published, asked, heardFrom, heardAny, received}
 use Rattle.calls.specs.Entered.{kindOf}
-use Rattle.calls.specs.Call.{called, published, asked, heardFrom, heardAny, received}
 use Rattle.calls.specs.Again.{returned}
 use Rattle.season.specs.Run.{Houses, isHonest, isWrong, isUp, Open, opens, Copy, State, start, namedBy, nothing, entry, sends, ended}
 use Rattle.season.specs.Run.{publicationOf, Step, publish, consume, wrong, crash, comeback, help, publishes, receives, consumedCopy}
@@ -44,6 +44,10 @@ module _ (H : Houses) where
 
   -- ---- receiving
 
+  -- the call that a message of the kind asks for
+  abbrev says : (house : ℕ) → Kind → Five → Call
+  says p k m = receiving p k (m .sender) (m .number) (bytesOf (m .declaration))
+
   pub heard : (r p : ℕ) (b message : List ℕ) → IsOf H r b → received b p message ≡ heardAny b p (requestOf message) (readOf message .five)
   unfolding received
   heard r p b message K = rw (K .legal)
@@ -54,7 +58,7 @@ module _ (H : Houses) where
   copy-called r p b K m x S =
       heard r p b (m .message) K
       ∙ rw (message-unasked (m .message) _ (S .read), S .read, eq-eqb (H .season) (seasonOf b) (sym (K .season)))
-      (ap (called b) (asked-is p (H .season) (x .sender) (x .number) (x .kind) (x .decl) (S .decl)))
+      (ap (answering b) (asked-is p (H .season) (x .sender) (x .number) (x .kind) (x .decl) (S .decl)))
 
   module _ (r : ℕ) (s : State) (z : protocol.State) (M : Means H s z) (honest : T (isHonest H r)) where
     abbrev b : List ℕ
@@ -95,7 +99,7 @@ module _ (H : Houses) where
     -- any bytes: no step of the protocol, the call that they ask for, or a request
     wrong-means : (p : ℕ) (message : List ℕ)
         → Means H (receives H r p message s (s .mail)) z
-        ⊎ (((m : Five) × Means H (receives H r p message s (s .mail)) (protocol.called (wall H) r (asked p m) z (z .mail)))
+        ⊎ (((k : Kind) × (m : Five) × Means H (receives H r p message s (s .mail)) (protocol.called (wall H) r (says p k m) z (z .mail)))
         ⊎ Means H (receives H r p message s (s .mail)) (protocol.helps (wall H) r p z))
     unfolding receives
     wrong-means p message = any (requestOf message) refl
@@ -106,14 +110,18 @@ module _ (H : Houses) where
         Ends : Type 0
         Ends =
             Means H after z
-            ⊎ (((m : Five) × Means H after (protocol.called (wall H) r (asked p m) z (z .mail)))
+            ⊎ (((k : Kind) × (m : Five) × Means H after (protocol.called (wall H) r (says p k m) z (z .mail)))
             ⊎ Means H after (protocol.helps (wall H) r p z))
 
         left : (x : Option Five) → State
         left x = ended r (namedBy x) (heardFrom b p x) none s (s .mail ++ sends H r p (heardFrom b p x))
 
+        asking : (m : Five) (o : Option Kind) → kindOf (m .kind) ≡ o → eqb (m .season) (seasonOf b) ≡ true → after ≡ left (some m) → Ends
+        asking m none f e q = inl (rw (q, e, f) (refusal-means H r s z M honest (entry (m .sender) (m .number)) 2))
+        asking m (some k) f e q = inr (inl (k, m, rw (q, e, f) (called-means p (says p k m) refl (s .mail) (z .mail) (M .mail))))
+
         in-season : (m : Five) (t : Bool) → eqb (m .season) (seasonOf b) ≡ t → after ≡ left (some m) → Ends
-        in-season m true e q = inr (inl (m, rw (q, e) (called-means p (asked p m) refl (s .mail) (z .mail) (M .mail))))
+        in-season m true e q = asking m (kindOf (m .kind)) refl e q
         in-season m false e q = inl (rw (q, e) (refusal-means H r s z M honest (entry (m .sender) (m .number)) 3))
 
         five : (x : Option Five) → after ≡ left x → Ends
@@ -269,10 +277,10 @@ module _ (H : Houses) where
         go true e =
             ⊎-elim inl
             (λ w. inr (⊎-elim
-            (λ x. let m = x .0 in
-            let call : Call = asked p m in (
-              protocol.wrong p r (kindOf (m .kind)) (m .sender) (m .number) (bytesOf (m .declaration)),
-              subst (λ (t : Bool). Means H after (cond t (protocol.called (wall H) r call z (z .mail)) z)) (sym (test ∙ e)) (x .1),
+            (λ x. let m = x .1 in (
+              protocol.wrong p r (x .0) (m .sender) (m .number) (bytesOf (m .declaration)),
+              subst (λ (t : Bool). Means H after (cond t (protocol.called (wall H) r (says p (x .0) m) z (z .mail)) z)) (sym (test ∙ e))
+                  (x .2),
             ))
             (λ x. (
               protocol.plead p r,

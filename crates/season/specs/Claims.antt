@@ -12,7 +12,7 @@ use Rattle.card.specs.Count.{count}
 use Rattle.lot.specs.Declaration.{bytesOf}
 use Rattle.sheet.specs.Kept.{judged}
 use Rattle.message.specs.Message.{Five, readOf}
-use Rattle.entry.specs.Entry.{heard}
+use Rattle.entry.specs.Entry.{heard, Kind}
 use Rattle.protocol.specs.Run.{at}
 use Rattle.meaning.specs.Book.{look}
 use Rattle.meaning.specs.Legal.{IsDecl}
@@ -29,7 +29,8 @@ Few H = count (isWrong H) (H .n) ≤ fitting (H .n) (H .down)
 -- what the message says stands in the book, from house p, kind and entry
 abbrev pub Stands : List ℕ → (house : ℕ) → Option Five → Type 0
 Stands b p none = ⊥
-Stands b p (some m) = heard (kindOf (m .kind)) p (look b (m .sender) (m .number)) ≡ some (bytesOf (m .declaration))
+Stands b p (some m) =
+    (k : Kind) × (kindOf (m .kind) ≡ some k) × (heard k p (look b (m .sender) (m .number)) ≡ some (bytesOf (m .declaration)))
 
 -- the message is what the book gives of its kind and entry
 abbrev pub Outgoing : List ℕ → Option Five → (message : List ℕ) → Type 0

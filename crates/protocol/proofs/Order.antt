@@ -1,13 +1,17 @@
--- The protocol's outcome of a call, answer by answer, from the tests in the order in which the code makes them.
+-- A call's outcome, answer by answer, from the tests in the call's order.
+use mathlib.Core.Logic.{_⊎_, inl, inr}
+use native.Mathlib.Decide.{decLt}
+use native.Mathlib.Omega.{arith}
+use mathlib.Core.Path.{ap, _≡_, refl}
+use Rattle.protocol.specs.Order.{ReceivingOrder, PublishingOrder}
 use Prim.Native.Nat.{ℕ, zero, suc, _<_, _≤_}
-use mathlib.Core.Path.{_≡_, refl}
 use mathlib.Core.Bool.{true, false}
 use mathlib.Core.Option.{none, some}
 use borrow.Author.Tests.{lt-ltb, le-ltb}
 use Rattle.entry.specs.Entry.{Decl, Kind, SEND, ECHO, READY, Entry, heard}
 use Rattle.protocol.specs.Steps.{Rules, Out, refused, settle, takesSend, takesEcho, takesReady, takes, publishes, may, recording}
 use Rattle.protocol.specs.Steps.{receiveAnswer, receive, publish}
 use Rattle.protocol.specs.Book.{Book, publishing, receiving, outcome}
 
 module _ (R : Rules) (S own p : ℕ) (k : Kind) (j c : ℕ) (v : Decl) (E : Book) where
   pub no-sender : R .n ≤ j → outcome R S own (receiving p k j c v) E ≡ refused 4 (E j c)
@@ -84,3 +88,37 @@ module _ (R : Rules) (S own p : ℕ) (k : Kind) (j c : ℕ) (v : Decl) (E : Book
   pub accepted-is : receiveAnswer R j p k v (E j c) ≡ 0 → outcome R S own (receiving p k j c v) E ≡ takes R k p v (E j c)
   unfolding outcome receive
   accepted-is z = rw (lt-ltb _ _ in-sender, lt-ltb _ _ in-number, z)
+
+-- ---- in the call's order
+
+pub receiving-ordered : (R : Rules) (S own p : ℕ) (k : Kind) (j c : ℕ) (v : Decl) (E : Book) → ReceivingOrder R S own p k j c v E
+receiving-ordered R S own p k j c v E =
+    record {
+      missing = missing;
+      not-plausible = λ l m n f. ap answer (not-plausible R S own p k j c v E l m n f);
+      not-sender = λ l m n t f. ap answer (not-sender R S own p k j c v E l m n t f);
+      already = λ l m n t f w e. ap answer (already R S own p k j c v E l m n t f w e);
+      accepted = λ l m n t f e. accepted R S own p k j c v E l m n t f e;
+    }
+  where
+    answer : Out → ℕ
+    answer o = o .answer
+
+    go : Dec (j < R .n) → Dec (c < S) → (R .n ≤ j) ⊎ ((S ≤ c) ⊎ (R .n ≤ p)) → outcome R S own (receiving p k j c v) E .answer ≡ 4
+    go (no l) d x = ap answer (no-sender R S own p k j c v E (omega arith))
+    go (yes l) (no i) x = ap answer (no-number R S own p k j c v E l (omega arith))
+    go (yes l) (yes i) (inl x) = absurd (omega arith)
+    go (yes l) (yes i) (inr (inl x)) = absurd (omega arith)
+    go (yes l) (yes i) (inr (inr x)) = ap answer (no-house R S own p k j c v E l i x)
+
+    missing : (R .n ≤ j) ⊎ ((S ≤ c) ⊎ (R .n ≤ p)) → outcome R S own (receiving p k j c v) E .answer ≡ 4
+    missing = go (decLt j (R .n)) (decLt c S)
+
+pub publishing-ordered : (R : Rules) (S own c : ℕ) (v : Decl) (E : Book) → own < R .n → PublishingOrder R S own c v E
+publishing-ordered R S own c v E l =
+    record {
+      missing = λ h. ap (λ (o : Out). o .answer) (no-own-number R S own c v E l h);
+      not-plausible = λ m f. ap (λ (o : Out). o .answer) (not-publishable R S own c v E l m f);
+      already = λ m t w e. ap (λ (o : Out). o .answer) (already-published R S own c v E l m t w e);
+      accepted = λ m t e. publishes-it R S own c v E l m t e;
+    }
