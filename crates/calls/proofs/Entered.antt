@@ -3,22 +3,28 @@ use Prim.Native.Nat.{ℕ}
 use mathlib.Core.Path.{_≡_, refl, sym, ap}
 use mathlib.Core.Bool.{Bool, true, false}
 use mathlib.Core.List.{List}
-use mathlib.Core.Option.{some}
-use Rattle.lot.specs.declared.Declaration.{Declaration}
-use Rattle.lot.specs.Declaration.{bytesOf}
-use Rattle.lot.proofs.Declared.{numbers-of-bytes}
-use Rattle.entry.specs.Entry.{Kind}
+use Rattle.entry.specs.Entry.{Kind, Decl}
 use Rattle.protocol.specs.Steps.{Out, say, given}
 use Rattle.meaning.specs.Book.{seasonOf, meant}
 use Rattle.meaning.proofs.Stores.{Stored}
 use Rattle.meaning.proofs.OneForm.{stored-bytes}
 use Rattle.calls.specs.Entered.{result, giving, kindNumber, wired, letter, letters, entered}
+use Rattle.meaning.specs.Legal.{IsDecl}
+use Rattle.message.specs.Message.{fields, wire}
+use Rattle.lot.specs.Declaration.{declarationAt}
+use Rattle.lot.proofs.Declared.{bytes-of-numbers}
 
-pub letter-wired : (season j c : ℕ) (g : Bool) (k : Kind) (d : Declaration)
-    → given g (wired (kindNumber k) season j c d) ≡ letters season j c (given g (say k (bytesOf d)))
+-- the 36 bytes with a declaration's own 20 are the writer's
+pub letter-bytes : (kind season j c : ℕ) (v : Decl) → IsDecl v → fields kind season j c v ≡ wired kind season j c (declarationAt v 0)
+unfolding wire
+letter-bytes kind season j c v d = ap (fields kind season j c) (sym (bytes-of-numbers v (d .long) (d .bytes)))
+
+-- a message given, or none, is what the step says
+pub letter-wired : (season j c : ℕ) (g : Bool) (k : Kind) (v : Decl)
+    → given g (wired (kindNumber k) season j c (declarationAt v 0)) ≡ letters season j c (given g (say k v))
 unfolding letter
-letter-wired season j c true k d = ap (λ (x : Declaration). some (wired (kindNumber k) season j c x)) (sym (numbers-of-bytes d))
-letter-wired season j c false k d = refl
+letter-wired season j c true k v = refl
+letter-wired season j c false k v = refl
 
 -- bytes that are stored, with what is given, are the step entered
 module _ (b : List ℕ) (j c : ℕ) where

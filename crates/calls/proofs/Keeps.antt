@@ -37,11 +37,11 @@ use Rattle.meaning.proofs.Every.{written-legal, written-bytes, written-meant}
 use Rattle.calls.specs.declared.Outcome.{Outcome}
 use Rattle.calls.specs.Entered.{giving, helping, okBy, isDecl, rulesBy, letters, withEntry, entered}
 use Rattle.calls.specs.Call.{refusal, stepOf, called, published, asked, heardFrom, heardAny, requestAnswer, requested, received}
+use Rattle.calls.specs.Call.{answering}
 use Rattle.calls.specs.Kept.{Kept}
 use Rattle.calls.specs.Calls.{Calling, publish, receive, search, comeback, sent, answered}
 use Rattle.calls.proofs.Requests.{request-from, request-low}
 use Rattle.calls.proofs.Fits.{is-decl, Fits, outcome-fits, outcome-in-book, outcome-refused}
-use Rattle.calls.specs.Call.{answering}
 
 -- what is plausible by a sheet is 20 bytes
 pub plausible-decl : (s : Sheet) (v : Decl) → T (okBy s v) → IsDecl v

@@ -2,8 +2,11 @@
 ghost use mathlib.Core.Path.{_≡_};
 ghost use Prim.Native.Nat.{_+_, _<_};
 ghost use lib.ListN.{length};
-ghost use Rattle.message.specs.Message.{isKind, fieldAt, tagged, wellFormed, readOf, told, writtenOf, isRequest, requestWire};
+ghost use Rattle.message.specs.Message.{isKind, fieldAt, tagged, wellFormed, readOf, told, writtenOf, isRequest, requestOf, requestWire};
+ghost use Rattle.message.specs.Message.{fields};
+ghost use Rattle.message.specs.Read.{readAnswer};
 use lot::Declaration;
+use message::ReadAnswer;
 use message::Reading;
 use message::Written;
 
@@ -92,58 +95,113 @@ pub fn read_message(s: &[u8]) -> Reading
     Reading::Malformed
 }
 
+// The 36 bytes of a message, the declaration as its bytes.
+pub fn lay_message(kind: u8, season: u32, sender: u8, number: u8, d: [u8; 20]) -> [u8; 36]
+    requires { ⌜ length d ≡ 20 ⌝ }
+    ensures { λ r. ⌜ r ≡ fields kind season sender number d ⌝ }
+{
+    let s = octets::quad_of(season);
+    [
+        1,
+        0,
+        1,
+        kind,
+        2,
+        0,
+        6,
+        s.a,
+        s.b,
+        s.c,
+        s.d,
+        sender,
+        number,
+        3,
+        0,
+        20,
+        d[0],
+        d[1],
+        d[2],
+        d[3],
+        d[4],
+        d[5],
+        d[6],
+        d[7],
+        d[8],
+        d[9],
+        d[10],
+        d[11],
+        d[12],
+        d[13],
+        d[14],
+        d[15],
+        d[16],
+        d[17],
+        d[18],
+        d[19],
+    ]
+}
+
 pub fn write_message(kind: u8, season: u32, sender: u8, number: u8, d: Declaration) -> Written
     ensures { λ r. ⌜ r ≡ writtenOf kind season sender number d ⌝ }
 {
     if is_kind(kind) {
-        let s = octets::quad_of(season);
-        let l = octets::quad_of(d.lot);
-        let c = octets::quad_of(d.colonies);
-        let k = octets::quad_of(d.kilograms);
-        let m = octets::quad_of(d.moisture);
-        let e = octets::quad_of(d.conductivity);
-        let message = [
-            1,
-            0,
-            1,
-            kind,
-            2,
-            0,
-            6,
-            s.a,
-            s.b,
-            s.c,
-            s.d,
-            sender,
-            number,
-            3,
-            0,
-            20,
-            l.a,
-            l.b,
-            l.c,
-            l.d,
-            c.a,
-            c.b,
-            c.c,
-            c.d,
-            k.a,
-            k.b,
-            k.c,
-            k.d,
-            m.a,
-            m.b,
-            m.c,
-            m.d,
-            e.a,
-            e.b,
-            e.c,
-            e.d,
-        ];
+        let message = lay_message(kind, season, sender, number, octets::bytes_of(d));
         return Written { answer: 0, message };
     }
     Written {
         answer: 2,
         message: [0; 36],
+    }
+}
+
+// What reading gives, as numbers and bytes: the one place where the reader's cases are taken apart.
+pub fn parts_of(s: &[u8]) -> ReadAnswer
+    ensures { λ r. ⌜ r ≡ readAnswer (requestOf (now (s .entry))) (readOf (now (s .entry))) ⌝ }
+{
+    if is_request(s) {
+        return ReadAnswer {
+            answer: 0,
+            kind: 9,
+            season: octets::word_at(s, 7),
+            sender: 0,
+            number: 0,
+            declaration: [0; 20],
+        };
+    }
+    let Reading::Message {
+        kind,
+        season,
+        sender,
+        number,
+        lot,
+        colonies,
+        kilograms,
+        moisture,
+        conductivity,
+    } = read_message(s)
+    else {
+        return ReadAnswer {
+            answer: 2,
+            kind: 0,
+            season: 0,
+            sender: 0,
+            number: 0,
+            declaration: [0; 20],
+        };
+    };
+    let declaration = octets::bytes_of(Declaration {
+        lot,
+        colonies,
+        kilograms,
+        moisture,
+        conductivity,
+    });
+    ReadAnswer {
+        answer: 0,
+        kind,
+        season,
+        sender,
+        number,
+        declaration,
     }
 }

@@ -181,7 +181,10 @@ fn check_publication(book: &[u8], number: u32, d: Declaration) -> u8
 {
     if (number as usize) < layout::numbers_of(book) {
         if gates::is_plausible(layout::sheet_of(book), d) {
-            if slots::is_full(book, layout::slot_place(layout::n_of(book), number as usize)) {
+            if slots::is_full(
+                book,
+                layout::slot_place(layout::n_of(book), number as usize),
+            ) {
                 return 8;
             }
             return 0;

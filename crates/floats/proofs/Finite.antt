@@ -36,4 +36,3 @@ finite-bits b =
       where
         below : (i : ℕ) → i < 0x8000_0000 → (i / 0x80_0000 ≡ 255 → ⊥) → i < 0x7f80_0000
         below i l n = omega arith
-

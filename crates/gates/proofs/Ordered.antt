@@ -10,4 +10,3 @@ use Rattle.floats.proofs.Order.{le-is}
 pub ordered : (low high : Float) → finite low ≡ true → finite high ≡ true → le low high ≡ gateLegal (Between low high)
 unfolding gateLegal
 ordered low high l h = rw (l, h) (le-is low high l h)
-

@@ -8,26 +8,14 @@ ghost use Rattle.calls.specs.Entered.{result};
 ghost use Rattle.calls.specs.Call.{published, received};
 ghost use Rattle.calls.specs.Search.{waiting};
 ghost use Rattle.calls.specs.Again.{returned, sentOf};
-ghost use Rattle.house.specs.Read.{readAnswer};
+ghost use Rattle.message.specs.Read.{readAnswer};
 use book::LengthAnswer;
 use calls::Outcome;
 use calls::Returned;
 use calls::Sent;
 use calls::Waiting;
-use lot::Declaration;
-use message::Reading;
+use message::ReadAnswer;
 use message::Written;
-
-// What reading gives: answer 0 and the five things, of a request kind 9 and the season alone, or answer 2 and zeros.
-#[repr(C)]
-pub struct ReadAnswer {
-    pub answer: u8,
-    pub kind: u8,
-    pub season: u32,
-    pub sender: u8,
-    pub number: u8,
-    pub declaration: [u8; 20],
-}
 
 // The length of a book, or answer 9.
 #[no_mangle]
@@ -123,50 +111,5 @@ pub extern "C" fn gm_write(
 pub extern "C" fn gm_read(message: &[u8]) -> ReadAnswer
     ensures { λ r. ⌜ r ≡ readAnswer (requestOf (now (message .entry))) (readOf (now (message .entry))) ⌝ }
 {
-    if codec::is_request(message) {
-        return ReadAnswer {
-            answer: 0,
-            kind: 9,
-            season: octets::word_at(message, 7),
-            sender: 0,
-            number: 0,
-            declaration: [0; 20],
-        };
-    }
-    let Reading::Message {
-        kind,
-        season,
-        sender,
-        number,
-        lot,
-        colonies,
-        kilograms,
-        moisture,
-        conductivity,
-    } = codec::read_message(message)
-    else {
-        return ReadAnswer {
-            answer: 2,
-            kind: 0,
-            season: 0,
-            sender: 0,
-            number: 0,
-            declaration: [0; 20],
-        };
-    };
-    let declaration = octets::bytes_of(Declaration {
-        lot,
-        colonies,
-        kilograms,
-        moisture,
-        conductivity,
-    });
-    ReadAnswer {
-        answer: 0,
-        kind,
-        season,
-        sender,
-        number,
-        declaration,
-    }
+    codec::parts_of(message)
 }

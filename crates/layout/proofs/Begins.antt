@@ -1,13 +1,14 @@
 -- An entry of a legal book begins where its first slot stands, and lies within the book.
-use Prim.Native.Nat.{ℕ, _-_, _<_}
+use lib.ListN.{length}
+use Prim.Native.Nat.{ℕ, _-_, _<_, _+_, _≤_, _*_}
 use mathlib.Core.Path.{_≡_, _∙_}
 use mathlib.Core.List.{List}
 use native.Mathlib.Omega.{arith}
-use Rattle.meaning.specs.Layout.{slotPlace, entrySlot}
+use Rattle.meaning.specs.Layout.{slotPlace, entrySlot, slotLength, perEntry, sendSlot, echoSlot, readySlot, readySentSlot, deliveredSlot}
 use Rattle.meaning.specs.Book.{nOf, numbersOf, placeIn}
 use Rattle.meaning.specs.Legal.{Has}
 use Rattle.meaning.proofs.Legality.{legal-facts}
-use Rattle.layout.specs.Places.{Begins}
+use Rattle.layout.specs.Places.{Begins, Within, placeFrom}
 use Rattle.meaning.proofs.Room.{header-room, entry-room}
 
 pub begins : (b : List ℕ) (j c n s k r : ℕ) → Has b j c → n ≡ nOf b → s ≡ numbersOf b → k ≡ entrySlot n s c j 0
@@ -25,3 +26,39 @@ begins b j c n s k r has en es ek er small =
       };
     }
 
+-- ---- the slots of an entry lie within the book
+
+pub slot-within : (b : List ℕ) (base i : ℕ) → Within b base → i < perEntry (nOf b) → placeFrom base i + slotLength ≤ length b
+slot-within b base i W l = omega (arith, W .room, l)
+
+pub echo-below : (n p : ℕ) → p < n → echoSlot p < perEntry n
+unfolding perEntry
+echo-below n p l = omega arith
+
+pub ready-below : (n p : ℕ) → p < n → readySlot n p < perEntry n
+unfolding perEntry
+ready-below n p l = omega arith
+
+pub ready-sent-below : (n : ℕ) → readySentSlot n < perEntry n
+unfolding perEntry
+ready-sent-below n = omega arith
+
+pub delivered-below : (n : ℕ) → deliveredSlot n < perEntry n
+unfolding perEntry
+delivered-below n = omega arith
+
+pub send-below : (n : ℕ) → sendSlot < perEntry n
+unfolding perEntry
+send-below n = omega arith
+
+-- a row of n slots from slot i on
+pub row-within : (b : List ℕ) (base i : ℕ) → Within b base → i + nOf b ≤ perEntry (nOf b) → placeFrom base i + slotLength * nOf b ≤ length b
+row-within b base i W l = omega (arith, W .room, l)
+
+pub echoes-below : (n : ℕ) → echoSlot 0 + n ≤ perEntry n
+unfolding perEntry
+echoes-below n = omega arith
+
+pub readies-below : (n : ℕ) → readySlot n 0 + n ≤ perEntry n
+unfolding perEntry
+readies-below n = omega arith

@@ -24,6 +24,10 @@ pub record Begins (b : List ℕ) (j c base : ℕ) : Type 0 where
   pub is : base ≡ placeIn b j c 0
   pub within : Within b base
 
--- slot i of the entry whose first slot begins at `base`
+-- where slot i of the entry that begins at `base` stands
+abbrev pub placeFrom : (base i : ℕ) → ℕ
+placeFrom base i = base + slotLength * i
+
+-- what it holds
 abbrev pub slotFrom : List ℕ → (base i : ℕ) → Option Decl
-slotFrom b base i = slotAt b (base + slotLength * i)
+slotFrom b base i = slotAt b (placeFrom base i)

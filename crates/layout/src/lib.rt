@@ -4,9 +4,10 @@ ghost use Prim.Native.Nat.{_+_, _*_, _<_, _≤_};
 ghost use lib.ListN.{length, getD};
 ghost use Rattle.sheet.specs.Kept.{sheetAt};
 ghost use Rattle.meaning.specs.Layout.{helpedPlace, headLength, perEntry, slotCount, lengthOf, slotPlace, entrySlot};
+ghost use Rattle.meaning.specs.Layout.{echoSlot, readySlot, readySentSlot, deliveredSlot};
 ghost use Rattle.meaning.specs.Book.{nOf, numbersOf, ownOf, seasonOf, sheetPlace, downOf, limitOf, countHelp};
 ghost use Rattle.meaning.specs.Legal.{Has};
-ghost use Rattle.layout.specs.Places.{Begins};
+ghost use Rattle.layout.specs.Places.{Begins, placeFrom};
 use sheet::Sheet;
 
 // Where the sheet's 22 bytes stand, then f, d and the help given to each house.
@@ -17,6 +18,9 @@ const DOWN: usize = 29;
 const LIMIT: usize = 30;
 
 const HELPED: usize = 31;
+
+// The bytes of a slot.
+const SLOT: usize = 21;
 
 // Houses n.
 pub fn n_of(b: &[u8]) -> usize
@@ -135,7 +139,7 @@ pub fn slot_place(n: usize, k: usize) -> usize
     requires { ⌜ (n < 256) × (k < 134217728) ⌝ }
     ensures { λ r. ⌜ (r ≡ slotPlace n k) × (r < 4294967296) ⌝ }
 {
-    head_length(n) + 21 * k
+    head_length(n) + SLOT * k
 }
 
 // Slot i of the entry of number c and sender j, counted over the book.
@@ -162,4 +166,46 @@ pub fn entry_at(book: &[u8], sender: usize, number: usize) -> usize
     let n = n_of(book);
     let s = numbers_of(book);
     slot_place(n, entry_slot(n, s, number, sender, 0))
+}
+
+// ---- the slots of an entry that begins at `base`
+
+// Where slot i stands.
+fn slot_from(base: usize, i: usize) -> usize
+    requires { ⌜ (base < 4294967296) × (i < 1024) ⌝ }
+    ensures { λ r. ⌜ r ≡ placeFrom base i ⌝ }
+{
+    base + SLOT * i
+}
+
+// The ECHO of a house.
+pub fn echo_at(base: usize, house: usize) -> usize
+    requires { ⌜ (base < 4294967296) × (house < 256) ⌝ }
+    ensures { λ r. ⌜ r ≡ placeFrom base (echoSlot house) ⌝ }
+{
+    slot_from(base, 1 + house)
+}
+
+// The READY of a house.
+pub fn ready_at(base: usize, n: usize, house: usize) -> usize
+    requires { ⌜ (base < 4294967296) × (n < 256) × (house < 256) ⌝ }
+    ensures { λ r. ⌜ r ≡ placeFrom base (readySlot n house) ⌝ }
+{
+    slot_from(base, 1 + n + house)
+}
+
+// The READY that this house sent.
+pub fn ready_sent_at(base: usize, n: usize) -> usize
+    requires { ⌜ (base < 4294967296) × (n < 256) ⌝ }
+    ensures { λ r. ⌜ r ≡ placeFrom base (readySentSlot n) ⌝ }
+{
+    slot_from(base, 1 + 2 * n)
+}
+
+// What was delivered.
+pub fn delivered_at(base: usize, n: usize) -> usize
+    requires { ⌜ (base < 4294967296) × (n < 256) ⌝ }
+    ensures { λ r. ⌜ r ≡ placeFrom base (deliveredSlot n) ⌝ }
+{
+    slot_from(base, 2 + 2 * n)
 }

@@ -1,2 +1,4 @@
 pub mod Message
+pub mod Read
+pub mod Trips
 pub mod Claims

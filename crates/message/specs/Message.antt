@@ -29,10 +29,12 @@ abbrev pub field : ℕ → List ℕ → List ℕ
 field tag content = tag ∷ length content / 256 ∷ length content % 256 ∷ content
 
 -- tag 1: kind; tag 2: season (4 bytes), sender, number (1 byte each); tag 3: declaration
+abbrev pub fields : (kind season sender number : ℕ) → List ℕ → List ℕ
+fields kind season sender number d =
+    field 1 (kind ∷ []) ++ (field 2 (be32 season ++ (sender ∷ number ∷ [])) ++ field 3 d)
+
 unfoldable pub wire : Five → List ℕ
-wire m =
-    field 1 (m .kind ∷ [])
-    ++ (field 2 (be32 (m .season) ++ (m .sender ∷ m .number ∷ [])) ++ field 3 (bytesOf (m .declaration)))
+wire m = fields (m .kind) (m .season) (m .sender) (m .number) (bytesOf (m .declaration))
 
 -- at i stand a tag and a two-byte length
 abbrev pub fieldAt : List ℕ → ℕ → ℕ → ℕ → Bool

@@ -22,3 +22,14 @@ pub struct Written {
     pub answer: u8,
     pub message: [u8; 36],
 }
+
+// What reading gives: answer 0 and the five things, of a request kind 9 and the season alone, or answer 2 and zeros.
+#[repr(C)]
+pub struct ReadAnswer {
+    pub answer: u8,
+    pub kind: u8,
+    pub season: u32,
+    pub sender: u8,
+    pub number: u8,
+    pub declaration: [u8; 20],
+}

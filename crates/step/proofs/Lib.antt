@@ -1,5 +1,5 @@
-pub mod Marking
 pub mod Recorded
+pub mod Marking
 pub mod Taken
 pub mod Entered
 pub mod Publication

@@ -1,46 +1,44 @@
 -- The marks that the code finds are those that the vouchers now make.
 use Prim.Native.Nat.{ℕ, _+_, _*_}
 use mathlib.Core.Path.{_≡_, ap, _∙_}
-use mathlib.Core.Bool.{Bool, false, _&&_}
+use mathlib.Core.Bool.{Bool, _&&_}
 use mathlib.Core.List.{List}
-use native.Mathlib.Omega.{arith}
 use lib.Dec.{leb}
 use Rattle.card.specs.declared.Counts.{Counts}
 use Rattle.card.specs.Card.{countsOf}
 use Rattle.card.specs.Count.{count}
-use Rattle.entry.specs.Entry.{Decl, Kind, ECHO, READY, isNone, holds}
+use Rattle.entry.specs.Entry.{Decl, isNone, holds}
 use Rattle.meaning.specs.Slot.{slotAt}
+use Rattle.meaning.specs.Layout.{slotLength, echoSlot, readySlot, readySentSlot, deliveredSlot}
 use Rattle.meaning.specs.Book.{nOf, downOf}
-use Rattle.meaning.specs.Layout.{heardSlot}
-use Rattle.calls.proofs.KindNumber.{kind-echo, kind-ready}
-use Rattle.calls.specs.Entered.{kindOf}
-use Rattle.step.specs.Marks.{marksAt}
+use Rattle.layout.specs.Places.{placeFrom}
+use Rattle.step.specs.Marks.{echoMark, readyMarks}
 
--- what the code has found: n, the counts, the row's first slot, the vouchers in the row
-module _ (b : List ℕ) (kind base n f : ℕ) (d : Decl) (counts : Counts) (row votes : ℕ) (en : n ≡ nOf b) (ef : f ≡ downOf b)
-    (ec : counts ≡ countsOf n f) (er : row ≡ heardSlot n (kindOf kind) 0)
-    (ev : votes ≡ count (λ p. holds (slotAt b (base + 21 * row + 21 * p)) d) n) where
-  votes-found : (k : Kind) → kindOf kind ≡ k → votes ≡ count (λ p. holds (slotAt b (base + 21 * heardSlot n k 0 + 21 * p)) d) n
-  votes-found k e =
-      ev ∙ ap (λ (x : ℕ). count (λ p. holds (slotAt b (base + 21 * x + 21 * p)) d) n) (er ∙ ap (λ (x : Kind). heardSlot n x 0) e)
+-- what the code has found: n, f, the counts, where the row begins, and how many slots of it hold v
+module _ (b : List ℕ) (base : ℕ) (v : Decl) (n f : ℕ) (counts : Counts) (en : n ≡ nOf b) (ef : f ≡ downOf b) (ec : counts ≡ countsOf n f) where
+  counts-are : counts ≡ countsOf (nOf b) (downOf b)
+  counts-are = ec ∙ (λ i. countsOf (en i) (ef i))
 
-  pub echo-marks : (kind ≡ 1 → ⊥) → kind ≡ 2 → (r : Bool)
-      → r ≡ isNone (slotAt b (base + 21 * (1 + 2 * n))) && leb (counts .quorum) votes
-      → record { gives = r; delivers = false } ≡ marksAt b (kindOf kind) base d
-  unfolding marksAt
-  echo-marks g e r er′ =
-      let v = votes-found ECHO (kind-echo kind g e) in
-      let q = er′ ∙ (λ i. isNone (slotAt b (base + 21 * (1 + 2 * n))) && leb (ec i .quorum) (v i)) in
-      rw (kind-echo kind g e, ← en, ← ef) (λ i. record { gives = q i; delivers = false })
+  pub echo-found : (row : ℕ) → row ≡ placeFrom base (echoSlot 0) → (votes : ℕ)
+      → votes ≡ count (λ p. holds (slotAt b (row + slotLength * p)) v) n → (sent : ℕ) → sent ≡ placeFrom base (readySentSlot n)
+      → (r : Bool) → r ≡ isNone (slotAt b sent) && leb (counts .quorum) votes → r ≡ echoMark b base v
+  unfolding echoMark
+  echo-found row er votes ev sent es r e =
+      let at = es ∙ ap (λ (x : ℕ). placeFrom base (readySentSlot x)) en in
+      let w = ev ∙ (λ i. count (λ p. holds (slotAt b (er i + slotLength * p)) v) (en i)) in
+      e ∙ (λ i. isNone (slotAt b (at i)) && leb (counts-are i .quorum) (w i))
 
-  pub ready-marks : (kind ≡ 1 → ⊥) → (kind ≡ 2 → ⊥) → (r t : Bool)
-      → r ≡ isNone (slotAt b (base + 21 * (1 + 2 * n))) && leb (counts .amplify) votes
-      → t ≡ isNone (slotAt b (base + 21 * (1 + 2 * n) + 21)) && leb (counts .deliver) votes
-      → record { gives = r; delivers = t } ≡ marksAt b (kindOf kind) base d
-  unfolding marksAt
-  ready-marks g g₂ r t er′ et =
-      let v = votes-found READY (kind-ready kind g g₂) in
-      let z : base + 21 * (1 + 2 * n) + 21 ≡ base + 21 * (2 + 2 * n) = omega arith in
-      let q = er′ ∙ (λ i. isNone (slotAt b (base + 21 * (1 + 2 * n))) && leb (ec i .amplify) (v i)) in
-      let w = et ∙ (λ i. isNone (slotAt b (z i)) && leb (ec i .deliver) (v i)) in
-      rw (kind-ready kind g g₂, ← en, ← ef) (λ i. record { gives = q i; delivers = w i })
+  pub ready-found : (row : ℕ) → row ≡ placeFrom base (readySlot n 0) → (votes : ℕ)
+      → votes ≡ count (λ p. holds (slotAt b (row + slotLength * p)) v) n → (sent : ℕ) → sent ≡ placeFrom base (readySentSlot n)
+      → (done : ℕ) → done ≡ placeFrom base (deliveredSlot n)
+      → (r : Bool) → r ≡ isNone (slotAt b sent) && leb (counts .amplify) votes
+      → (t : Bool) → t ≡ isNone (slotAt b done) && leb (counts .deliver) votes → record { gives = r; delivers = t } ≡ readyMarks b base v
+  unfolding readyMarks
+  ready-found row er votes ev sent es done ed r e t u =
+      let at = es ∙ ap (λ (x : ℕ). placeFrom base (readySentSlot x)) en in
+      let end = ed ∙ ap (λ (x : ℕ). placeFrom base (deliveredSlot x)) en in
+      let first = er ∙ ap (λ (x : ℕ). placeFrom base (readySlot x 0)) en in
+      let w = ev ∙ (λ i. count (λ p. holds (slotAt b (first i + slotLength * p)) v) (en i)) in
+      let q = e ∙ (λ i. isNone (slotAt b (at i)) && leb (counts-are i .amplify) (w i)) in
+      let z = u ∙ (λ i. isNone (slotAt b (end i)) && leb (counts-are i .deliver) (w i)) in
+      λ i. record { gives = q i; delivers = z i }

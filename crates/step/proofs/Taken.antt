@@ -1,7 +1,7 @@
 -- An accepted message at the bytes: what the code stores, gives and delivers is the protocol's step on the entry.
 use Prim.Native.Nat.{ℕ, _+_, _*_, _<_}
 use mathlib.Core.Path.{_≡_, refl, sym, ap, _∙_}
-use mathlib.Core.Bool.{true, false, _&&_}
+use mathlib.Core.Bool.{Bool, true, false, _&&_}
 use mathlib.Core.List.{List}
 use native.Mathlib.Omega.{arith}
 use lib.Dec.{leb}
@@ -12,14 +12,14 @@ use Rattle.entry.specs.Entry.{Decl, Kind, ECHO, READY, isNone, holds, votes, re
 use Rattle.protocol.specs.Steps.{Rules, Out, say, given, reached, takesEcho, takesReady, takes}
 use Rattle.protocol.specs.Thresholds.{rulesOf}
 use Rattle.meaning.specs.Slot.{slotAt, putSlot}
-use Rattle.meaning.specs.Layout.{heardSlot, slotPlace, entrySlot, echoSlot, readySlot, readySentSlot, deliveredSlot}
+use Rattle.meaning.specs.Layout.{slotLength, heardSlot, slotPlace, entrySlot, echoSlot, readySlot, readySentSlot, deliveredSlot}
 use Rattle.meaning.specs.Book.{Care, downOf, careOf, nOf, numbersOf, look, meant, placeIn}
 use Rattle.meaning.specs.Legal.{legal, IsDecl, Has}
 use Rattle.meaning.proofs.Stores.{Stored, stored-entry, stored-heard}
 use Rattle.step.specs.declared.Marks.{Marks}
 use Rattle.calls.specs.Entered.{rulesBy}
 use Rattle.layout.specs.Places.{slotFrom}
-use Rattle.step.specs.Marks.{votesFrom, marksAt}
+use Rattle.step.specs.Marks.{votesFrom, echoMark, readyMarks}
 use Rattle.meaning.proofs.Seen.{from-base, sent-seen, delivered-seen, echoes-seen, readies-seen}
 
 -- ---- in a book that has the entry, slots from its first one on are the entry's
@@ -31,27 +31,21 @@ module _ (b : List ℕ) (j c : ℕ) (has : Has b j c) (base : ℕ) (at : base �
   delivered-from : slotFrom b base (deliveredSlot (nOf b)) ≡ look b j c .delivered
   delivered-from = ap (slotAt b) (from-base b j c has base at (deliveredSlot (nOf b))) ∙ sym (delivered-seen b j c has)
 
-  row-from : (i : ℕ) (v : Decl) → votesFrom b base i v ≡ count (λ p. holds (slotAt b (placeIn b j c i + 21 * p)) v) (nOf b)
-  row-from i v = ap (λ (x : ℕ). count (λ p. holds (slotAt b (x + 21 * p)) v) (nOf b)) (from-base b j c has base at i)
+  row-from : (i : ℕ) (v : Decl) → votesFrom b base i v ≡ count (λ p. holds (slotAt b (placeIn b j c i + slotLength * p)) v) (nOf b)
+  row-from i v = ap (λ (x : ℕ). count (λ p. holds (slotAt b (x + slotLength * p)) v) (nOf b)) (from-base b j c has base at i)
 
-  marks-echo : (v : Decl) → marksAt b ECHO base v
-      ≡ record {
-        gives = reached (countsOf (nOf b) (downOf b) .quorum) (look b j c .readySent) (look b j c .echo) v (nOf b);
-        delivers = false;
-      }
-  unfolding marksAt
-  marks-echo v = λ i.
-      record {
-        gives = isNone (sent-from i) && leb (countsOf (nOf b) (downOf b) .quorum) ((row-from (echoSlot 0) v ∙ echoes-seen b j c has v) i);
-        delivers = false;
-      }
+  mark-echo : (v : Decl) → echoMark b base v
+      ≡ reached (countsOf (nOf b) (downOf b) .quorum) (look b j c .readySent) (look b j c .echo) v (nOf b)
+  unfolding echoMark
+  mark-echo v = λ i.
+      isNone (sent-from i) && leb (countsOf (nOf b) (downOf b) .quorum) ((row-from (echoSlot 0) v ∙ echoes-seen b j c has v) i)
 
-  marks-ready : (v : Decl) → marksAt b READY base v
+  marks-ready : (v : Decl) → readyMarks b base v
       ≡ record {
         gives = reached (countsOf (nOf b) (downOf b) .amplify) (look b j c .readySent) (look b j c .ready) v (nOf b);
         delivers = reached (countsOf (nOf b) (downOf b) .deliver) (look b j c .delivered) (look b j c .ready) v (nOf b);
       }
-  unfolding marksAt
+  unfolding readyMarks
   marks-ready v =
       let votes = row-from (readySlot (nOf b) 0) v ∙ readies-seen b j c has v in
       λ i.
@@ -84,33 +78,35 @@ module _ (b : List ℕ) (h : legal b ≡ true) (bytes : Bytes b) (j c p : ℕ) (
   base-one k = sym (λ i. slotPlace (one k .n i) (entrySlot (one k .n i) (one k .numbers i) c j 0))
 
   -- the step of a voucher, by its marks
-  abbrev pub taking : Kind → Marks → Out
-  taking k m =
+  abbrev pub taking : Kind → (gives delivers : Bool) → Out
+  taking k g d =
       record {
         answer = 0;
-        entry = marked (m .gives) (m .delivers) v (recorded k p v (look b j c));
-        message = given (m .gives) (say READY v);
-        delivery = given (m .delivers) v;
+        entry = marked g d v (recorded k p v (look b j c));
+        message = given g (say READY v);
+        delivery = given d v;
       }
 
-  pub echo-taken : taking ECHO (marksAt (heard-in ECHO) ECHO (placeIn b j c 0) v) ≡ takes R ECHO p v (look b j c)
+  pub echo-taken : taking ECHO (echoMark (heard-in ECHO) (placeIn b j c 0) v) false ≡ takes R ECHO p v (look b j c)
   unfolding takesEcho rulesBy rulesOf countsOf meant careOf
   echo-taken =
       let e = stored-entry b j c (heard-in ECHO) (recorded ECHO p v (look b j c)) (one ECHO) in
       let n = one ECHO .n in
       let f = ap (λ (w : Care). w .down) (one ECHO .care) in
-      ap (taking ECHO)
-      (marks-echo (heard-in ECHO) j c (has-one ECHO) (placeIn b j c 0) (base-one ECHO) v
-      ∙ (λ i. record { gives = reached (countsOf (n i) (f i) .quorum) (e i .readySent) (e i .echo) v (n i); delivers = false }))
+      ap (λ (g : Bool). taking ECHO g false)
+      (mark-echo (heard-in ECHO) j c (has-one ECHO) (placeIn b j c 0) (base-one ECHO) v
+      ∙ (λ i. reached (countsOf (n i) (f i) .quorum) (e i .readySent) (e i .echo) v (n i)))
 
-  pub ready-taken : taking READY (marksAt (heard-in READY) READY (placeIn b j c 0) v) ≡ takes R READY p v (look b j c)
+  pub ready-taken : (m : Marks) → m ≡ readyMarks (heard-in READY) (placeIn b j c 0) v
+      → taking READY (m .gives) (m .delivers) ≡ takes R READY p v (look b j c)
   unfolding takesReady rulesBy rulesOf countsOf meant careOf
-  ready-taken =
+  ready-taken m em =
       let e = stored-entry b j c (heard-in READY) (recorded READY p v (look b j c)) (one READY) in
       let n = one READY .n in
       let f = ap (λ (w : Care). w .down) (one READY .care) in
-      ap (taking READY)
-      (marks-ready (heard-in READY) j c (has-one READY) (placeIn b j c 0) (base-one READY) v
+      ap (λ (m : Marks). taking READY (m .gives) (m .delivers))
+      (em
+      ∙ marks-ready (heard-in READY) j c (has-one READY) (placeIn b j c 0) (base-one READY) v
       ∙ (λ i.
       record {
         gives = reached (countsOf (n i) (f i) .amplify) (e i .readySent) (e i .ready) v (n i);

@@ -1,32 +1,40 @@
--- Whether the vouchers for a declaration now make a READY, and deliver, as the code counts them.
+-- What the code asks and finds on its way: a plausible declaration, and whether the vouchers for it now make a READY, and deliver.
 use Prim.Native.Nat.{ℕ, _+_, _*_}
-use mathlib.Core.Bool.{false, _&&_}
+use mathlib.Core.Path.{_≡_}
+use mathlib.Core.Bool.{Bool, true, _&&_}
 use mathlib.Core.List.{List}
 use lib.Dec.{leb}
 use Rattle.card.specs.Card.{countsOf}
 use Rattle.card.specs.Count.{count}
-use Rattle.entry.specs.Entry.{Decl, Kind, SEND, ECHO, READY, isNone, holds}
+use Rattle.sheet.specs.Kept.{sheetAt}
+use Rattle.entry.specs.Entry.{Decl, isNone, holds}
 use Rattle.meaning.specs.Slot.{slotAt}
-use Rattle.meaning.specs.Layout.{slotLength, readySentSlot, deliveredSlot, heardSlot}
-use Rattle.meaning.specs.Book.{nOf, downOf}
-use Rattle.layout.specs.Places.{slotFrom}
+use Rattle.meaning.specs.Layout.{slotLength, echoSlot, readySlot, readySentSlot, deliveredSlot}
+use Rattle.meaning.specs.Book.{nOf, downOf, sheetPlace}
+use Rattle.meaning.specs.Legal.{IsDecl}
+use Rattle.calls.specs.Entered.{okBy}
+use Rattle.layout.specs.Places.{placeFrom, slotFrom}
 use Rattle.step.specs.declared.Marks.{Marks}
+
+-- 20 bytes, plausible by the book's sheet
+pub record Plausible (b : List ℕ) (v : Decl) : Type 0 where
+  pub decl : IsDecl v
+  pub ok : okBy (sheetAt b sheetPlace) v ≡ true
 
 -- how many houses vouch for v in the row that begins with slot i
 abbrev pub votesFrom : List ℕ → (base i : ℕ) → Decl → ℕ
-votesFrom b base i v = count (λ p. holds (slotAt b (base + slotLength * i + slotLength * p)) v) (nOf b)
+votesFrom b base i v = count (λ p. holds (slotAt b (placeFrom base i + slotLength * p)) v) (nOf b)
 
--- whether vouchers for v now make a READY, and deliver: of ECHOes by the quorum, of READYs by amplify and deliver
-unfoldable pub marksAt : List ℕ → Kind → (base : ℕ) → Decl → Marks
-marksAt b SEND base v = record { gives = false; delivers = false }
-marksAt b ECHO base v =
-    record {
-      gives = isNone (slotFrom b base (readySentSlot (nOf b)))
-          && leb (countsOf (nOf b) (downOf b) .quorum) (votesFrom b base (heardSlot (nOf b) ECHO 0) v);
-      delivers = false;
-    }
-marksAt b READY base v =
-    let votes : ℕ = votesFrom b base (heardSlot (nOf b) READY 0) v in
+-- ECHOes of v now make a READY: by the quorum
+unfoldable pub echoMark : List ℕ → (base : ℕ) → Decl → Bool
+echoMark b base v =
+    isNone (slotFrom b base (readySentSlot (nOf b)))
+    && leb (countsOf (nOf b) (downOf b) .quorum) (votesFrom b base (echoSlot 0) v)
+
+-- READYs of v now make a READY, and deliver: by amplify and by deliver
+unfoldable pub readyMarks : List ℕ → (base : ℕ) → Decl → Marks
+readyMarks b base v =
+    let votes : ℕ = votesFrom b base (readySlot (nOf b) 0) v in
     record {
       gives = isNone (slotFrom b base (readySentSlot (nOf b))) && leb (countsOf (nOf b) (downOf b) .amplify) votes;
       delivers = isNone (slotFrom b base (deliveredSlot (nOf b))) && leb (countsOf (nOf b) (downOf b) .deliver) votes;

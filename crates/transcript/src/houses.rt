@@ -7,9 +7,9 @@ use crate::tell::say;
 use crate::tell::say_message;
 use crate::tell::say_outcome;
 use crate::tell::say_with;
+use calls::Outcome;
 use calls::Returned;
 use calls::Sent;
-use calls::Outcome;
 
 // The bytes of a place: a book of four houses.
 const PLACE: usize = 980;

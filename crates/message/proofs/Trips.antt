@@ -8,11 +8,11 @@ use lib.ListN.{length, replicate}
 use Rattle.words.specs.Words.{Bytes}
 use Rattle.lot.specs.Declaration.{declarationAt, bytesOf}
 use Rattle.lot.proofs.Declared.{numbers-of-bytes, bytes-of-numbers}
 use Rattle.message.specs.Message.{Five, Told, isKind, wire, wellFormed, fiveAt, gives, readOf, requestWire, isRequest, writtenOf}
 use Rattle.message.proofs.RoundTrip.{read-of-wire, wire-of-read}
 use Rattle.message.proofs.Request.{request-of-wire, wire-of-request, request-names, no-request, message-unasked}
-use Rattle.house.specs.declared.ReadAnswer.{ReadAnswer}
-use Rattle.house.specs.Claims.{writes, reads, writesBack, Trips}
+use Rattle.message.specs.declared.ReadAnswer.{ReadAnswer}
+use Rattle.message.specs.Trips.{writes, reads, writesBack, Trips}
 
 module _ (kind season sender number : ℕ) (d : List ℕ) (k : isKind kind ≡ true) (long : length d ≡ 20) (bytes : Bytes d) where
   abbrev m : Five

@@ -4,8 +4,8 @@ use Prim.Native.Nat.{ℕ}
 use mathlib.Core.Option.{Option, none, some}
 use lib.ListN.{replicate}
 use Rattle.lot.specs.Declaration.{bytesOf}
 use Rattle.message.specs.Message.{Five, Told}
-use Rattle.house.specs.declared.ReadAnswer.{ReadAnswer}
+use Rattle.message.specs.declared.ReadAnswer.{ReadAnswer}
 
 abbrev pub readBack : ℕ → Option Five → ReadAnswer
 readBack answer none =

@@ -1,5 +1,5 @@
--- `house::gm_read` meets its contract.
-use Rattle.house.specs.Read.{readAnswer}
+-- `codec::parts_of` meets its contract.
+use Rattle.message.specs.Read.{readAnswer}
 use Rattle.message.specs.Message.{Told, told}
 use Rattle.message.proofs.Request.{request-long, request-names, no-request}
 use mathlib.Core.Option.{none}
@@ -7,8 +7,8 @@ use mathlib.Core.Path.{sym, ap, _∙_}
 use lib.ListN.{replicate}
 use native.Mathlib.Omega.{arith}
 use borrow.Author.Needs.{needs}
-use Rattle.house.proofs.gm_read.Statement.{statement}
-use Rattle.house.proofs.gm_read.Tie as tie
+use Rattle.codec.proofs.parts_of.Statement.{statement}
+use Rattle.codec.proofs.parts_of.Tie as tie
 
 is-request-requires : tie.Need-is-request-requires
 is-request-requires c κs = search needs
@@ -64,8 +64,8 @@ returns-3 c =
     })
     ∙ ap (λ (t : Told). readAnswer none t) (sym (ap told (k .kind .given .1)) ∙ read .read-message .ensures))
 
-pub gm-read-spec : {M : Type 1} → statement M
-gm-read-spec =
+pub parts-of-spec : {M : Type 1} → statement M
+parts-of-spec =
     tie.close
     (tie.spec
     is-request-requires

@@ -1,14 +1,14 @@
--- `entry::accept` meets its contract.
-use Rattle.calls.specs.Entered.{isThere, wired}
-use Rattle.protocol.specs.Steps.{given}
+-- `reply::accept` meets its contract.
 use Prim.Native.Nat.{ℕ}
-use Rattle.lot.specs.Declaration.{bytesOf}
-use mathlib.Core.List.{List}
 use mathlib.Core.Path.{_≡_, refl}
 use mathlib.Core.Bool.{Bool, true, false}
+use mathlib.Core.List.{List}
+use Rattle.lot.specs.Declaration.{declarationAt}
+use Rattle.protocol.specs.Steps.{given}
+use Rattle.calls.specs.Entered.{isThere, wired}
 use borrow.Author.Needs.{needs}
-use Rattle.step.proofs.accept.Statement.{statement}
-use Rattle.step.proofs.accept.Tie as tie
+use Rattle.reply.proofs.accept.Statement.{statement}
+use Rattle.reply.proofs.accept.Tie as tie
 
 there : (b : Bool) (l : List ℕ) → b ≡ isThere (given b l)
 there true l = refl
@@ -26,9 +26,9 @@ returns c =
     λ i.
     record {
       answer = 0;
-      gives = there (a .gives) (wired (a .kind) (a .season) (a .sender) (a .number) (a .d)) i;
+      gives = there (a .gives) (wired (a .kind) (a .season) (a .sender) (a .number) (declarationAt (a .d) 0)) i;
       message = c .before .letter-of .ensures i;
-      delivers = there (a .delivers) (bytesOf (a .d)) i;
+      delivers = there (a .delivers) (a .d) i;
       declaration = c .lot-of .ensures i;
       helps = false;
     }

@@ -1,0 +1,59 @@
+-- `step::echo_mark` meets its contract.
+use Rattle.step.proofs.Marking.{echo-found}
+use Rattle.meaning.specs.Book.{nOf}
+use Rattle.card.specs.Card.{houses, downOk}
+use mathlib.Core.Path.{ap₂, ap, _∙_}
+use Rattle.layout.proofs.Begins.{slot-within, ready-sent-below, row-within, echoes-below}
+use denote.Ref.{now}
+use native.Mathlib.Omega.{arith}
+use borrow.Author.Needs.{needs}
+use Rattle.step.proofs.echo_mark.Statement.{statement}
+use Rattle.step.proofs.echo_mark.Tie as tie
+
+n-of-requires : tie.Need-n-of-requires
+n-of-requires c κs = search needs
+
+down-of-requires : tie.Need-down-of-requires
+down-of-requires c κs = search needs
+
+counts-of-requires : tie.Need-counts-of-requires
+counts-of-requires c κs = (
+  ap houses (c .before .n-of .ensures .0) ∙ c .before .before .before .pre .n,
+  ap₂ downOk (c .before .n-of .ensures .0) (c .down-of .ensures .0) ∙ c .before .before .before .pre .down,
+)
+
+echo-at-requires : tie.Need-echo-at-requires
+echo-at-requires c κs = search needs
+
+count-same-requires : tie.Need-count-same-requires
+count-same-requires c κs =
+    let n = c .before .before .before .n-of .ensures .0 in
+    omega (arith, row-within _ _ _ (c .before .before .before .before .before .pre) (echoes-below (nOf (now (c .before .before .before .before .before .args .book)))), c .echo-at .ensures, n)
+
+ready-sent-at-requires : tie.Need-ready-sent-at-requires
+ready-sent-at-requires c κs = search needs
+
+is-reached-requires : tie.Need-is-reached-requires
+is-reached-requires c κs =
+    let n = c .before .before .before .before .before .n-of .ensures .0 in
+    omega (arith, slot-within _ _ _ (c .before .before .before .before .before .before .before .pre) (ready-sent-below (nOf (now (c .before .before .before .before .before .before .before .args .book)))), c .ready-sent-at .ensures, n)
+
+returns : tie.Need-returns
+returns c =
+    let a = c .before .before .before .before .before .before .before .before .args in
+    echo-found (now (a .book)) (a .base) (a .d) _ _ _ (c .before .before .before .before .before .before .n-of .ensures .0) (c .before .before .before .before .before .down-of .ensures .0)
+    (c .before .before .before .before .counts-of .ensures) _ (c .before .before .before .echo-at .ensures) _ (c .before .before .count-same .ensures .0) _
+    (c .before .ready-sent-at .ensures) _ (c .is-reached .ensures)
+
+pub echo-mark-spec : {M : Type 1} → statement M
+echo-mark-spec =
+    tie.close
+    (tie.spec
+    n-of-requires
+    down-of-requires
+    counts-of-requires
+    echo-at-requires
+    count-same-requires
+    ready-sent-at-requires
+    is-reached-requires
+    returns)
