@@ -1,6 +1,6 @@
 -- Declarations that come in are 20 bytes, and plausible at the bytes exactly when their numbers are.
 use Prim.Native.Nat.{ℕ, zero, suc}
-use mathlib.Core.Path.{_≡_, refl, sym, ap, subst}
+use mathlib.Core.Path.{_≡_, refl, ap, subst, _∙_}
 use mathlib.Core.Bool.{Bool, true, false}
 use mathlib.Core.List.{List, [], _∷_}
 use native.Mathlib.Omega.{arith}
@@ -11,7 +11,7 @@ use Rattle.lot.specs.declared.Declaration.{Declaration}
 use Rattle.sheet.specs.declared.Sheet.{Sheet}
 use Rattle.lot.specs.Declaration.{declarationAt, bytesOf}
 use Rattle.sheet.specs.Sheet.{plausible}
-use Rattle.lot.proofs.Declared.{numbers-of-bytes, bytes-are-bytes}
+use Rattle.lot.proofs.Declared.{bytes-are-bytes}
 use Rattle.message.specs.Message.{Five, Told, wellFormed, fiveAt, gives, malformed, readOf}
 use Rattle.message.proofs.RoundTrip.{fiveOr}
 use Rattle.entry.specs.Entry.{Decl}
@@ -26,10 +26,11 @@ pub decl-true : (v : Decl) → IsDecl v → isDecl v ≡ true
 unfolding isDecl
 decl-true v d = rw (eq-eqb _ _ (d .long)) (all-bytes v (d .bytes))
 
--- at the bytes that the numbers have
-pub plausible-ok : (s : Sheet) (d : Declaration) → IsDecl (bytesOf d) → plausible s d ≡ okBy s (bytesOf d)
+-- a declaration's numbers are plausible exactly when its bytes are
+pub plausible-ok : (s z : Sheet) (v : Decl) (d : Declaration) (t : Bool) → IsDecl v → s ≡ z → d ≡ declarationAt v 0 → t ≡ plausible s d
+    → t ≡ okBy z v
 unfolding okBy
-plausible-ok s d v = rw (decl-true (bytesOf d) v) (ap (plausible s) (sym (numbers-of-bytes d)))
+plausible-ok s z v d t i es ed et = rw (decl-true v i) (et ∙ (λ i. plausible (es i) (ed i)))
 
 -- the numbers read from bytes have 20 bytes
 pub read-decl : (s : List ℕ) (i : ℕ) → Bytes s → IsDecl (bytesOf (declarationAt s i))

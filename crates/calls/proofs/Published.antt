@@ -1,6 +1,6 @@
 -- Publishing, answer by answer, from what the code found.
 use Prim.Native.Nat.{ℕ, _<_, _≤_}
-use mathlib.Core.Path.{_≡_, refl, sym, ap, _∙_}
+use mathlib.Core.Path.{_≡_, refl, sym, ap, _∙_, subst}
 use mathlib.Core.Bool.{Bool, true, false}
 use mathlib.Core.List.{List}
 use mathlib.Core.Option.{none, some}
@@ -13,7 +13,7 @@ use Rattle.protocol.specs.Thresholds.{rulesOf}
 use Rattle.meaning.specs.Slot.{slotAt}
 use Rattle.meaning.specs.Layout.{slotPlace}
 use Rattle.meaning.specs.Book.{nOf, numbersOf, ownOf, look, meant, sheetPlace}
-use Rattle.meaning.specs.Legal.{legal}
+use Rattle.meaning.specs.Legal.{legal, IsDecl}
 use Rattle.calls.specs.declared.Outcome.{Outcome}
 use Rattle.calls.specs.Entered.{Result, result, giving, okBy, rulesBy, entered, publishedAt}
 use Rattle.calls.specs.Call.{stepOf, called, published}
@@ -23,6 +23,10 @@ use Rattle.calls.proofs.Checking.{called-accepted, called-refused}
 use Rattle.entry.proofs.Fullness.{full-holds, empty-holds}
 use Rattle.meaning.proofs.Room.{own-below}
 use Rattle.meaning.proofs.Seen.{published-seen}
+use lib.ListN.{length}
+use Rattle.words.specs.Words.{Bytes}
+use Rattle.lot.specs.Declaration.{declarationAt, bytesOf}
+use Rattle.lot.proofs.Declared.{bytes-of-numbers}
 
 module _ (b : List ℕ) (h : legal b ≡ true) (c : ℕ) (v : Decl) where
   abbrev a : Call
@@ -83,3 +87,14 @@ module _ (b : List ℕ) (c : ℕ) (v : List ℕ) where
   pub published-legal : legal b ≡ true → (x : Result) → x ≡ called b (publishing c v) → x ≡ published b c v
   unfolding published
   published-legal h x q = rw h q
+
+  -- 20 bytes by their numbers are these bytes
+  module _ (d : List ℕ) (l : length v ≡ 20) (bytes : Bytes v) (e : d ≡ bytesOf (declarationAt v 0)) where
+    same-decl : d ≡ v
+    same-decl = e ∙ bytes-of-numbers v l bytes
+
+    pub decl-bytes : IsDecl d
+    decl-bytes = subst IsDecl (sym same-decl) (record { long = l; bytes = bytes })
+
+    pub published-bytes : legal b ≡ true → (x : Result) → x ≡ called b (publishing c d) → x ≡ published b c v
+    published-bytes h x q = published-legal h x (q ∙ ap (λ (y : Decl). called b (publishing c y)) same-decl)

@@ -1,6 +1,6 @@
 -- A request for help, answer by answer, from what the code found.
 use Prim.Native.Nat.{ℕ, _<_, _≤_}
-use mathlib.Core.Path.{_≡_, sym, ap, _∙_}
+use mathlib.Core.Path.{_≡_, sym, ap, _∙_, refl}
 use mathlib.Core.Bool.{true}
 use mathlib.Core.List.{List}
 use mathlib.Core.Option.{none}
@@ -62,18 +62,30 @@ module _ (b : List ℕ) (p season : ℕ) where
         go (yes l) = l
         go (no f) = absurd (omega (arith, helped-enough request-season request-from (omega arith), z))
 
-    pub request-byte : legal b ≡ true → getD b (helpedPlace p) 0 < 255
-    unfolding mostLimit
-    request-byte h = omega (arith, request-low, legal-facts b h .limit)
-
-  pub request-helped : (n : ℕ) → n ≡ requestAnswer b p season → n ≡ 0 → (r : Outcome) → r ≡ helping → (d : List ℕ) → d ≡ countHelp b p
-      → result r d ≡ requested b p season
+-- a request of the book's season, test by test as the code makes them
+module _ (b : List ℕ) (p : ℕ) where
+  refused : (n : ℕ) → n ≡ requestAnswer b p (seasonOf b) → (n ≡ 0 → ⊥) → (r : Outcome) → r ≡ giving n none none
+      → result r b ≡ requested b p (seasonOf b)
   unfolding requested
-  request-helped n e z r q d ed = rw (eq-eqb _ _ (sym e ∙ z)) (λ i. result (q i) (ed i))
-
-  pub request-refused : (n : ℕ) → n ≡ requestAnswer b p season → (n ≡ 0 → ⊥) → (r : Outcome) → r ≡ giving n none none
-      → result r b ≡ requested b p season
-  unfolding requested
-  request-refused n e f r q =
-      rw (ne-eqb (requestAnswer b p season) 0 (λ z. f (e ∙ z)))
+  refused n e f r q =
+      rw (ne-eqb (requestAnswer b p (seasonOf b)) 0 (λ z. f (e ∙ z)))
       (ap (λ (x : Outcome). result x b) (q ∙ ap (λ (x : ℕ). giving x none none) e))
+
+  -- 4
+  pub asker-refused : nOf b ≤ p → (r : Outcome) → r ≡ giving 4 none none → result r b ≡ requested b p (seasonOf b)
+  asker-refused l r q = refused 4 (asker-missing b p (seasonOf b) refl l) (λ z. omega arith) r q
+
+  module _ (l : p < nOf b) where
+    -- 14
+    pub enough-refused : limitOf b ≤ getD b (helpedPlace p) 0 → (r : Outcome) → r ≡ giving 14 none none
+        → result r b ≡ requested b p (seasonOf b)
+    enough-refused m r q = refused 14 (helped-enough b p (seasonOf b) refl l m) (λ z. omega arith) r q
+
+    pub request-helped : getD b (helpedPlace p) 0 < limitOf b → (r : Outcome) → r ≡ helping → (d : List ℕ) → d ≡ countHelp b p
+        → result r d ≡ requested b p (seasonOf b)
+    unfolding requested
+    request-helped m r q d e = rw (eq-eqb _ _ (sym (request-accepted b p (seasonOf b) refl l m))) (λ i. result (q i) (e i))
+
+  pub low-byte : legal b ≡ true → getD b (helpedPlace p) 0 < limitOf b → getD b (helpedPlace p) 0 < 255
+  unfolding mostLimit
+  low-byte h m = omega (arith, m, legal-facts b h .limit)

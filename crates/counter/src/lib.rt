@@ -1,220 +1,150 @@
-// The counter: publishing and receiving, a request for help among what is received.
+// The counter: publishing and receiving, a request for help among what is received. Each function makes the next test in the call's order,
+// refuses with its number, or goes on; the step is taken at the end.
 ghost use mathlib.Core.Path.{_≡_};
 ghost use mathlib.Core.Bool.{true};
-ghost use mathlib.Core.Option.{some};
 ghost use Prim.Native.Nat.{_<_};
 ghost use lib.ListN.{length};
-ghost use Rattle.lot.specs.Declaration.{bytesOf};
-ghost use Rattle.protocol.specs.Book.{publishing, receiving};
-ghost use Rattle.meaning.specs.Book.{nOf};
+ghost use Rattle.message.specs.Message.{isKind};
+ghost use Rattle.protocol.specs.Book.{publishing};
+ghost use Rattle.meaning.specs.Book.{nOf, seasonOf};
 ghost use Rattle.meaning.specs.Legal.{legal, IsDecl, Has};
-ghost use Rattle.calls.specs.Entered.{result, kindOf, fiveOf};
-ghost use Rattle.calls.specs.Call.{fromAnswer, lotAnswer, stepOf, called, heardFrom, received, published, requestAnswer, requested};
+ghost use Rattle.calls.specs.Entered.{result};
+ghost use Rattle.calls.specs.Call.{called, requested, received, published};
+ghost use Rattle.layout.specs.Places.{Begins};
+ghost use Rattle.step.specs.Marks.{Plausible};
+ghost use Rattle.counter.specs.Heard.{heardParts, heardAs};
 use calls::Outcome;
-use lot::Declaration;
-use message::Reading;
+use message::ReadAnswer;
 
-// 6, then 7, else 0.
-fn check_from(book: &[u8], house: usize, kind: u8, sender: usize, number: usize, v: [u8; 20]) -> u8
-    requires { ⌜ Has (now book) sender number × (house < nOf (now book)) ⌝ }
-    ensures { λ r. ⌜ r ≡ fromAnswer (now (book .entry)) house (kindOf kind) sender number v ⌝ }
-{
-    if kind == 1 {
-        if house == sender {
-            return step::check_slot(book, house, kind, sender, number, v);
-        }
-        return 6;
-    }
-    step::check_slot(book, house, kind, sender, number, v)
-}
+// ---- receiving
 
-// 5, then 6, then 7, else 0.
-fn check_lot(
-    book: &[u8],
+// 6, then the step of the kind, which answers 7 where it was heard before. No other kind comes this far: what is well formed has a kind.
+fn take(
+    book: &mut [u8],
     house: usize,
     kind: u8,
-    sender: usize,
-    number: usize,
-    d: Declaration,
-) -> u8
-    requires { ⌜ Has (now book) sender number × (house < nOf (now book)) × IsDecl (bytesOf d) ⌝ }
-    ensures { λ r. ⌜ r ≡ lotAnswer (now (book .entry)) house (kindOf kind) sender number (bytesOf d) ⌝ }
+    sender: u8,
+    number: u8,
+    base: usize,
+    d: [u8; 20],
+) -> Outcome
+    requires { ⌜ Has (now book) sender number × Begins (now book) sender number base × Plausible (now book) d × (house < nOf (now book))
+        × (isKind kind ≡ true) ⌝ }
+    ensures { λ r. ⌜ result r (now (book .exit)) ≡ heardAs (now (book .entry)) house kind sender number d ⌝ }
 {
-    if gates::is_plausible(layout::sheet_of(book), d) {
-        return check_from(book, house, kind, sender, number, octets::bytes_of(d));
+    match kind {
+        1 => {
+            if house == sender as usize {
+                return step::hear_send(book, sender, number, base, d);
+            }
+            reply::refuse(6)
+        }
+        2 => step::hear_echo(book, house, sender, number, base, d),
+        3 => step::hear_ready(book, house, sender, number, base, d),
+        _ => reply::refuse(2),
     }
-    5
 }
 
-// 4, then 5, 6 and 7, else 0.
-fn check_message(book: &[u8], house: u32, kind: u8, sender: u8, number: u8, d: Declaration) -> u8
-    requires { ⌜ (legal (now book) ≡ true) × IsDecl (bytesOf d) ⌝ }
-    ensures { λ r. ⌜ r ≡ stepOf (now (book .entry)) (receiving house (kindOf kind) sender number (bytesOf d)) .answer ⌝ }
+// 5, then 6 and on.
+fn weigh(book: &mut [u8], house: usize, kind: u8, sender: u8, number: u8, d: [u8; 20]) -> Outcome
+    requires { ⌜ Has (now book) sender number × IsDecl d × (house < nOf (now book)) × (isKind kind ≡ true) ⌝ }
+    ensures { λ r. ⌜ result r (now (book .exit)) ≡ heardAs (now (book .entry)) house kind sender number d ⌝ }
+{
+    let base = layout::entry_at(book, sender as usize, number as usize);
+    if gates::is_plausible(layout::sheet_of(book), octets::declaration_at(&d, 0)) {
+        return take(book, house, kind, sender, number, base, d);
+    }
+    reply::refuse(5)
+}
+
+// 4, then 5 and on.
+fn find(book: &mut [u8], house: u32, kind: u8, sender: u8, number: u8, d: [u8; 20]) -> Outcome
+    requires { ⌜ (legal (now book) ≡ true) × IsDecl d × (isKind kind ≡ true) ⌝ }
+    ensures { λ r. ⌜ result r (now (book .exit)) ≡ heardAs (now (book .entry)) house kind sender number d ⌝ }
 {
     let n = layout::n_of(book);
     if (sender as usize) < n {
         if (number as usize) < layout::numbers_of(book) {
             if (house as usize) < n {
-                return check_lot(
-                    book,
-                    house as usize,
-                    kind,
-                    sender as usize,
-                    number as usize,
-                    d,
-                );
+                return weigh(book, house as usize, kind, sender, number, d);
             }
+            return reply::refuse(4);
         }
+        return reply::refuse(4);
     }
-    4
+    reply::refuse(4)
 }
 
-// A message on a legal book, of the book's season: its answer, and its step where that is 0.
-fn answer_message(
-    book: &mut [u8],
-    house: u32,
-    kind: u8,
-    sender: u8,
-    number: u8,
-    d: Declaration,
-) -> Outcome
-    requires { ⌜ (legal (now book) ≡ true) × IsDecl (bytesOf d) ⌝ }
-    ensures { λ r. ⌜ result r (now (book .exit)) ≡ called (now (book .entry)) (receiving house (kindOf kind) sender number (bytesOf d)) ⌝ }
-{
-    let answer = check_message(book, house, kind, sender, number, d);
-    if answer == 0 {
-        if kind == 1 {
-            return step::take_send(book, sender, number, d);
-        }
-        return step::take_voucher(book, house as usize, kind, sender, number, d);
-    }
-    step::refuse(answer)
-}
-
-// A well-formed message on a legal book, the step behind the legality test: 3 to 7 in order.
-fn hear(
-    book: &mut [u8],
-    house: u32,
-    kind: u8,
-    season: u32,
-    sender: u8,
-    number: u8,
-    d: Declaration,
-) -> Outcome
-    requires { ⌜ (legal (now book) ≡ true) × IsDecl (bytesOf d) ⌝ }
-    ensures { λ r. ⌜ result r (now (book .exit)) ≡ heardFrom (now (book .entry)) house (some (fiveOf kind season sender number d)) ⌝ }
-{
-    if season == layout::season_of(book) {
-        return answer_message(book, house, kind, sender, number, d);
-    }
-    step::refuse(3)
-}
-
-// 3, then 4, then 14, else 0.
-fn check_request(book: &[u8], house: u32, season: u32) -> u8
+// A request of the book's season: 4, then 14, else the asker is helped once more.
+fn hear_request(book: &mut [u8], house: u32) -> Outcome
     requires { ⌜ legal (now book) ≡ true ⌝ }
-    ensures { λ r. ⌜ r ≡ requestAnswer (now (book .entry)) house season ⌝ }
+    ensures { λ r. ⌜ result r (now (book .exit)) ≡ requested (now (book .entry)) house (seasonOf (now (book .entry))) ⌝ }
 {
-    if season == layout::season_of(book) {
-        if (house as usize) < layout::n_of(book) {
-            if layout::helped_at(book, house as usize) < layout::limit_of(book) {
-                return 0;
-            }
-            return 14;
+    if (house as usize) < layout::n_of(book) {
+        if layout::helped_at(book, house as usize) < layout::limit_of(book) {
+            layout::count_help(book, house as usize);
+            return reply::help();
         }
-        return 4;
+        return reply::refuse(14);
     }
-    3
+    reply::refuse(4)
 }
 
-// A request on a legal book: its answer, and where that is 0 the asker is helped once more.
-fn hear_request(book: &mut [u8], house: u32, season: u32) -> Outcome
-    requires { ⌜ legal (now book) ≡ true ⌝ }
-    ensures { λ r. ⌜ result r (now (book .exit)) ≡ requested (now (book .entry)) house season ⌝ }
+// 3, then a request or a message.
+fn hear(book: &mut [u8], house: u32, m: ReadAnswer) -> Outcome
+    requires { ⌜ (legal (now book) ≡ true) × IsDecl (m .declaration) × ((m .kind ≡ 9 → ⊥) → isKind (m .kind) ≡ true) ⌝ }
+    ensures { λ r. ⌜ result r (now (book .exit)) ≡ heardParts (now (book .entry)) house m ⌝ }
 {
-    let answer = check_request(book, house, season);
-    if answer == 0 {
-        layout::count_help(book, house as usize);
-        return step::help();
+    if m.season == layout::season_of(book) {
+        if m.kind == 9 {
+            return hear_request(book, house);
+        }
+        let d = m.declaration;
+        return find(book, house, m.kind, m.sender, m.number, d);
     }
-    step::refuse(answer)
+    reply::refuse(3)
 }
 
-// Receiving: 1 to 7 in order; a request 1 to 4, then 14.
+// Receiving: 1, 2, then 3 and on: 1 to 7 in order; a request 1 to 4, then 14.
 pub fn receive(book: &mut [u8], house: u32, message: &[u8]) -> Outcome
     ensures { λ r. ⌜ result r (now (book .exit)) ≡ received (now (book .entry)) house (now (message .entry)) ⌝ }
 {
     if book::is_legal(book) {
-        if codec::is_request(message) {
-            return hear_request(book, house, octets::word_at(message, 7));
+        let m = codec::parts_of(message);
+        if m.answer == 0 {
+            return hear(book, house, m);
         }
-        let Reading::Message {
-            kind,
-            season,
-            sender,
-            number,
-            lot,
-            colonies,
-            kilograms,
-            moisture,
-            conductivity,
-        } = codec::read_message(message)
-        else {
-            return step::refuse(2);
-        };
-        let d = Declaration {
-            lot,
-            colonies,
-            kilograms,
-            moisture,
-            conductivity,
-        };
-        return hear(book, house, kind, season, sender, number, d);
+        return reply::refuse(2);
     }
-    step::refuse(1)
+    reply::refuse(1)
 }
 
-// 4, then 5, then 8, else 0.
-fn check_publication(book: &[u8], number: u32, d: Declaration) -> u8
-    requires { ⌜ (legal (now book) ≡ true) × IsDecl (bytesOf d) ⌝ }
-    ensures { λ r. ⌜ r ≡ stepOf (now (book .entry)) (publishing number (bytesOf d)) .answer ⌝ }
+// ---- publishing
+
+// 4, 5, then the step, which answers 8 where a publication stands.
+fn publish_legal(book: &mut [u8], number: u32, d: [u8; 20]) -> Outcome
+    requires { ⌜ (legal (now book) ≡ true) × IsDecl d ⌝ }
+    ensures { λ r. ⌜ result r (now (book .exit)) ≡ called (now (book .entry)) (publishing number d) ⌝ }
 {
     if (number as usize) < layout::numbers_of(book) {
-        if gates::is_plausible(layout::sheet_of(book), d) {
-            if slots::is_full(
-                book,
-                layout::slot_place(layout::n_of(book), number as usize),
-            ) {
-                return 8;
-            }
-            return 0;
+        if gates::is_plausible(layout::sheet_of(book), octets::declaration_at(&d, 0)) {
+            return step::enter_publication(book, number, d);
         }
-        return 5;
+        return reply::refuse(5);
     }
-    4
+    reply::refuse(4)
 }
 
-// A publication on a legal book: 4, 5, 8.
-fn publish_legal(book: &mut [u8], number: u32, d: Declaration) -> Outcome
-    requires { ⌜ (legal (now book) ≡ true) × IsDecl (bytesOf d) ⌝ }
-    ensures { λ r. ⌜ result r (now (book .exit)) ≡ called (now (book .entry)) (publishing number (bytesOf d)) ⌝ }
-{
-    let answer = check_publication(book, number, d);
-    if answer == 0 {
-        return step::enter_publication(book, number, d);
-    }
-    step::refuse(answer)
-}
-
-// Publishing a slice of 20 bytes.
+// A slice of 20 bytes: 1, then 4 and on.
 fn publish_slice(book: &mut [u8], number: u32, declaration: &[u8]) -> Outcome
     requires { ⌜ length (now declaration) ≡ 20 ⌝ }
     ensures { λ r. ⌜ result r (now (book .exit)) ≡ published (now (book .entry)) number (now (declaration .entry)) ⌝ }
 {
     if book::is_legal(book) {
-        return publish_legal(book, number, octets::declaration_at(declaration, 0));
+        let d = octets::bytes_of(octets::declaration_at(declaration, 0));
+        return publish_legal(book, number, d);
     }
-    step::refuse(1)
+    reply::refuse(1)
 }
 
 // Publishing: 1, 4, 5, 8.

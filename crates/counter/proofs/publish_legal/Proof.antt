@@ -1,34 +1,50 @@
 -- `counter::publish_legal` meets its contract.
-use Rattle.calls.proofs.Published.{publication-number, publication-called}
-use Rattle.calls.proofs.Carried.{called-refused}
-use Rattle.protocol.specs.Book.{publishing}
-use Rattle.lot.specs.Declaration.{bytesOf}
+use Rattle.calls.proofs.Published.{number-refused, lot-refused}
+use Rattle.calls.proofs.Declarations.{plausible-ok}
+use Rattle.calls.proofs.Checking.{book-sheet}
+use Rattle.meaning.specs.Book.{sheetPlace}
+use Rattle.sheet.specs.Kept.{sheetAt}
+use Rattle.meaning.proofs.Room.{header-room}
 use denote.Ref.{now}
+use native.Mathlib.Omega.{arith}
 use mathlib.Core.Path.{sym, _∙_}
 use borrow.Author.Needs.{needs}
 use Rattle.counter.proofs.publish_legal.Statement.{statement}
 use Rattle.counter.proofs.publish_legal.Tie as tie
 
-check-publication-requires : tie.Need-check-publication-requires
-check-publication-requires c κs = search needs
+numbers-of-requires : tie.Need-numbers-of-requires
+numbers-of-requires c κs =
+    let h = header-room _ (c .before .before .pre .0) in omega arith
+
+sheet-of-requires : tie.Need-sheet-of-requires
+sheet-of-requires c κs =
+    let h = header-room _ (c .before .before .before .before .before .pre .0) in omega arith
+
+slice-aggregate-declaration-at : tie.Need-slice-aggregate-declaration-at
+slice-aggregate-declaration-at c = search needs
+
+declaration-at-requires : tie.Need-declaration-at-requires
+declaration-at-requires c κs = search needs
+
+is-plausible-requires : tie.Need-is-plausible-requires
+is-plausible-requires c κs =
+    book-sheet (now (c .before .before .before .before .before .before .before .before .args .book)) _ (c .before .before .before .before .before .before .before .before .pre .0) (c .before .before .sheet-of .ensures)
 
 enter-publication-requires : tie.Need-enter-publication-requires
 enter-publication-requires c κs =
-    let m = c .before .before in
-    let start = m .before .before .before in
-    (start .pre .0, publication-number _ (start .pre .0) _ _ (sym (m .check-publication .ensures) ∙ c .before .if1 .taken), start .pre .1)
+    let start = c .before .before .before .before .before .before .before .before .before .before .before in
+    let a = start .args in
+    (
+      start .pre .0,
+      omega (arith, c .before .before .before .before .before .before .before .before .numbers-of .ensures .0, c .before .before .before .before .before .before .before .if1 .taken),
+      record { decl = start .pre .1; ok = sym (plausible-ok _ (sheetAt (now (a .book)) sheetPlace) (a .t3) _ _ (start .pre .1) (c .before .before .before .before .before .sheet-of .ensures) (c .before .before .before .declaration-at .ensures) (c .before .before .is-plausible .ensures)) ∙ c .before .if2 .taken },
+    )
 
 same-length : tie.Need-same-length
 same-length c = search needs
 
 returns : tie.Need-returns
-returns c =
-    let t = c .before .before in
-    let m = t .before .before .before in
-    let start = m .before .before .before in
-    t .enter-publication .ensures
-    ∙ publication-called (now (start .args .book)) (start .pre .0) (start .args .number) (bytesOf (start .args .d))
-    (sym (m .check-publication .ensures) ∙ t .before .before .if1 .taken)
+returns c = search needs
 
 refuse-requires : tie.Need-refuse-requires
 refuse-requires c κs = search needs
@@ -38,20 +54,37 @@ same-length-2 c = search needs
 
 returns-2 : tie.Need-returns-2
 returns-2 c =
-    let m = c .before .before in
-    let a = m .before .before .before .args in
-    called-refused (now (a .book)) (publishing (a .number) (bytesOf (a .d))) (m .check-publication .result) _
-    (m .check-publication .ensures)
-    (c .before .if1 .left) (c .refuse .ensures)
+    let start = c .before .before .before .before .before .before .before .before .before .before .before in
+    let a = start .args in
+    lot-refused (now (a .book)) (start .pre .0) (a .number) (a .t3) (omega (arith, c .before .before .before .before .before .before .before .before .numbers-of .ensures .0, c .before .before .before .before .before .before .before .if1 .taken)) (sym (plausible-ok _ (sheetAt (now (a .book)) sheetPlace) (a .t3) _ _ (start .pre .1) (c .before .before .before .before .before .sheet-of .ensures) (c .before .before .before .declaration-at .ensures) (c .before .before .is-plausible .ensures)) ∙ c .before .if2 .left) _ (c .refuse .ensures)
+
+refuse-requires-2 : tie.Need-refuse-requires-2
+refuse-requires-2 c κs = search needs
+
+same-length-3 : tie.Need-same-length-3
+same-length-3 c = search needs
+
+returns-3 : tie.Need-returns-3
+returns-3 c =
+    let start = c .before .before .before .before .before in
+    let a = start .args in
+    number-refused (now (a .book)) (start .pre .0) (a .number) (a .t3) (omega (arith, c .before .before .numbers-of .ensures .0, c .before .if1 .left)) _ (c .refuse2 .ensures)
 
 pub publish-legal-spec : {M : Type 1} → statement M
 publish-legal-spec =
     tie.close
     (tie.spec
-    check-publication-requires
+    numbers-of-requires
+    sheet-of-requires
+    slice-aggregate-declaration-at
+    declaration-at-requires
+    is-plausible-requires
     enter-publication-requires
     same-length
     returns
     refuse-requires
     same-length-2
-    returns-2)
+    returns-2
+    refuse-requires-2
+    same-length-3
+    returns-3)
