@@ -40,17 +40,20 @@ typedef struct {
     size_t length;
 } lent;
 
+static uint8_t painted[MARGIN];
+
 static lent lend(size_t room, size_t length) {
     if (length > ROOM - MARGIN) {
         _exit(BAD_QUESTION);
     }
     uint8_t *first = ground + (ROOM - (uintptr_t)ground % ROOM) % ROOM;
     lent argument = {first + (2 * room + 1) * ROOM - length, length};
-    memset(argument.at - MARGIN, PAINT, MARGIN);
+    memcpy(argument.at - MARGIN, painted, MARGIN);
     return argument;
 }
 
 static void build_walls(void) {
+    memset(painted, PAINT, MARGIN);
     for (size_t room = 0; room < ROOMS; room++) {
         if (mprotect(lend(room, 0).at, ROOM, PROT_NONE) != 0) {
             _exit(NO_WALL);
@@ -59,10 +62,8 @@ static void build_walls(void) {
 }
 
 static void check_margin(lent argument) {
-    for (const uint8_t *at = argument.at - MARGIN; at < argument.at; at++) {
-        if (*at != PAINT) {
-            _exit(WROTE_BEFORE);
-        }
+    if (memcmp(argument.at - MARGIN, painted, MARGIN) != 0) {
+        _exit(WROTE_BEFORE);
     }
 }
 
@@ -109,8 +110,8 @@ static question take_question(const uint8_t head[HEAD]) {
     return asked;
 }
 
-/* The reply as it grows: its rooms and a head are always enough. */
-static uint8_t reply[ROOMS * ROOM + 128];
+/* The reply as it grows, and beside it the one of the mode before: the rooms and a head are always enough. */
+static uint8_t replies[2][ROOMS * ROOM + 128], *reply = replies[0];
 static size_t filled;
 
 /* A bool goes this way too, so that the other end sees any byte that is left in it. */
@@ -302,14 +303,15 @@ static void restore(lent argument, const kept *was) { memcpy(argument.at, was->b
 /* The call in each mode, on the same arguments: the reply is the same. */
 static void answer_in_each_mode(question asked, uint32_t calls) {
     static kept book, bytes, declaration;
-    static uint8_t told[sizeof reply];
     keep(&book, asked.book);
     keep(&bytes, asked.bytes);
     keep(&declaration, asked.declaration);
+    reply = replies[0];
     answer(asked, calls, modes[0]);
     for (size_t i = 1; i < MODES; i++) {
-        memcpy(told, reply, filled);
+        const uint8_t *told = reply;
         size_t length = filled;
+        reply = replies[i % 2];
         restore(asked.book, &book);
         restore(asked.bytes, &bytes);
         restore(asked.declaration, &declaration);
