@@ -29,11 +29,11 @@ differs() { # HEADER FFI
     diff <(run_linked "$room/places") <("$room/places-rust")
 }
 quiet 'the header and ffi.rs differ' differs "$header" "$ffi"
-[ "$("$room/places-rust" | wc -l)" -eq 7 ] || fail 'a struct was not compared'
+[ "$(grep -c '^fn gm_' "$room/rows.rs") $("$room/places-rust" | wc -l)" = '10 7' ] || fail 'ten calls and seven structs were to be compared'
 quiet 'the places in docs/HOUSE.md' diff <("$room/places-rust" | sort) <(grep -E '^\| .gm_[a-z_]+. \| [0-9]+ \| answer 0' docs/HOUSE.md | sort)
 
 # ---- no other file declares a call; the stand-in, which answers them, is checked against ffi.rs as it is built
-others=$(git ls-files -- '*.c' '*.h' '*.rs' | xargs grep -lE '^[a-z0-9_]+ \*?gm_[a-z]+\(|fn gm_[a-z]+\(' |
+others=$(grep -rlE --include='*.[chr]*' '^[a-z0-9_]+ \*?gm_[a-z]+\(|fn gm_[a-z]+\(' bench bindings reference tests |
     grep -vxE "$header|$ffi|bindings/rust/stand-in/src/lib.rs")
 [ -z "$others" ] || fail "a call is declared again in: $others"
 
