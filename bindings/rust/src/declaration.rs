@@ -6,9 +6,9 @@
 ///
 /// ```
 /// use grassmunch::Declaration;
-/// let declaration = Declaration::new(77, 40, 800, 17.5, 0.5);
-/// assert_eq!((declaration.lot(), declaration.colonies(), declaration.kilograms()), (77, 40, 800));
-/// assert_eq!((declaration.moisture(), declaration.conductivity()), (17.5, 0.5));
+/// const LOT77: Declaration = Declaration::new(77, 40, 800, 17.5, 0.5);
+/// assert_eq!((LOT77.lot(), LOT77.colonies(), LOT77.kilograms()), (77, 40, 800));
+/// assert_eq!((LOT77.moisture(), LOT77.conductivity()), (17.5, 0.5));
 /// assert_ne!(Declaration::new(1, 0, 0, 0.0, 0.0), Declaration::new(1, 0, 0, -0.0, 0.0));
 /// ```
 #[derive(Clone, Copy, Debug, PartialEq, Eq, Hash)]

@@ -52,9 +52,9 @@ impl Gate {
 ///
 /// ```
 /// use grassmunch::{Gate, Sheet};
-/// let sheet = Sheet { cap: 20, moisture: Gate::AtMost(20.0), conductivity: Gate::Open };
-/// let bytes = [0, 0, 0, 20, 1, 0, 0, 0, 0, 0x41, 0xA0, 0, 0, 0, 0, 0, 0, 0, 0, 0, 0, 0];
-/// assert_eq!(sheet.to_bytes(), bytes);
+/// const SHEET: Sheet = Sheet { cap: 20, moisture: Gate::AtMost(20.0), conductivity: Gate::Open };
+/// const BYTES: [u8; Sheet::BYTES] = SHEET.to_bytes();
+/// assert_eq!(BYTES, [0, 0, 0, 20, 1, 0, 0, 0, 0, 0x41, 0xA0, 0, 0, 0, 0, 0, 0, 0, 0, 0, 0, 0]);
 /// ```
 #[derive(Clone, Copy, Debug, PartialEq)]
 pub struct Sheet {
