@@ -1,6 +1,7 @@
 //! The rows of the table: for each a book, a call on it, and the answer it has to give.
 
-use reference::{write, Declaration, Kind};
+use grassmunch::{Declaration, Gate, Sheet};
+use reference::{write, Kind};
 
 pub const NUMBERS: u32 = 4;
 pub const SEASON: u32 = 2026;
@@ -10,15 +11,20 @@ pub const DOWN: u32 = 0;
 /// d.
 pub const LIMIT: u32 = 2;
 
-/// Cap 20; moisture at most 20.0, conductivity between 0.125 and 1.0: both kinds of gate that have limits.
-pub const SHEET: [u8; 22] = [
-    0, 0, 0, 20, 1, 0, 0, 0, 0, 0x41, 0xA0, 0, 0, 2, 0x3E, 0, 0, 0, 0x3F, 0x80, 0, 0,
-];
+/// Both kinds of gate that have limits.
+pub const SHEET: [u8; Sheet::BYTES] = Sheet {
+    cap: 20,
+    moisture: Gate::AtMost(20.0),
+    conductivity: Gate::Between {
+        low: 0.125,
+        high: 1.0,
+    },
+}
+.to_bytes();
 
-/// Document 01's own: lot 77, 40 colonies, 800 kg, 17.5, 0.5.
-pub const DECLARATION: Declaration = [
-    0, 0, 0, 77, 0, 0, 0, 40, 0, 0, 3, 0x20, 0x41, 0x8C, 0, 0, 0x3F, 0, 0, 0,
-];
+/// Document 01's own.
+pub const DECLARATION: [u8; Declaration::BYTES] =
+    *Declaration::new(77, 40, 800, 17.5, 0.5).as_bytes();
 
 /// The entry that is named.
 pub const SENDER: usize = 2;

@@ -5,10 +5,14 @@
 //!     calls ROW SIDE COUNT    so many calls of a row by a side
 
 mod cases;
+// the length of a book is not measured
+#[allow(dead_code)]
+#[path = "../bindings/rust/src/ffi.rs"]
+mod ffi;
 mod library;
 
 use cases::{Call, Case, DECLARATION, DOWN, LIMIT, NUMBER, NUMBERS, OWN, SEASON, SENDER, SHEET};
-use library::*;
+use ffi::{Outcome, ReadAnswer, ReturnAnswer, SentAnswer, WaitingAnswer, Written};
 use std::fmt::Debug;
 use std::hint::black_box;
 
@@ -39,86 +43,37 @@ fn neither(case: &Case, count: u32) -> (String, Vec<u8>) {
 }
 
 fn by_library(case: &Case, count: u32) -> (String, Vec<u8>) {
-    let d = DECLARATION.as_ptr();
-    let (sheet, sheet_len) = (SHEET.as_ptr(), SHEET.len());
     let (sender, number, n) = (SENDER as u8, NUMBER as u8, case.n);
-    // Every pointer is to a live slice of the length beside it, and none overlaps the book.
     match &case.call {
-        Call::Open => make(
-            count,
-            case,
-            |b| unsafe {
-                gm_open(
-                    b.as_mut_ptr(),
-                    b.len(),
-                    n,
-                    NUMBERS,
-                    OWN,
-                    DOWN,
-                    LIMIT,
-                    SEASON,
-                    sheet,
-                    sheet_len,
-                )
-            },
-            |answer| *answer,
-        ),
-        Call::Publish => make(
-            count,
-            case,
-            |b| unsafe { gm_publish(b.as_mut_ptr(), b.len(), NUMBER as u32, d) },
-            Outcome::said,
-        ),
-        Call::Receive { house, message } | Call::Pass { house, message } => make(
-            count,
-            case,
-            |b| unsafe {
-                gm_receive(
-                    b.as_mut_ptr(),
-                    b.len(),
-                    *house,
-                    message.as_ptr(),
-                    message.len(),
-                )
-            },
-            Outcome::said,
-        ),
-        Call::Return => make(
-            count,
-            case,
-            |b| unsafe { gm_return(b.as_ptr(), b.len()) },
-            Returned::said,
-        ),
-        Call::Sent => make(
-            count,
-            case,
-            |b| unsafe { gm_sent(b.as_ptr(), b.len(), READY, sender.into(), number.into()) },
-            Sent::said,
-        ),
-        Call::Waiting => make(
-            count,
-            case,
-            |b| unsafe { gm_waiting(b.as_ptr(), b.len()) },
-            Waiting::said,
-        ),
+        Call::Open => {
+            let call = |b: &mut [u8]| ffi::open(b, n, NUMBERS, OWN, DOWN, LIMIT, SEASON, &SHEET);
+            make(count, case, call, |answer| *answer)
+        }
+        Call::Publish => {
+            let call = |b: &mut [u8]| ffi::publish(b, NUMBER as u32, &DECLARATION);
+            make(count, case, call, Outcome::said)
+        }
+        Call::Receive { house, message } | Call::Pass { house, message } => {
+            let call = |b: &mut [u8]| ffi::receive(b, *house, message);
+            make(count, case, call, Outcome::said)
+        }
+        Call::Return => make(count, case, |b| ffi::come_back(b), ReturnAnswer::said),
+        Call::Sent => {
+            let call = |b: &mut [u8]| ffi::sent(b, READY, sender.into(), number.into());
+            make(count, case, call, SentAnswer::said)
+        }
+        Call::Waiting => make(count, case, |b| ffi::waiting(b), WaitingAnswer::said),
         Call::Judge => make(
             count,
             case,
-            |_| unsafe { gm_judge(sheet, sheet_len, d) },
-            |a| *a,
+            |_| ffi::judge(&SHEET, &DECLARATION),
+            |answer| *answer,
         ),
-        Call::Write => make(
-            count,
-            case,
-            |_| unsafe { gm_write(ECHO, SEASON, sender, number, d) },
-            Written::said,
-        ),
-        Call::Read(message) => make(
-            count,
-            case,
-            |_| unsafe { gm_read(message.as_ptr(), message.len()) },
-            Read::said,
-        ),
+        Call::Write => {
+            let call = |_: &mut [u8]| ffi::write(ECHO, SEASON, sender, number, &DECLARATION);
+            make(count, case, call, Written::said)
+        }
+        Call::Read(message) => make(count, case, |_| ffi::read(message), ReadAnswer::said),
     }
 }
 

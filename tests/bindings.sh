@@ -5,15 +5,13 @@
 # same files, to the byte. Says nothing where all passes.
 set -uo pipefail
 cd "$(dirname "${BASH_SOURCE[0]}")/.." || exit 1
-root=$PWD
 export LC_ALL=C.UTF-8
 who=bindings
-room=$root/target/bindings
-archive=$root/target/staticlib/libhouse.a
+room=$PWD/target/bindings
 header='#include "grassmunch.h"'
 # shellcheck source=tests/linking
 . tests/linking
-quiet 'the archive' bash .ci/archive
+need_archive
 mkdir -p "$room"
 
 # ---- the header
@@ -113,8 +111,8 @@ try_rust() { # WHAT LIBRARY
     done
 }
 
-CARGO_TARGET_DIR=$room/stand-in quiet 'the stand-in' cargo build --offline --locked --manifest-path bindings/rust/stand-in/Cargo.toml
-try_rust stand-in "$room/stand-in/debug/libgrassmunch.a"
+build_stand_in
+try_rust stand-in "$stand_in"
 if [ "$machine" = x86_64 ]; then
     try_rust archive "$archive"
 fi

@@ -9,12 +9,9 @@ export LC_ALL=C.UTF-8
 room=$(mktemp -d)
 trap 'rm -rf "$room"' EXIT
 tree=$room/tree
-bad=0
-
-wrong() {
-    echo "commands: $1"
-    bad=1
-}
+who=commands
+# shellcheck source=tests/shared
+. tests/shared
 
 # ---- the tree and the stand-in
 

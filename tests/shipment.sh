@@ -27,7 +27,7 @@ for file in README.md CHANGELOG.md SHA256SUMS docs/HOUSE.md docs/BOOK.md docs/RU
 done
 (cd "$top" && quiet 'the sums' sha256sum --strict --quiet -c SHA256SUMS) || exit 1
 [ "$(wc -l <"$top/SHA256SUMS")" -eq "$(find "$top" -type f ! -name SHA256SUMS | wc -l)" ] || fail 'a file has no sum'
-quiet 'the archive in it' cmp "$top/lib/libgrassmunch.a" target/staticlib/libhouse.a
+quiet 'the archive in it' cmp "$top/lib/libgrassmunch.a" "$archive"
 quiet 'the header in it' cmp "$top/include/grassmunch.h" bindings/c/grassmunch.h
 grep -qxF "kit $(cat .ci/kit)" "$top/lib/grassmunch.stamp" || fail 'the stamp does not name the kit'
 if commit=$(git rev-parse HEAD 2>/dev/null); then
@@ -64,8 +64,8 @@ fi
 # ---- Rust: the archive is found in ../lib; on another processor the stand-in lies there
 unset GRASSMUNCH_LIB
 if [ "$machine" != x86_64 ]; then
-    quiet 'the stand-in' env CARGO_TARGET_DIR="$room/stand-in" cargo build --offline --locked --manifest-path bindings/rust/stand-in/Cargo.toml
-    cp "$room/stand-in/debug/libgrassmunch.a" "$top/lib/libgrassmunch.a"
+    build_stand_in
+    cp "$stand_in" "$top/lib/libgrassmunch.a"
 fi
 export CARGO_TARGET_DIR=$room/rust
 account 'the Rust example' cargo run --quiet --offline --locked --manifest-path "$top/rust/Cargo.toml" --example house --

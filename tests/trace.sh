@@ -18,13 +18,10 @@ export LC_ALL=C.UTF-8
 documents=${DOCUMENTS:-../shared/documents}
 room=$(mktemp -d)
 trap 'rm -rf "$room"' EXIT
-bad=0
 checked=0
-
-wrong() {
-    echo "trace: $1"
-    bad=1
-}
+who=trace
+# shellcheck source=tests/shared
+. tests/shared
 
 # ---- files, and names in them
 

@@ -6,16 +6,15 @@ cd "$(dirname "${BASH_SOURCE[0]}")/.." || exit 1
 export LC_ALL=C.UTF-8
 header=bindings/c/grassmunch.h
 crate=bindings/rust
-bad=0
-
-wrong() {
-    echo "version: $1"
-    bad=1
-}
+who=version
+# shellcheck source=tests/shared
+. tests/shared
+# shellcheck source=.ci/shared
+. .ci/shared
 
 part() { sed -n "s/^#define GM_VERSION_$1 //p" "$header"; }
 
-version=$(sed -n 's/^#define GM_VERSION "\(.*\)"$/\1/p' "$header")
+version=$(version_here)
 [[ $version =~ ^[0-9]+\.[0-9]+\.[0-9]+$ ]] || wrong "$header: GM_VERSION is no version: '$version'"
 [ "$version" = "$(part MAJOR).$(part MINOR).$(part PATCH)" ] || wrong "$header: GM_VERSION is not its three numbers"
 for file in "$crate/Cargo.toml" "$crate/Cargo.lock"; do

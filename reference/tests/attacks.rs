@@ -1,9 +1,7 @@
 //! The attacks laid out for every n and f; and libraries that count one too many or one too few, to see at
 //! which n and f the claims of a season see it.
 
-mod common;
-
-use common::{Slipped, Slips};
+use crate::common::{Slipped, Slips};
 use reference::testing::claims::Fault;
 use reference::testing::scheduler::attacks::{self, Size};
 use reference::testing::season::Season;

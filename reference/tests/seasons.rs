@@ -1,9 +1,7 @@
 //! Whole seasons with wrong houses, and with houses that crash and return; and libraries with a slip each,
 //! to see that the claims see it.
 
-mod common;
-
-use common::{Slipped, Slips};
+use crate::common::{Slipped, Slips};
 use reference::testing::both::Both;
 use reference::testing::claims::Fault;
 use reference::testing::random::Random;

@@ -1,8 +1,6 @@
 //! Libraries with a slip each, to see that the checks see it.
 
-mod common;
-
-use common::{Slipped, Slips};
+use crate::common::{Slipped, Slips};
 use reference::testing::both::Both;
 use reference::testing::claims::Fault;
 use reference::testing::random::Random;

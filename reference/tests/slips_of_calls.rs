@@ -2,9 +2,7 @@
 //! caught by a check that knows the answer, and again by drawn calls beside a library that does not
 //! slip.
 
-mod common;
-
-use common::{Slipped, Slips};
+use crate::common::{Slipped, Slips};
 use reference::testing::both::Both;
 use reference::testing::forms::slots_from;
 use reference::testing::{books, openings, pairs, refusals, requests, returns, rows, vouchers};

@@ -2,6 +2,7 @@
 #ifndef BARE_STDDEF_H
 #define BARE_STDDEF_H
 typedef __SIZE_TYPE__ size_t;
+typedef __PTRDIFF_TYPE__ ptrdiff_t;
 #ifdef __cplusplus
 #define NULL nullptr
 #else

@@ -152,8 +152,17 @@ impl Book {
     /// # Ok::<(), Refusal>(())
     /// ```
     pub fn open(opening: &Opening, own: u32) -> Result<Book, Refusal> {
-        let mut bytes = vec![0; Book::length(opening.n, opening.s)?];
-        Refusal::of(ffi::open(&mut bytes, own, opening))?;
+        let &Opening {
+            n,
+            s,
+            f,
+            d,
+            season,
+            sheet,
+        } = opening;
+        let mut bytes = vec![0; Book::length(n, s)?];
+        let sheet = sheet.to_bytes();
+        Refusal::of(ffi::open(&mut bytes, n, s, own, f, d, season, &sheet))?;
         Ok(Book(bytes))
     }
 

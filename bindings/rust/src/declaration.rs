@@ -6,9 +6,9 @@
 ///
 /// ```
 /// use grassmunch::Declaration;
-/// let declaration = Declaration::new(77, 40, 800, 17.5, 0.5);
-/// assert_eq!((declaration.lot(), declaration.colonies(), declaration.kilograms()), (77, 40, 800));
-/// assert_eq!((declaration.moisture(), declaration.conductivity()), (17.5, 0.5));
+/// const LOT77: Declaration = Declaration::new(77, 40, 800, 17.5, 0.5);
+/// assert_eq!((LOT77.lot(), LOT77.colonies(), LOT77.kilograms()), (77, 40, 800));
+/// assert_eq!((LOT77.moisture(), LOT77.conductivity()), (17.5, 0.5));
 /// assert_ne!(Declaration::new(1, 0, 0, 0.0, 0.0), Declaration::new(1, 0, 0, -0.0, 0.0));
 /// ```
 #[derive(Clone, Copy, Debug, PartialEq, Eq, Hash)]
@@ -19,28 +19,29 @@ impl Declaration {
     pub const BYTES: usize = 20;
 
     /// The declaration of these five things: moisture in percent, conductivity in mS/cm.
-    pub fn new(lot: u32, colonies: u32, kilograms: u32, moisture: f32, conductivity: f32) -> Self {
-        let words = [
-            lot,
-            colonies,
-            kilograms,
-            moisture.to_bits(),
-            conductivity.to_bits(),
-        ];
+    pub const fn new(
+        lot: u32,
+        colonies: u32,
+        kilograms: u32,
+        moisture: f32,
+        conductivity: f32,
+    ) -> Self {
         let mut bytes = [0; Self::BYTES];
-        for (place, word) in bytes.chunks_exact_mut(4).zip(words) {
-            place.copy_from_slice(&word.to_be_bytes());
-        }
+        put_word(&mut bytes, 0, lot);
+        put_word(&mut bytes, 4, colonies);
+        put_word(&mut bytes, 8, kilograms);
+        put_word(&mut bytes, 12, moisture.to_bits());
+        put_word(&mut bytes, 16, conductivity.to_bits());
         Declaration(bytes)
     }
 
     /// Any 20 bytes are a declaration.
-    pub fn from_bytes(bytes: [u8; Self::BYTES]) -> Self {
+    pub const fn from_bytes(bytes: [u8; Self::BYTES]) -> Self {
         Declaration(bytes)
     }
 
     /// Its 20 bytes.
-    pub fn as_bytes(&self) -> &[u8; Self::BYTES] {
+    pub const fn as_bytes(&self) -> &[u8; Self::BYTES] {
         &self.0
     }
 
@@ -73,4 +74,14 @@ impl Declaration {
         let at = 4 * place;
         u32::from_be_bytes([self.0[at], self.0[at + 1], self.0[at + 2], self.0[at + 3]])
     }
+}
+
+/// Puts a word's four bytes at a place, big-endian.
+pub(crate) const fn put_word(bytes: &mut [u8], at: usize, word: u32) {
+    bytes
+        .split_at_mut(at)
+        .1
+        .split_at_mut(4)
+        .0
+        .copy_from_slice(&word.to_be_bytes());
 }

@@ -1,11 +1,11 @@
 //! The archive's ten calls and the structs that they hand back, as bindings/c/grassmunch.h has them: the one file with `unsafe`.
 //!
+//! The header is the source, and tests/declarations.sh holds this file to it: each call and what it takes, each struct and its fields,
+//! in order and in place. It needs nothing else of this crate, so that a test or a measure can take it alone.
+//!
 //! The safe functions here take slices and arrays, so that pointers and lengths are right; and a book by `&mut`, so that it
 //! overlaps no other argument. The archive's contracts have no `requires`: every call is allowed with every input.
 #![allow(unsafe_code)]
-
-use crate::Opening;
-use std::mem::{offset_of, size_of};
 
 /// What [`length`] hands back.
 #[repr(C)]
@@ -67,27 +67,13 @@ pub struct WaitingAnswer {
     pub sender: u8,
 }
 
-const _: () = {
-    assert!(size_of::<usize>() == 8);
-    assert!(size_of::<LengthAnswer>() == 16 && offset_of!(LengthAnswer, length) == 8);
-    assert!(size_of::<Outcome>() == 60 && offset_of!(Outcome, gives) == 1);
-    assert!(offset_of!(Outcome, message) == 2 && offset_of!(Outcome, delivers) == 38);
-    assert!(offset_of!(Outcome, declaration) == 39 && offset_of!(Outcome, helps) == 59);
-    assert!(size_of::<ReturnAnswer>() == 12 && offset_of!(ReturnAnswer, request) == 1);
-    assert!(size_of::<SentAnswer>() == 38 && offset_of!(SentAnswer, gives) == 1);
-    assert!(offset_of!(SentAnswer, message) == 2);
-    assert!(size_of::<Written>() == 37 && offset_of!(Written, message) == 1);
-    assert!(size_of::<ReadAnswer>() == 32 && offset_of!(ReadAnswer, kind) == 1);
-    assert!(offset_of!(ReadAnswer, season) == 4 && offset_of!(ReadAnswer, sender) == 8);
-    assert!(offset_of!(ReadAnswer, number) == 9 && offset_of!(ReadAnswer, declaration) == 10);
-    assert!(size_of::<WaitingAnswer>() == 4 && offset_of!(WaitingAnswer, waits) == 1);
-    assert!(offset_of!(WaitingAnswer, number) == 2 && offset_of!(WaitingAnswer, sender) == 3);
-};
+// A length is 64 bits, as in the archive.
+const _: () = assert!(size_of::<usize>() == 8);
 
 // SAFETY: these are the archive's signatures (crates/house/src/lib.rt); a slice crosses as a pointer and a length.
 unsafe extern "C" {
-    safe fn gm_length(n: u32, s: u32) -> LengthAnswer;
-    fn gm_open(
+    pub safe fn gm_length(n: u32, s: u32) -> LengthAnswer;
+    pub fn gm_open(
         book: *mut u8,
         len: usize,
         n: u32,
@@ -99,26 +85,26 @@ unsafe extern "C" {
         sheet: *const u8,
         sheet_len: usize,
     ) -> u8;
-    safe fn gm_write(
+    pub safe fn gm_write(
         kind: u8,
         season: u32,
         sender: u8,
         number: u8,
         declaration: &[u8; 20],
     ) -> Written;
-    fn gm_publish(book: *mut u8, len: usize, number: u32, declaration: &[u8; 20]) -> Outcome;
-    fn gm_receive(
+    pub fn gm_publish(book: *mut u8, len: usize, number: u32, declaration: &[u8; 20]) -> Outcome;
+    pub fn gm_receive(
         book: *mut u8,
         len: usize,
         house: u32,
         message: *const u8,
         message_len: usize,
     ) -> Outcome;
-    fn gm_return(book: *const u8, len: usize) -> ReturnAnswer;
-    fn gm_sent(book: *const u8, len: usize, kind: u8, sender: u32, number: u32) -> SentAnswer;
-    fn gm_waiting(book: *const u8, len: usize) -> WaitingAnswer;
-    fn gm_judge(sheet: *const u8, sheet_len: usize, declaration: &[u8; 20]) -> u8;
-    fn gm_read(message: *const u8, message_len: usize) -> ReadAnswer;
+    pub fn gm_return(book: *const u8, len: usize) -> ReturnAnswer;
+    pub fn gm_sent(book: *const u8, len: usize, kind: u8, sender: u32, number: u32) -> SentAnswer;
+    pub fn gm_waiting(book: *const u8, len: usize) -> WaitingAnswer;
+    pub fn gm_judge(sheet: *const u8, sheet_len: usize, declaration: &[u8; 20]) -> u8;
+    pub fn gm_read(message: *const u8, message_len: usize) -> ReadAnswer;
 }
 
 /// "A public answer gives that length, or answer 9."
@@ -127,11 +113,17 @@ pub fn length(n: u32, s: u32) -> LengthAnswer {
 }
 
 /// Opening: 9, 10, 11.
-pub fn open(book: &mut [u8], own: u32, opening: &Opening) -> u8 {
-    let &Opening {
-        n, s, f, d, season, ..
-    } = opening;
-    let sheet = opening.sheet.to_bytes();
+#[allow(clippy::too_many_arguments)]
+pub fn open(
+    book: &mut [u8],
+    n: u32,
+    s: u32,
+    own: u32,
+    f: u32,
+    d: u32,
+    season: u32,
+    sheet: &[u8],
+) -> u8 {
     let (at, len) = (book.as_mut_ptr(), book.len());
     let (sheet_at, sheet_len) = (sheet.as_ptr(), sheet.len());
     // SAFETY: `book` is valid for reads and writes of `len` bytes and lent to nobody else, `sheet` for reads of its length.

@@ -1,5 +1,6 @@
 //! The season's sheet and its gates, as the 22 bytes that opening and judging take.
 
+use crate::declaration::put_word;
 use crate::{Declaration, Refusal, ffi};
 
 /// "A gate is one of three kinds: open, at most a limit, or between a low and a high limit." Limits count as inside.
@@ -34,13 +35,16 @@ impl Gate {
         }
     }
 
-    /// Kind, low and high; "sheet limits are kept as their bits", and a limit that the kind does not use is zero.
-    fn kept(self) -> (u8, u32, u32) {
-        match self {
+    /// Puts kind, low and high at a place; "sheet limits are kept as their bits", and a limit that the kind does not use is zero.
+    const fn put(self, bytes: &mut [u8], at: usize) {
+        let (kind, low, high) = match self {
             Gate::Open => (0, 0, 0),
             Gate::AtMost(limit) => (1, 0, limit.to_bits()),
             Gate::Between { low, high } => (2, low.to_bits(), high.to_bits()),
-        }
+        };
+        bytes[at] = kind;
+        put_word(bytes, at + 1, low);
+        put_word(bytes, at + 5, high);
     }
 }
 
@@ -48,9 +52,9 @@ impl Gate {
 ///
 /// ```
 /// use grassmunch::{Gate, Sheet};
-/// let sheet = Sheet { cap: 20, moisture: Gate::AtMost(20.0), conductivity: Gate::Open };
-/// let bytes = [0, 0, 0, 20, 1, 0, 0, 0, 0, 0x41, 0xA0, 0, 0, 0, 0, 0, 0, 0, 0, 0, 0, 0];
-/// assert_eq!(sheet.to_bytes(), bytes);
+/// const SHEET: Sheet = Sheet { cap: 20, moisture: Gate::AtMost(20.0), conductivity: Gate::Open };
+/// const BYTES: [u8; Sheet::BYTES] = SHEET.to_bytes();
+/// assert_eq!(BYTES, [0, 0, 0, 20, 1, 0, 0, 0, 0, 0x41, 0xA0, 0, 0, 0, 0, 0, 0, 0, 0, 0, 0, 0]);
 /// ```
 #[derive(Clone, Copy, Debug, PartialEq)]
 pub struct Sheet {
@@ -67,15 +71,11 @@ impl Sheet {
     pub const BYTES: usize = 22;
 
     /// Its 22 bytes: the cap, then for each gate a kind and two limits.
-    pub fn to_bytes(&self) -> [u8; Self::BYTES] {
+    pub const fn to_bytes(&self) -> [u8; Self::BYTES] {
         let mut bytes = [0; Self::BYTES];
-        bytes[..4].copy_from_slice(&self.cap.to_be_bytes());
-        let gates = [self.moisture.kept(), self.conductivity.kept()];
-        for (place, (kind, low, high)) in bytes[4..].chunks_exact_mut(9).zip(gates) {
-            place[0] = kind;
-            place[1..5].copy_from_slice(&low.to_be_bytes());
-            place[5..].copy_from_slice(&high.to_be_bytes());
-        }
+        put_word(&mut bytes, 0, self.cap);
+        self.moisture.put(&mut bytes, 4);
+        self.conductivity.put(&mut bytes, 13);
         bytes
     }
 

@@ -72,21 +72,26 @@ pub fn twins() -> [[Declaration; 2]; 6] {
     ]
 }
 
-/// The bytes of a sheet.
-pub fn sheet(cap: u32, moisture: Gate, conductivity: Gate) -> [u8; SHEET] {
+/// The bytes of a sheet with two gates of any kind, low and high, legal or not, the limits as bits.
+pub fn sheet_of_bits(cap: u32, gates: [(u8, u32, u32); 2]) -> [u8; SHEET] {
     let mut bytes = [0; SHEET];
     bytes[..4].copy_from_slice(&cap.to_be_bytes());
-    for (place, gate) in bytes[4..].chunks_exact_mut(9).zip([moisture, conductivity]) {
-        let (kind, low, high) = match gate {
-            Gate::Open => (0, 0, 0),
-            Gate::AtMost(high) => (1, 0, high.to_bits()),
-            Gate::Between(low, high) => (2, low.to_bits(), high.to_bits()),
-        };
+    for (place, (kind, low, high)) in bytes[4..].chunks_exact_mut(9).zip(gates) {
         place[0] = kind;
         place[1..5].copy_from_slice(&low.to_be_bytes());
         place[5..].copy_from_slice(&high.to_be_bytes());
     }
     bytes
+}
+
+/// The bytes of a sheet.
+pub fn sheet(cap: u32, moisture: Gate, conductivity: Gate) -> [u8; SHEET] {
+    let bits = |gate| match gate {
+        Gate::Open => (0, 0, 0),
+        Gate::AtMost(high) => (1, 0, high.to_bits()),
+        Gate::Between(low, high) => (2, low.to_bits(), high.to_bits()),
+    };
+    sheet_of_bits(cap, [moisture, conductivity].map(bits))
 }
 
 /// The sheet of document 01's rows 4 and 5: cap 20 and open gates.

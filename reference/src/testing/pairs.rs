@@ -1,8 +1,10 @@
 //! "Where several apply, the first in the call's order is given": each pair of errors that can occur at
 //! once.
 
-use super::forms::{fresh, honey, message, open_sheet, request_of, slots_from, SEASON};
-use crate::{Library, Outcome};
+use super::forms::{
+    fresh, honey, message, open_sheet, request_of, sheet, slots_from, OPEN, SEASON,
+};
+use crate::{Gate, Library, Outcome};
 
 /// A receiving with errors to be. As it starts it is accepted.
 struct Receiving {
@@ -339,9 +341,7 @@ fn opens(
 /// Judging: 10, then 5.
 pub fn judging(library: &mut impl Library) {
     let good = open_sheet();
-    let mut bad = good;
-    bad[13] = 1;
-    bad[18..22].copy_from_slice(&f32::INFINITY.to_bits().to_be_bytes());
+    let bad = sheet(20, OPEN, Gate::AtMost(f32::INFINITY));
     let (plausible, implausible) = (honey(77, 40, 800), honey(77, 40, 801));
     let cases = [
         ("no error", good, plausible, 0),

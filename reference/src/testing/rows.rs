@@ -1,6 +1,8 @@
 //! Document 01's rows 1 to 12 and its run cases, and the counts for all n and f.
 
-use super::forms::{fresh, fresh_book, honey, message, open_sheet, sheet, OPEN, SEASON};
+use super::forms::{
+    declaration, fresh, fresh_book, honey, message, open_sheet, sheet, OPEN, SEASON,
+};
 use super::season::{Rules, Season};
 use crate::{Counts, Gate, Kind, Library, Outcome};
 
@@ -118,25 +120,16 @@ pub fn another_f(library: &mut impl Library) {
 
 /// Rows 4 to 8: judging.
 pub fn judged(library: &mut impl Library) {
-    let nan = |mut declaration: [u8; 20]| {
-        declaration[12..16].copy_from_slice(&f32::NAN.to_bits().to_be_bytes());
-        declaration
-    };
-    let moist = |mut declaration: [u8; 20]| {
-        declaration[12..16].copy_from_slice(&20.0f32.to_bits().to_be_bytes());
-        declaration
+    let moist = |moisture: f32| {
+        let readings = [moisture, 0.5].map(f32::to_bits);
+        declaration(77, 40, 800, readings)
     };
     let rows = [
         (4, open_sheet(), honey(77, 40, 800), 0),
         (5, open_sheet(), honey(77, 40, 801), 5),
         (6, sheet(2, OPEN, OPEN), honey(77, 4, 9), 5),
-        (
-            7,
-            sheet(20, Gate::AtMost(20.0), OPEN),
-            moist(honey(77, 40, 800)),
-            0,
-        ),
-        (8, open_sheet(), nan(honey(77, 40, 800)), 5),
+        (7, sheet(20, Gate::AtMost(20.0), OPEN), moist(20.0), 0),
+        (8, open_sheet(), moist(f32::NAN), 5),
     ];
     for (row, sheet, declaration, answer) in rows {
         assert_eq!(library.judge(&sheet, &declaration), answer, "row {row}");

@@ -59,6 +59,7 @@ impl Trials {
             .args(words)
             .env("RUST_BACKTRACE", "0")
             .env("COMPARE_PATIENCE", patience.to_string())
+            .env("COMPARE_DRIVERS", "1")
             .stdin(Stdio::null())
             .stdout(Stdio::null())
             .stderr(file)

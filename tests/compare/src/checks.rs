@@ -10,6 +10,7 @@ use reference::testing::{
     books, openings, pairs, readings, refusals, requests, returns, rows, scheduler, trips, vouchers,
 };
 use reference::Reference;
+use std::ops::RangeInclusive;
 
 /// The proved library and the ordinary one.
 pub type Pair = Both<Linked, Reference>;
@@ -103,7 +104,7 @@ pub const COUNTED: [Check; 22] = [
 ];
 
 /// Checks that draw their cases: more with a larger size.
-pub const DRAWN: [Check; 14] = [
+pub const DRAWN: [Check; 15] = [
     ("calls on any legal book", |pair, seed, scale| {
         refusals::calls(pair, seed, 200 * scale);
     }),
@@ -154,15 +155,11 @@ pub const DRAWN: [Check; 14] = [
     }),
     (
         "t wrong houses, one less, none, one more",
-        |pair, seed, _| {
-            for n in 1..=16 {
-                let s = if n < 8 { 1 + n % 4 } else { 1 };
-                let tally = scheduler::hostile(pair, seed, n, s);
-                let seen = |moment| tally.of(moment) > 0;
-                assert!(n < 2 || seen(Moment::TooManyWrong), "n = {n}: {tally}");
-                assert!(n < 4 || seen(Moment::WrongAndCrash), "n = {n}: {tally}");
-            }
-        },
+        |pair, seed, _| hostile(pair, seed, 1..=14),
+    ),
+    (
+        "the same with fifteen and sixteen houses",
+        |pair, seed, _| hostile(pair, seed, 15..=16),
     ),
     ("a season of the largest book", |pair, seed, _| {
         let rules = Rules::new(16, 4, &[3, 7, 11]).with(3, 2);
@@ -181,3 +178,14 @@ const ENOUGH_FOR_ALL: usize = 8;
 
 /// Of so many seasons about 14 show a disagreement, whatever the seed; of fifty at times none does.
 const ENOUGH_TO_DISAGREE: usize = 400;
+
+/// Seasons with as many wrong houses as are tolerated, one less, none and one more, of so many houses.
+fn hostile(pair: &mut Pair, seed: u64, houses: RangeInclusive<u8>) {
+    for n in houses {
+        let s = if n < 8 { 1 + n % 4 } else { 1 };
+        let tally = scheduler::hostile(pair, seed, n, s);
+        let seen = |moment| tally.of(moment) > 0;
+        assert!(n < 2 || seen(Moment::TooManyWrong), "n = {n}: {tally}");
+        assert!(n < 4 || seen(Moment::WrongAndCrash), "n = {n}: {tally}");
+    }
+}

@@ -3,7 +3,7 @@
 
 use reference::testing::forms::{
     declaration, fresh_book, message, random_book, random_pool, random_reading, request_of,
-    slots_from, SEASON,
+    sheet_of_bits, slots_from, SEASON,
 };
 use reference::testing::random::Random;
 use reference::Library;
@@ -33,25 +33,21 @@ fn near_product(random: &mut Random) -> [u32; 3] {
     [a, b, kilograms]
 }
 
-/// A gate's nine bytes, its limits near this reading; at times in no legal form.
-fn near_gate(random: &mut Random, reading: u32) -> [u8; 9] {
+/// A gate's kind, low and high, the limits near this reading; at times in no legal form.
+fn near_gate(random: &mut Random, reading: u32) -> (u8, u32, u32) {
     let mut limit = || match random.below(4) {
         0 => random_reading(random),
         1 => reading ^ 0x8000_0000,
         _ => reading.wrapping_add(random.below(5) as u32).wrapping_sub(2),
     };
     let (low, high) = (limit(), limit());
-    let (kind, low, high) = match random.below(16) {
+    match random.below(16) {
         0..=2 => (0, 0, 0),
         3..=6 => (1, 0, high),
         7..=14 if f32::from_bits(low) > f32::from_bits(high) => (2, high, low),
         7..=14 => (2, low, high),
         _ => (random.below(4) as u8, low, high),
-    };
-    let mut gate = [kind; 9];
-    gate[1..5].copy_from_slice(&low.to_be_bytes());
-    gate[5..].copy_from_slice(&high.to_be_bytes());
-    gate
+    }
 }
 
 /// A reading near an edge: of the subnormals, of the zeros, of the infinities; or a NaN; or any.
@@ -75,11 +71,8 @@ pub fn judging(library: &mut impl Library, seed: u64, rounds: usize) {
     for _ in 0..rounds {
         let [cap, colonies, kilograms] = near_product(&mut random);
         let readings = [0, 1].map(|_| edge(&mut random));
-        let mut sheet = [0; 22];
-        sheet[..4].copy_from_slice(&cap.to_be_bytes());
-        for (place, reading) in sheet[4..].chunks_exact_mut(9).zip(readings) {
-            place.copy_from_slice(&near_gate(&mut random, reading));
-        }
+        let gates = readings.map(|reading| near_gate(&mut random, reading));
+        let sheet = sheet_of_bits(cap, gates);
         let v = declaration(random.word(), colonies, kilograms, readings);
         let judged = library.judge(&sheet, &v);
         answers[usize::from(judged)] += 1;

@@ -1,8 +1,8 @@
 //! The proved library, over pipes, against document 01 in ordinary Rust: every call is made on both, and
 //! every answer, all that it carries and every byte of the book is compared.
 //!
-//! `compare gate WORDS..` runs all checks once with a fixed seed, and `compare long SECONDS SEED WORDS..`
-//! goes on for as long as one likes. The words run the driver.
+//! `compare gate WORDS..` runs all checks once with a fixed seed, on a driver for each processor, and `compare
+//! long SECONDS SEED WORDS..` goes on for as long as one likes. The words run the driver.
 #![forbid(unsafe_code)]
 
 mod checks;
@@ -17,6 +17,7 @@ use linked::{Linked, ANSWERS, CARRIED};
 use reference::testing::both::Both;
 use reference::testing::random::Random;
 use reference::Reference;
+use std::sync::atomic::{AtomicUsize, Ordering};
 use std::time::{Duration, Instant};
 
 /// The seed of the gate.
@@ -64,38 +65,70 @@ fn run(pair: &mut Pair, (name, check): &Check, seed: u64, scale: usize) {
     check(pair, seed, scale);
 }
 
-/// All checks once. Every call has to have given every answer that it can, or too little was compared.
-fn gate(words: &[String]) {
-    let began = Instant::now();
+/// How many drivers work beside each other: one for each processor, or COMPARE_DRIVERS.
+fn drivers() -> usize {
+    let wanted = std::env::var("COMPARE_DRIVERS").ok();
+    let wanted = wanted.map(|wanted| wanted.parse().expect("how many drivers"));
+    wanted.unwrap_or_else(|| std::thread::available_parallelism().map_or(1, usize::from))
+}
+
+/// Where a check panics, no other goes on.
+struct Together;
+
+impl Drop for Together {
+    fn drop(&mut self) {
+        if std::thread::panicking() {
+            std::process::exit(101);
+        }
+    }
+}
+
+/// Runs the next check that no other driver has taken, until none is left. Gives what the driver's calls gave.
+fn work(words: &[String], next: &AtomicUsize) -> Linked {
+    let _together = Together;
     let mut pair = pair(words);
-    for check in COUNTED.iter().chain(&DRAWN) {
+    let checks: Vec<&Check> = COUNTED.iter().chain(&DRAWN).collect();
+    while let Some(check) = checks.get(next.fetch_add(1, Ordering::Relaxed)) {
         let (calls, from) = (pair.first.calls(), Instant::now());
         run(&mut pair, check, SEED, GATE);
         if std::env::var_os("COMPARE_TIMES").is_some() {
-            let calls = pair.first.calls() - calls;
-            println!(
-                "{:>8} ms {calls:>8} calls  {}",
-                from.elapsed().as_millis(),
-                check.0
-            );
+            let (calls, took) = (pair.first.calls() - calls, from.elapsed().as_millis());
+            println!("{took:>8} ms {calls:>8} calls  {}", check.0);
         }
     }
     pair.first.end();
+    pair.first
+}
+
+/// All checks once. Every call has to have given every answer that it can, or too little was compared.
+fn gate(words: &[String]) {
+    let began = Instant::now();
+    let next = AtomicUsize::new(0);
+    let all: Vec<Linked> = std::thread::scope(|scope| {
+        let working: Vec<_> = (0..drivers())
+            .map(|_| scope.spawn(|| work(words, &next)))
+            .collect();
+        let ended = working.into_iter().map(|one| one.join());
+        ended
+            .map(|linked| linked.expect("a driver's work"))
+            .collect()
+    });
     for (call, answers) in ANSWERS {
-        let counts = pair.first.counts[call as usize];
-        let seen = answers
-            .iter()
-            .all(|answer| counts[usize::from(*answer)] > 0);
-        assert!(seen, "{call:?}: not every answer was seen: {counts:?}");
+        let count = |answer: u8| -> u64 {
+            let counts = all.iter().map(|linked| linked.counts[call as usize]);
+            counts.map(|counts| counts[usize::from(answer)]).sum()
+        };
+        for answer in answers {
+            assert!(count(*answer) > 0, "{call:?} never gave {answer}");
+        }
     }
-    let carried = pair.first.carried;
-    let seen = carried.iter().all(|count| *count > 0);
-    assert!(seen, "not all was carried: {carried:?}");
+    for (place, what) in CARRIED.iter().enumerate() {
+        let seen = all.iter().any(|linked| linked.carried[place] > 0);
+        assert!(seen, "not carried: {what}");
+    }
+    let calls: u64 = all.iter().map(Linked::calls).sum();
     let seconds = began.elapsed().as_secs();
-    println!(
-        "compare: {} calls, no difference ({seconds} s)",
-        pair.first.calls()
-    );
+    println!("compare: {calls} calls, no difference ({seconds} s)");
 }
 
 /// Rounds of the drawn checks until the time is over. Each round has a seed of its own, which starts a run

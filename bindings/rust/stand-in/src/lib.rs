@@ -3,61 +3,28 @@
 //! The archive is for x86-64. On another processor the tests link this in its place, so that the Rust crate's own code
 //! (declarations, sheets, refusals, the example) runs there too. That crate lends slices, so no pointer here is null.
 
+// the wrappers in it are for a house
+#[allow(dead_code)]
+#[path = "../../src/ffi.rs"]
+mod ffi;
+
+use ffi::{LengthAnswer, Outcome, ReadAnswer, ReturnAnswer, SentAnswer, WaitingAnswer, Written};
 use reference::Form;
 use std::slice::{from_raw_parts, from_raw_parts_mut};
 
-#[repr(C)]
-pub struct LengthAnswer {
-    answer: u8,
-    length: u64,
-}
-
-#[repr(C)]
-pub struct Outcome {
-    answer: u8,
-    gives: bool,
-    message: [u8; 36],
-    delivers: bool,
-    declaration: [u8; 20],
-    helps: bool,
-}
-
-#[repr(C)]
-pub struct ReturnAnswer {
-    answer: u8,
-    request: [u8; 11],
-}
-
-#[repr(C)]
-pub struct SentAnswer {
-    answer: u8,
-    gives: bool,
-    message: [u8; 36],
-}
-
-#[repr(C)]
-pub struct Written {
-    answer: u8,
-    message: [u8; 36],
-}
-
-#[repr(C)]
-pub struct ReadAnswer {
-    answer: u8,
-    kind: u8,
-    season: u32,
-    sender: u8,
-    number: u8,
-    declaration: [u8; 20],
-}
-
-#[repr(C)]
-pub struct WaitingAnswer {
-    answer: u8,
-    waits: bool,
-    number: u8,
-    sender: u8,
-}
+// Each pair below makes a list only where the two are of one type: the call as a house declares it, and as it is answered here.
+const _: () = {
+    let _ = [ffi::gm_length, gm_length];
+    let _ = [ffi::gm_open, gm_open];
+    let _ = [ffi::gm_publish, gm_publish];
+    let _ = [ffi::gm_receive, gm_receive];
+    let _ = [ffi::gm_return, gm_return];
+    let _ = [ffi::gm_sent, gm_sent];
+    let _ = [ffi::gm_waiting, gm_waiting];
+    let _ = [ffi::gm_judge, gm_judge];
+    let _ = [ffi::gm_write, gm_write];
+    let _ = [ffi::gm_read, gm_read];
+};
 
 fn outcome(got: reference::Outcome) -> Outcome {
     Outcome {

@@ -1,0 +1,11 @@
+//! The tests of this version of the book: what the checks of `reference::testing` say of it, and whether they see a slip.
+
+mod attacks;
+mod calls;
+mod common;
+mod pairs;
+mod readings;
+mod rows;
+mod seasons;
+mod slips;
+mod slips_of_calls;
