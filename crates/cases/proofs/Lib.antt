@@ -1,0 +1,4 @@
+pub mod Tested
+pub mod Values
+pub mod Rows
+pub mod Claims
