@@ -10,19 +10,19 @@ use Rattle.message.proofs.RoundTrip.{read-of-wire}
 use Rattle.entry.specs.Entry.{Decl, Kind, SEND, ECHO, READY}
 use Rattle.protocol.specs.Steps.{say}
 use Rattle.protocol.specs.Thresholds.{rulesOf}
-use Rattle.meaning.specs.Book.{Meaning}
+use Rattle.meaning.specs.Book.{Header}
 use Rattle.calls.specs.Entered.{kindNumber, kindOf, fiveOf, letter, rulesBy}
 use Rattle.calls.specs.Accepted.{countsBy, Claims}
 
-quorum-by : (B : Meaning) → rulesBy B .quorum ≡ countsBy B .quorum
+quorum-by : (h : Header) → rulesBy h .quorum ≡ countsBy h .quorum
 unfolding rulesBy rulesOf countsOf
 quorum-by B = refl
 
-amplify-by : (B : Meaning) → rulesBy B .amplify ≡ countsBy B .amplify
+amplify-by : (h : Header) → rulesBy h .amplify ≡ countsBy h .amplify
 unfolding rulesBy rulesOf countsOf
 amplify-by B = refl
 
-deliver-by : (B : Meaning) → rulesBy B .deliver ≡ countsBy B .deliver
+deliver-by : (h : Header) → rulesBy h .deliver ≡ countsBy h .deliver
 unfolding rulesBy rulesOf countsOf
 deliver-by B = refl
 

@@ -11,7 +11,7 @@ use Rattle.entry.specs.Entry.{Decl, Kind, SEND}
 use Rattle.protocol.specs.Steps.{takesSend, takes}
 use Rattle.protocol.specs.Book.{Call, receiving, senderOf, numberOf}
 use Rattle.protocol.specs.Thresholds.{rulesOf}
-use Rattle.meaning.specs.Book.{nOf, numbersOf, ownOf, look, meant}
+use Rattle.meaning.specs.Book.{nOf, numbersOf, ownOf, look, meant, headerOf}
 use Rattle.meaning.specs.Legal.{legal, Has}
 use Rattle.calls.specs.declared.Outcome.{Outcome}
 use Rattle.calls.specs.Entered.{result, giving, kindOf, rulesBy, entered, taken}
@@ -56,11 +56,11 @@ module _ (b : List ℕ) (h : legal b ≡ true) (p : ℕ) (k : Kind) (j c : ℕ) 
   pub message-has : Has b j c
   message-has = record { is-legal = h; sender = in-senders; number = in-numbers }
 
-  step-takes : stepOf b (receiving p k j c v) ≡ takes (rulesBy (meant b)) k p v (look b j c)
+  step-takes : stepOf b (receiving p k j c v) ≡ takes (rulesBy (headerOf b)) k p v (look b j c)
   unfolding stepOf rulesBy rulesOf meant
   step-takes =
-      accepted-is (rulesBy (meant b)) (numbersOf b) (ownOf b) p k j c v (look b) in-senders in-numbers
-      (sym (answer-is (rulesBy (meant b)) (numbersOf b) (ownOf b) p k j c v (look b) in-senders in-numbers) ∙ z)
+      accepted-is (rulesBy (headerOf b)) (numbersOf b) (ownOf b) p k j c v (look b) in-senders in-numbers
+      (sym (answer-is (rulesBy (headerOf b)) (numbersOf b) (ownOf b) p k j c v (look b) in-senders in-numbers) ∙ z)
 
   pub message-taken : taken b p k j c v ≡ called b (receiving p k j c v)
   unfolding taken
@@ -73,5 +73,5 @@ pub send-taken : (b : List ℕ) → legal b ≡ true → (p kind j c : ℕ) (v :
 unfolding taken takesSend
 send-taken b h p kind j c v e z =
     let s : kindOf kind ≡ SEND = rw (eq-eqb _ _ e) in
-    ap (λ (k : Kind). entered b j c (takes (rulesBy (meant b)) k p v (look b j c))) (sym s)
+    ap (λ (k : Kind). entered b j c (takes (rulesBy (headerOf b)) k p v (look b j c))) (sym s)
     ∙ message-taken b h p (kindOf kind) j c v z

@@ -14,7 +14,7 @@ use Rattle.entry.specs.Entry.{Decl, Kind, heard}
 use Rattle.protocol.specs.Steps.{may, recording, receiveAnswer}
 use Rattle.protocol.specs.Book.{receiving}
 use Rattle.protocol.specs.Thresholds.{rulesOf}
-use Rattle.meaning.specs.Book.{nOf, numbersOf, ownOf, look, meant, sheetPlace}
+use Rattle.meaning.specs.Book.{nOf, numbersOf, ownOf, look, meant, sheetPlace, headerOf}
 use Rattle.meaning.specs.Legal.{legal, IsDecl}
 use Rattle.meaning.proofs.Legality.{legal-facts}
 use Rattle.sheet.proofs.Gates.{legal-sheet}
@@ -58,16 +58,16 @@ module _ (b : List ℕ) (s : Sheet) (d : Declaration) (t : Bool) (decl : IsDecl 
 module _ (b : List ℕ) (j c p : ℕ) (k : Kind) (v : Decl) where
   pub sender-missing : nOf b ≤ j → 4 ≡ stepOf b (receiving p k j c v) .answer
   unfolding stepOf rulesBy rulesOf meant
-  sender-missing l = sym (ap (λ o. o .answer) (no-sender (rulesBy (meant b)) (numbersOf b) (ownOf b) p k j c v (look b) l))
+  sender-missing l = sym (ap (λ o. o .answer) (no-sender (rulesBy (headerOf b)) (numbersOf b) (ownOf b) p k j c v (look b) l))
 
   pub number-missing : j < nOf b → numbersOf b ≤ c → 4 ≡ stepOf b (receiving p k j c v) .answer
   unfolding stepOf rulesBy rulesOf meant
-  number-missing h l = sym (ap (λ o. o .answer) (no-number (rulesBy (meant b)) (numbersOf b) (ownOf b) p k j c v (look b) h l))
+  number-missing h l = sym (ap (λ o. o .answer) (no-number (rulesBy (headerOf b)) (numbersOf b) (ownOf b) p k j c v (look b) h l))
 
   pub house-missing : j < nOf b → c < numbersOf b → nOf b ≤ p → 4 ≡ stepOf b (receiving p k j c v) .answer
   unfolding stepOf rulesBy rulesOf meant
-  house-missing h l m = sym (ap (λ o. o .answer) (no-house (rulesBy (meant b)) (numbersOf b) (ownOf b) p k j c v (look b) h l m))
+  house-missing h l m = sym (ap (λ o. o .answer) (no-house (rulesBy (headerOf b)) (numbersOf b) (ownOf b) p k j c v (look b) h l m))
 
   pub answer-past : j < nOf b → c < numbersOf b → p < nOf b → stepOf b (receiving p k j c v) .answer ≡ lotAnswer b p k j c v
   unfolding stepOf rulesBy rulesOf meant receiveAnswer
-  answer-past h l m = answer-is (rulesBy (meant b)) (numbersOf b) (ownOf b) p k j c v (look b) h l ∙ rw (lt-ltb _ _ m)
+  answer-past h l m = answer-is (rulesBy (headerOf b)) (numbersOf b) (ownOf b) p k j c v (look b) h l ∙ rw (lt-ltb _ _ m)

@@ -34,4 +34,3 @@ kind-number kind h = go (ℕ-discrete kind 1) (ℕ-discrete kind 2)
     go (yes e) d = rw (eq-eqb _ _ e) (sym e)
     go (no f) (yes e) = ap kindNumber (kind-echo kind f e) ∙ sym e
     go (no f) (no g) = ap kindNumber (kind-ready kind f g) ∙ omega (arith, leb-true 1 kind (both .0), leb-true kind 3 (both .1))
-

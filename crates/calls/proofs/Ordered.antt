@@ -19,7 +19,7 @@ use Rattle.protocol.specs.Steps.{Out, publishes, recording}
 use Rattle.protocol.specs.Book.{Call, publishing, senderOf, numberOf}
 use Rattle.protocol.specs.Thresholds.{rulesOf}
 use Rattle.meaning.specs.Layout.{helpedPlace}
-use Rattle.meaning.specs.Book.{nOf, numbersOf, ownOf, seasonOf, sheetPlace, limitOf, helpedOf, countHelp, look, meant}
+use Rattle.meaning.specs.Book.{nOf, numbersOf, ownOf, seasonOf, sheetPlace, limitOf, helpedOf, countHelp, look, meant, headerOf}
 use Rattle.meaning.specs.Legal.{legal}
 use Rattle.calls.specs.Entered.{helping, okBy, kindOf, rulesBy, entered}
 use Rattle.meaning.proofs.Room.{own-below}
@@ -60,13 +60,13 @@ module _ (b : List ℕ) where
         unfolding stepOf rulesBy rulesOf meant
         already w e =
             sym (ap (λ (o : Out). o .answer)
-            (already-published (rulesBy (meant b)) (numbersOf b) (ownOf b) c v (look b) (own-below b h) l t w e))
+            (already-published (rulesBy (headerOf b)) (numbersOf b) (ownOf b) c v (look b) (own-below b h) l t w e))
 
         accepted : look b (ownOf b) c .published ≡ none → 0 ≡ stepOf b (publishing c v) .answer
         unfolding stepOf rulesBy rulesOf meant publishes
         accepted e =
             sym (ap (λ (o : Out). o .answer)
-            (publishes-it (rulesBy (meant b)) (numbersOf b) (ownOf b) c v (look b) (own-below b h) l t e))
+            (publishes-it (rulesBy (headerOf b)) (numbersOf b) (ownOf b) c v (look b) (own-below b h) l t e))
 
     pub publishing-ordered : Publishing b c v
     publishing-ordered =

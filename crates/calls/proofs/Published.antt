@@ -18,7 +18,7 @@ use Rattle.protocol.specs.Book.{publishing}
 use Rattle.protocol.specs.Thresholds.{rulesOf}
 use Rattle.meaning.specs.Slot.{slotAt}
 use Rattle.meaning.specs.Layout.{slotPlace}
-use Rattle.meaning.specs.Book.{nOf, numbersOf, ownOf, look, meant, sheetPlace}
+use Rattle.meaning.specs.Book.{nOf, numbersOf, ownOf, look, meant, sheetPlace, headerOf}
 use Rattle.meaning.specs.Legal.{legal}
 use Rattle.calls.specs.declared.Outcome.{Outcome}
 use Rattle.calls.specs.Entered.{Result, result, giving, okBy, rulesBy, entered, publishedAt}
@@ -34,14 +34,14 @@ module _ (b : List ℕ) (h : legal b ≡ true) (c : ℕ) (v : Decl) where
   pub own-number-missing : numbersOf b ≤ c → 4 ≡ stepOf b (publishing c v) .answer
   unfolding stepOf rulesBy rulesOf meant
   own-number-missing l =
-      sym (ap (λ (o : Out). o .answer) (no-own-number (rulesBy (meant b)) (numbersOf b) (ownOf b) c v (look b) (own-below b h) l))
+      sym (ap (λ (o : Out). o .answer) (no-own-number (rulesBy (headerOf b)) (numbersOf b) (ownOf b) c v (look b) (own-below b h) l))
 
   module _ (l : c < numbersOf b) where
     -- 5
     pub lot-not-plausible : okBy (sheetAt b sheetPlace) v ≡ false → 5 ≡ stepOf b (publishing c v) .answer
     unfolding stepOf rulesBy rulesOf meant
     lot-not-plausible f =
-        sym (ap (λ (o : Out). o .answer) (not-publishable (rulesBy (meant b)) (numbersOf b) (ownOf b) c v (look b) (own-below b h) l f))
+        sym (ap (λ (o : Out). o .answer) (not-publishable (rulesBy (headerOf b)) (numbersOf b) (ownOf b) c v (look b) (own-below b h) l f))
 
     seen : look b (ownOf b) c .published ≡ slotAt b (slotPlace (nOf b) c)
     seen = published-seen b (ownOf b) c (record { is-legal = h; sender = own-below b h; number = l }) refl
@@ -54,12 +54,12 @@ module _ (b : List ℕ) (h : legal b ≡ true) (c : ℕ) (v : Decl) where
           let w = full-holds (slotAt b (slotPlace (nOf b) c)) (sym et ∙ e) in
           sym
           (ap (λ (o : Out). o .answer)
-          (already-published (rulesBy (meant b)) (numbersOf b) (ownOf b) c v (look b) (own-below b h) l ok (w .0) (seen ∙ w .1)))
+          (already-published (rulesBy (headerOf b)) (numbersOf b) (ownOf b) c v (look b) (own-below b h) l ok (w .0) (seen ∙ w .1)))
 
       step-publishes : t ≡ false → stepOf b (publishing c v) ≡ publishes v (look b (ownOf b) c)
       unfolding stepOf rulesBy rulesOf meant
       step-publishes e =
-          publishes-it (rulesBy (meant b)) (numbersOf b) (ownOf b) c v (look b) (own-below b h) l ok
+          publishes-it (rulesBy (headerOf b)) (numbersOf b) (ownOf b) c v (look b) (own-below b h) l ok
           (seen ∙ empty-holds (slotAt b (slotPlace (nOf b) c)) (sym et ∙ e))
 
       pub publication-accepted : t ≡ false → 0 ≡ stepOf b (publishing c v) .answer

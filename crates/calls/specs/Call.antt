@@ -35,7 +35,7 @@ carried b j c o = cond (eqb (o .answer) 0) (entered b j c o) (refusal (o .answer
 unfoldable pub stepOf : List ℕ → Call → Out
 unfolding rulesBy
 stepOf b a =
-    let B : Meaning = meant b in outcome (rulesBy B) (B .numbers) (B .own) a (B .entries)
+    let B : Meaning = meant b in outcome (rulesBy (B .header)) (B .header .numbers) (B .header .own) a (B .entries)
 
 unfoldable pub called : List ℕ → Call → Result
 unfolding stepOf entered

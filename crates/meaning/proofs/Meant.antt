@@ -15,8 +15,8 @@ use Rattle.sheet.proofs.OneForm.{gate-fits}
 use Rattle.entry.specs.Entry.{Decl, fresh}
 use Rattle.meaning.specs.Layout.{helpedPlace, perEntry, slotCount, slotPlace, entrySlot, sendSlot, echoSlot, readySlot, readySentSlot}
 use Rattle.meaning.specs.Layout.{deliveredSlot}
-use Rattle.meaning.specs.Book.{nOf, numbersOf, ownOf, limitOf, helpedOf, careOf, slotOf, forHouses, meant}
-use Rattle.meaning.specs.Legal.{legal, IsSlot, IsEntry, IsBook}
+use Rattle.meaning.specs.Book.{nOf, numbersOf, ownOf, limitOf, helpedOf, headerOf, helpOf, slotOf, forHouses, look, meant}
+use Rattle.meaning.specs.Legal.{legal, IsSlot, IsEntry, IsHeader, IsHelp, AreEntries, IsBook}
 use Rattle.meaning.proofs.Legality.{legal-facts, header-within, slot-within-book}
 use Rattle.meaning.proofs.Places.{entry-slot-below, published-slot-below}
 use Rattle.meaning.proofs.Slots.{slot-is-slot}
@@ -109,9 +109,9 @@ module _ (b : List ℕ) (h : legal b ≡ true) (bytes : Bytes b) where
       go true e = legal-facts b h .helped p (ltb-true p (nOf b) e)
       go false e = omega arith
 
-  pub meant-is-book : IsBook (meant b)
-  unfolding meant sheetAt careOf helpedOf
-  meant-is-book =
+  header-is : IsHeader (headerOf b)
+  unfolding headerOf sheetAt
+  header-is =
       let f = legal-facts b h in
       record {
         n = f .n;
@@ -123,11 +123,22 @@ module _ (b : List ℕ) (h : legal b ≡ true) (bytes : Bytes b) where
         conductivity = gate-fits (keptAt b 20);
         sheet = header-sheet-legal b (header-within b f) bytes (f .sheet);
         down = f .down;
-        limit = f .limit;
-        helped = helped-most;
-        helped-past = λ p l. rw (le-ltb p (nOf b) l);
-        entries = entries-are-entries (nOf b) (numbersOf b) (ownOf b) (slotOf b) slots-are-slots;
+      }
+
+  help-is : IsHelp (nOf b) (helpOf b)
+  unfolding helpOf helpedOf
+  help-is = record { limit = legal-facts b h .limit; most = helped-most; past = λ p l. rw (le-ltb p (nOf b) l) }
+
+  entries-are : AreEntries (headerOf b) (look b)
+  unfolding headerOf look
+  entries-are =
+      record {
+        each = entries-are-entries (nOf b) (numbersOf b) (ownOf b) (slotOf b) slots-are-slots;
         others = others-published (nOf b) (numbersOf b) (ownOf b) (slotOf b);
         past-sender = past-sender-fresh (nOf b) (numbersOf b) (ownOf b) (slotOf b);
         past-number = past-number-fresh (nOf b) (numbersOf b) (ownOf b) (slotOf b);
       }
+
+  pub meant-is-book : IsBook (meant b)
+  unfolding meant
+  meant-is-book = record { header = header-is; help = help-is; entries = entries-are }

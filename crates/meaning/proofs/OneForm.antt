@@ -5,11 +5,10 @@ use mathlib.Core.Bool.{true}
 use mathlib.Core.List.{List, _++_}
 use native.Mathlib.Omega.{arith}
 use Rattle.words.specs.Words.{Bytes}
-use Rattle.sheet.specs.Kept.{sheetAt}
 use Rattle.entry.specs.Entry.{Entry, place}
 use Rattle.meaning.specs.Slot.{slotBytes, part}
 use Rattle.meaning.specs.Layout.{headLength, slotCount, lengthOf, slotPlace}
-use Rattle.meaning.specs.Book.{nOf, numbersOf, ownOf, seasonOf, sheetPlace, careOf, slotOf, look, meant, rows, write}
+use Rattle.meaning.specs.Book.{nOf, numbersOf, headerOf, helpOf, slotOf, look, meant, rows, write}
 use Rattle.meaning.specs.Legal.{legal, Legal}
 use Rattle.meaning.proofs.Parts.{part-all, part-add}
 use Rattle.meaning.proofs.Legality.{legal-facts, slots-at, header-within, slot-within-book}
@@ -40,7 +39,7 @@ module _ (b : List ℕ) (h : legal b ≡ true) (bytes : Bytes b) where
   unfolding meant lengthOf headLength
   written =
       let e : 31 + nOf b ≡ 0 + (31 + nOf b) = omega arith in
-      write-slots (nOf b) (numbersOf b) (ownOf b) (seasonOf b) (sheetAt b sheetPlace) (careOf b) (slotOf b) (facts .own)
+      write-slots (headerOf b) (helpOf b) (slotOf b) (facts .own)
       ∙ ap₂ _++_ (header-bytes b (header-within b facts) bytes (facts .sheet)) slots-part
       ∙ ap (λ (k : ℕ). part b 0 (31 + nOf b) ++ part b k (slotCount (nOf b) (numbersOf b) * 21)) e
       ∙ sym (part-add b 0 (31 + nOf b) (slotCount (nOf b) (numbersOf b) * 21))
@@ -55,17 +54,7 @@ same-bytes b c h k p q e = sym (written b h p) ∙ ap write e ∙ written c k q
 module _ (b a : List ℕ) (j c : ℕ) (e : Entry) (s : Stored b a j c e) where
   pub stored-meant : meant a ≡ withEntries (meant b) (place (look b) j c e)
   unfolding meant
-  stored-meant =
-      λ i.
-      record {
-        n = s .n i;
-        numbers = s .numbers i;
-        own = s .own i;
-        season = s .season i;
-        sheet = s .sheet i;
-        care = s .care i;
-        entries = s .entries i;
-      }
+  stored-meant = λ i. record { header = s .header i; help = s .help i; entries = s .entries i }
 
   pub stored-bytes : a ≡ write (withEntries (meant b) (place (look b) j c e))
   stored-bytes = sym (written a (s .legal) (s .bytes)) ∙ ap write stored-meant

@@ -8,7 +8,8 @@ use native.Mathlib.Nat.{mul-le-mul, mul-le-mul-left, mul-le-mul-right}
 use native.Mathlib.Omega.{arith}
 use lib.Dec.{leb}
 use borrow.Author.Tests.{leb-true}
-use Rattle.meaning.specs.Layout.{mostNumbers, numbersOk, headLength, slotLength, perEntry, slotCount, lengthOf, slotPlace, entrySlot}
+use Rattle.meaning.specs.Layout.{mostNumbers, numbersOk, helpedPlace, headLength, slotLength, perEntry, slotCount, lengthOf}
+use Rattle.meaning.specs.Layout.{slotPlace, entrySlot}
 
 -- ---- S, and the length
 
@@ -41,8 +42,13 @@ pub length-most : lengthOf 16 4 ≤ 49152
 unfolding lengthOf headLength slotCount perEntry
 length-most = omega arith
 
-pub length-header : (n s : ℕ) → 31 + n ≤ lengthOf n s
-unfolding lengthOf headLength
+-- how often each asker was helped is the last of the header
+pub helped-within : (n p : ℕ) → p < n → helpedPlace p < headLength n
+unfolding headLength
+helped-within n p l = omega arith
+
+pub length-header : (n s : ℕ) → headLength n ≤ lengthOf n s
+unfolding lengthOf
 length-header n s = omega arith
 
 -- ---- a slot within the book, and two slots
@@ -51,8 +57,8 @@ pub slot-within : (n s k : ℕ) → k < slotCount n s → slotPlace n k + slotLe
 unfolding lengthOf slotPlace headLength
 slot-within n s k h = let l = mul-le-mul-left 21 h in omega arith
 
-pub slot-past-header : (n k : ℕ) → 31 + n ≤ slotPlace n k
-unfolding slotPlace headLength
+pub slot-past-header : (n k : ℕ) → headLength n ≤ slotPlace n k
+unfolding slotPlace
 slot-past-header n k = omega arith
 
 pub slots-apart : (n k m : ℕ) → (k ≡ m → ⊥)

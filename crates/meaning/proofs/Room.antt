@@ -5,13 +5,15 @@ use mathlib.Core.Bool.{true}
 use mathlib.Core.List.{List}
 use native.Mathlib.Omega.{arith}
 use lib.ListN.{length}
-use Rattle.meaning.specs.Layout.{perEntry, slotPlace, entrySlot}
+use Rattle.meaning.specs.Layout.{helpedPlace, headLength, perEntry, slotPlace, entrySlot}
 use Rattle.meaning.specs.Book.{nOf, numbersOf, ownOf, placeIn}
 use Rattle.meaning.specs.Legal.{legal, Has}
 use Rattle.meaning.proofs.Legality.{legal-facts}
 use Rattle.meaning.proofs.Places.{numbers-byte, length-header, slot-within, entry-slot-below, published-slot-below}
 
-pub header-room : (b : List ℕ) → legal b ≡ true → 31 + nOf b ≤ length b
+-- past how often the last house was helped
+pub header-room : (b : List ℕ) → legal b ≡ true → helpedPlace (nOf b) ≤ length b
+unfolding headLength
 header-room b h = omega (arith, legal-facts b h .long, length-header (nOf b) (numbersOf b))
 
 pub own-below : (b : List ℕ) → legal b ≡ true → ownOf b < nOf b

@@ -12,7 +12,7 @@ use Rattle.entry.specs.Entry.{Decl, Kind, SEND, ECHO, READY}
 use Rattle.protocol.specs.Steps.{say, given, takesSend, takes}
 use Rattle.meaning.specs.Slot.{putSlot}
 use Rattle.meaning.specs.Layout.{heardSlot, entrySlot, readySentSlot, deliveredSlot}
-use Rattle.meaning.specs.Book.{nOf, numbersOf, seasonOf, look, meant, placeIn}
+use Rattle.meaning.specs.Book.{nOf, numbersOf, seasonOf, look, placeIn, headerOf}
 use Rattle.meaning.specs.Legal.{legal, IsDecl, Has}
 use Rattle.meaning.proofs.Stores.{stored-heard, stored-taken}
 use Rattle.step.specs.declared.Marks.{Marks}
@@ -35,7 +35,7 @@ module _ (b : List ℕ) (h : legal b ≡ true) (bytes : Bytes b) (j c p : ℕ) (
   -- a SEND recorded, and its ECHO given
   pub send-entered : (base season : ℕ) (b₁ : List ℕ) (o : Outcome) → Begins b j c base → season ≡ seasonOf b → b₁ ≡ putSlot b base v
       → o ≡ giving 0 (given true (wired 2 season j c d)) (given false v)
-      → result o b₁ ≡ entered b j c (takes (rulesBy (meant b)) SEND p v (look b j c))
+      → result o b₁ ≡ entered b j c (takes (rulesBy (headerOf b)) SEND p v (look b j c))
   unfolding takesSend
   send-entered base season b₁ o at es e₁ eo =
       let s = stored-heard b h bytes v dv (nOf b) (numbersOf b) refl refl j c (has .sender) (has .number) SEND p hp in
@@ -68,7 +68,7 @@ module _ (b : List ℕ) (h : legal b ≡ true) (bytes : Bytes b) (j c p : ℕ) (
 
   taken : (k : Kind) → (k ≡ SEND → ⊥)
       → taking b h bytes j c p has hp v dv k (marksAt (heard-in b h bytes j c p has hp v dv k) k (placeIn b j c 0) v)
-      ≡ takes (rulesBy (meant b)) k p v (look b j c)
+      ≡ takes (rulesBy (headerOf b)) k p v (look b j c)
   taken SEND f = absurd (f refl)
   taken ECHO f = echo-taken b h bytes j c p has hp v dv
   taken READY f = ready-taken b h bytes j c p has hp v dv
@@ -114,7 +114,7 @@ module _ (b : List ℕ) (h : legal b ≡ true) (bytes : Bytes b) (j c p : ℕ) (
           let at-slot = ap (λ (x : ℕ). base + 21 * (1 + 2 * x) + 21) en ∙ next ∙ from (deliveredSlot (nOf b)) in
           e₃ ∙ (λ i. cond (m .delivers) (putSlot (second i) (at-slot i) (ew i)) (second i))
 
-      pub voucher-taken : (kind ≡ 1 → ⊥) → result o b₃ ≡ entered b j c (takes (rulesBy (meant b)) k p v (look b j c))
+      pub voucher-taken : (kind ≡ 1 → ⊥) → result o b₃ ≡ entered b j c (takes (rulesBy (headerOf b)) k p v (look b j c))
       voucher-taken f =
           let message = ap (λ (x : ℕ). given (m .gives) (wired 3 x j c d)) es ∙ letter-wired (seasonOf b) j c (m .gives) READY d in
           ap₂ result (eo ∙ ap (λ (x : Option (List ℕ)). giving 0 x (given (m .delivers) v)) message) third
