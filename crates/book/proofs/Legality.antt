@@ -14,8 +14,8 @@ use Rattle.sheet.specs.Kept.{sheetLegalAt}
 use Rattle.entry.proofs.Basics.{and-l, and-r, and-mk, and-false}
 use Rattle.entry.proofs.Basics as basics
 use Rattle.meaning.specs.Slot.{slotOk}
-use Rattle.meaning.specs.Layout.{numbersOk, mostLimit, helpedPlace, headLength, slotCount, lengthOf, slotPlace}
-use Rattle.meaning.specs.Book.{nOf, numbersOf, ownOf, downOf, limitOf, sheetPlace}
+use Rattle.meaning.specs.Layout.{numbersOk, mostLimit, helpedPlace, headLength, slotCount, lengthOf, slotPlace, limitPlace, sheetPlace}
+use Rattle.meaning.specs.Book.{nOf, numbersOf, ownOf, downOf, limitOf}
 use Rattle.meaning.specs.Legal.{slotsOk, helpsOk, helpOk, legal}
 use Rattle.meaning.specs.Opening.{allowed}
 use Rattle.book.specs.Parts.{sized}
@@ -91,12 +91,12 @@ module _ (b : List ℕ) where
   sized-long : sized b ≡ true → length b ≡ lengthOf (nOf b) (numbersOf b)
   sized-long h = eqb-true (length b) (lengthOf (nOf b) (numbersOf b)) (both h .1)
 
-  pub sized-room : (r : Bool) (k : ℕ) → r ≡ sized b → r ≡ true → k ≤ 30 → k < length b
+  pub sized-room : (r : Bool) (k : ℕ) → r ≡ sized b → r ≡ true → k ≤ limitPlace → k < length b
   unfolding lengthOf headLength
   sized-room r k e t h = let l = sized-long (sym e ∙ t) in omega arith
 
   -- so there is room for what is said of each house
-  pub helps-room : (n : ℕ) (r : Bool) → r ≡ sized b → r ≡ true → n ≡ nOf b → 31 + n ≤ length b
+  pub helps-room : (n : ℕ) (r : Bool) → r ≡ sized b → r ≡ true → n ≡ nOf b → helpedPlace n ≤ length b
   unfolding lengthOf headLength
   helps-room n r e t u = let l = sized-long (sym e ∙ t) in omega arith
 
@@ -109,7 +109,7 @@ module _ (b : List ℕ) where
       let q : k ≡ slotCount (nOf b) (numbersOf b) = w ∙ ap₂ slotCount u v in
       omega (arith, ap headLength u)
 
-  pub not-sized : length b < 31 → false ≡ sized b
+  pub not-sized : length b ≤ limitPlace → false ≡ sized b
   unfolding sized lengthOf headLength
   not-sized l =
       sym (and-false (allowed (nOf b) (numbersOf b) (ownOf b) (downOf b) (limitOf b)) _

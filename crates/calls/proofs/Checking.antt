@@ -9,12 +9,12 @@ use Rattle.sheet.specs.declared.Sheet.{Sheet}
 use Rattle.lot.specs.declared.Declaration.{Declaration}
 use Rattle.lot.specs.Declaration.{bytesOf}
 use Rattle.sheet.specs.Sheet.{sheetLegal, plausible}
-use Rattle.sheet.specs.Kept.{sheetAt}
 use Rattle.entry.specs.Entry.{Decl, Kind, heard}
 use Rattle.protocol.specs.Steps.{may, recording, receiveAnswer}
 use Rattle.protocol.specs.Book.{receiving}
 use Rattle.protocol.specs.Thresholds.{rulesOf}
-use Rattle.meaning.specs.Book.{nOf, numbersOf, ownOf, look, meant, sheetPlace, headerOf}
+use Rattle.meaning.specs.Book.{nOf, numbersOf, ownOf, look, meant, headerOf, sheetOf}
+use Rattle.meaning.specs.Layout.{sheetPlace}
 use Rattle.meaning.specs.Legal.{legal, IsDecl}
 use Rattle.meaning.proofs.Legality.{legal-facts}
 use Rattle.sheet.proofs.Gates.{legal-sheet}
@@ -45,14 +45,14 @@ module _ (b : List ℕ) (j c p kind : ℕ) (v : Decl) where
   from-voucher f r er = rw (may-vouch f) er
 
 -- the sheet of a legal book is legal
-pub book-sheet : (b : List ℕ) (s : Sheet) → legal b ≡ true → s ≡ sheetAt b sheetPlace → sheetLegal s ≡ true
+pub book-sheet : (b : List ℕ) (s : Sheet) → legal b ≡ true → s ≡ sheetOf b → sheetLegal s ≡ true
 book-sheet b s h e = ap sheetLegal e ∙ legal-sheet b sheetPlace (legal-facts b h .sheet)
 
 -- 5
 module _ (b : List ℕ) (s : Sheet) (d : Declaration) (t : Bool) (decl : IsDecl (bytesOf d))
-    (es : s ≡ sheetAt b sheetPlace) (et : t ≡ plausible s d) where
-  pub ok-is : t ≡ okBy (sheetAt b sheetPlace) (bytesOf d)
-  ok-is = et ∙ ap (λ (x : Sheet). plausible x d) es ∙ plausible-ok (sheetAt b sheetPlace) d decl
+    (es : s ≡ sheetOf b) (et : t ≡ plausible s d) where
+  pub ok-is : t ≡ okBy (sheetOf b) (bytesOf d)
+  ok-is = et ∙ ap (λ (x : Sheet). plausible x d) es ∙ plausible-ok (sheetOf b) d decl
 
 -- 4
 module _ (b : List ℕ) (j c p : ℕ) (k : Kind) (v : Decl) where

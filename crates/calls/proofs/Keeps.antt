@@ -14,7 +14,6 @@ use Rattle.words.specs.Words.{Bytes}
 use Rattle.sheet.specs.declared.Sheet.{Sheet}
 use Rattle.sheet.specs.Sheet.{plausible}
 use Rattle.lot.specs.Declaration.{declarationAt}
-use Rattle.sheet.specs.Kept.{sheetAt}
 use Rattle.message.specs.Message.{Five, readOf, requestOf}
 use Rattle.entry.specs.Entry.{Decl, Entry, fresh, PerEntry, sameEntry, place, Filled}
 use Rattle.protocol.specs.Steps.{Out, refused}
@@ -25,7 +24,7 @@ use Rattle.entry.proofs.Filled.{filled-refl}
 use Rattle.protocol.proofs.Calls.{outcome-done}
 use Rattle.meaning.specs.Layout.{lengthOf}
 use Rattle.meaning.specs.Book.{Help, helpedOf, headerOf, helpOf, moreHelp, withHelp, countHelp, Meaning, nOf, numbersOf, ownOf, seasonOf}
-use Rattle.meaning.specs.Book.{sheetPlace, look, meant}
+use Rattle.meaning.specs.Book.{sheetOf, look, meant}
 use Rattle.meaning.specs.Legal.{legal, IsDecl, IsEntry, IsBook}
 use Rattle.meaning.proofs.Legality.{legal-facts}
 use Rattle.meaning.proofs.Agree.{agree-n, agree-numbers}
@@ -89,7 +88,7 @@ module _ (b : List ℕ) (h : legal b ≡ true) (bytes : Bytes b) where
     unfolding stepOf meant rulesBy rulesOf
     fits =
         let I = meant-is-book b h bytes in
-        outcome-fits (rulesBy (headerOf b)) (numbersOf b) (ownOf b) (look b) a (plausible-decl (sheetAt b sheetPlace))
+        outcome-fits (rulesBy (headerOf b)) (numbersOf b) (ownOf b) (look b) a (plausible-decl (sheetOf b))
         (record { entry = I .entries .each j c; others = I .entries .others j c })
 
     -- what the step of an accepted call leaves is what a book may mean

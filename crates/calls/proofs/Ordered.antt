@@ -11,7 +11,6 @@ use lib.Dec.{eqb}
 use lib.ListN.{getD}
 use borrow.Author.Tests.{eqb-true, eq-eqb, ne-eqb, lt-ltb}
 use Rattle.lot.specs.Declaration.{bytesOf}
-use Rattle.sheet.specs.Kept.{sheetAt}
 use Rattle.message.specs.Message.{Five, Told, gives, malformed, readOf, requestOf}
 use Rattle.message.proofs.Request.{message-unasked}
 use Rattle.entry.specs.Entry.{Decl, Kind, heard}
@@ -19,7 +18,7 @@ use Rattle.protocol.specs.Steps.{Out, publishes, recording}
 use Rattle.protocol.specs.Book.{Call, publishing, senderOf, numberOf}
 use Rattle.protocol.specs.Thresholds.{rulesOf}
 use Rattle.meaning.specs.Layout.{helpedPlace}
-use Rattle.meaning.specs.Book.{nOf, numbersOf, ownOf, seasonOf, sheetPlace, limitOf, helpedOf, countHelp, look, meant, headerOf}
+use Rattle.meaning.specs.Book.{nOf, numbersOf, ownOf, seasonOf, limitOf, helpedOf, countHelp, look, meant, headerOf, sheetOf}
 use Rattle.meaning.specs.Legal.{legal}
 use Rattle.calls.specs.Entered.{helping, okBy, kindOf, rulesBy, entered}
 use Rattle.meaning.proofs.Room.{own-below}
@@ -55,7 +54,7 @@ module _ (b : List ℕ) where
       unfolding published
       publishing-answer n e = rw h (called-answer (publishing c v) ∙ sym e)
 
-      module _ (l : c < numbersOf b) (t : okBy (sheetAt b sheetPlace) v ≡ true) where
+      module _ (l : c < numbersOf b) (t : okBy (sheetOf b) v ≡ true) where
         already : (w : Decl) → look b (ownOf b) c .published ≡ some w → 8 ≡ stepOf b (publishing c v) .answer
         unfolding stepOf rulesBy rulesOf meant
         already w e =
@@ -131,10 +130,10 @@ module _ (b : List ℕ) where
         past : stepOf b (asked p m) .answer ≡ lotAnswer b p k j c v
         past = answer-past b j c p k v (I .sender) (I .number) (I .house)
 
-        not-plausible : okBy (sheetAt b sheetPlace) v ≡ false → 5 ≡ stepOf b (asked p m) .answer
+        not-plausible : okBy (sheetOf b) v ≡ false → 5 ≡ stepOf b (asked p m) .answer
         not-plausible f = sym (past ∙ rw f)
 
-        module _ (t : okBy (sheetAt b sheetPlace) v ≡ true) where
+        module _ (t : okBy (sheetOf b) v ≡ true) where
           from : (n : ℕ) → n ≡ fromAnswer b p k j c v → n ≡ stepOf b (asked p m) .answer
           from n e = sym (past ∙ rw t (sym e))
 

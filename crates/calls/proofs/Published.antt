@@ -11,14 +11,13 @@ use Rattle.words.specs.Words.{Bytes}
 use Rattle.lot.specs.declared.Declaration.{Declaration}
 use Rattle.lot.specs.Declaration.{declarationAt, bytesOf}
 use Rattle.lot.proofs.Declared.{bytes-of-numbers}
-use Rattle.sheet.specs.Kept.{sheetAt}
 use Rattle.entry.specs.Entry.{Decl, isSome}
 use Rattle.protocol.specs.Steps.{Out, publishes}
 use Rattle.protocol.specs.Book.{publishing}
 use Rattle.protocol.specs.Thresholds.{rulesOf}
 use Rattle.meaning.specs.Slot.{slotAt}
 use Rattle.meaning.specs.Layout.{slotPlace}
-use Rattle.meaning.specs.Book.{nOf, numbersOf, ownOf, look, meant, sheetPlace, headerOf}
+use Rattle.meaning.specs.Book.{nOf, numbersOf, ownOf, look, meant, headerOf, sheetOf}
 use Rattle.meaning.specs.Legal.{legal}
 use Rattle.calls.specs.declared.Outcome.{Outcome}
 use Rattle.calls.specs.Entered.{Result, result, giving, okBy, rulesBy, entered, publishedAt}
@@ -38,7 +37,7 @@ module _ (b : List ℕ) (h : legal b ≡ true) (c : ℕ) (v : Decl) where
 
   module _ (l : c < numbersOf b) where
     -- 5
-    pub lot-not-plausible : okBy (sheetAt b sheetPlace) v ≡ false → 5 ≡ stepOf b (publishing c v) .answer
+    pub lot-not-plausible : okBy (sheetOf b) v ≡ false → 5 ≡ stepOf b (publishing c v) .answer
     unfolding stepOf rulesBy rulesOf meant
     lot-not-plausible f =
         sym (ap (λ (o : Out). o .answer) (not-publishable (rulesBy (headerOf b)) (numbersOf b) (ownOf b) c v (look b) (own-below b h) l f))
@@ -46,7 +45,7 @@ module _ (b : List ℕ) (h : legal b ≡ true) (c : ℕ) (v : Decl) where
     seen : look b (ownOf b) c .published ≡ slotAt b (slotPlace (nOf b) c)
     seen = published-seen b (ownOf b) c (record { is-legal = h; sender = own-below b h; number = l }) refl
 
-    module _ (ok : okBy (sheetAt b sheetPlace) v ≡ true) (t : Bool) (et : t ≡ isSome (slotAt b (slotPlace (nOf b) c))) where
+    module _ (ok : okBy (sheetOf b) v ≡ true) (t : Bool) (et : t ≡ isSome (slotAt b (slotPlace (nOf b) c))) where
       -- 8
       pub published-already : t ≡ true → 8 ≡ stepOf b (publishing c v) .answer
       unfolding stepOf rulesBy rulesOf meant
@@ -76,9 +75,9 @@ module _ (b : List ℕ) (h : legal b ≡ true) (c : ℕ) (v : Decl) where
         go (no l) = absurd (omega (arith, own-number-missing (omega arith), z))
 
     step-is : stepOf b (publishing c v) ≡ publishes v (look b (ownOf b) c)
-    step-is = go (okBy (sheetAt b sheetPlace) v) (isSome (slotAt b (slotPlace (nOf b) c))) refl refl
+    step-is = go (okBy (sheetOf b) v) (isSome (slotAt b (slotPlace (nOf b) c))) refl refl
       where
-        go : (ok t : Bool) → okBy (sheetAt b sheetPlace) v ≡ ok → t ≡ isSome (slotAt b (slotPlace (nOf b) c))
+        go : (ok t : Bool) → okBy (sheetOf b) v ≡ ok → t ≡ isSome (slotAt b (slotPlace (nOf b) c))
             → stepOf b (publishing c v) ≡ publishes v (look b (ownOf b) c)
         go false t eo et = absurd (omega (arith, lot-not-plausible publication-number eo, z))
         go true true eo et = absurd (omega (arith, published-already publication-number eo true et refl, z))

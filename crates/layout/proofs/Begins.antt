@@ -1,13 +1,14 @@
--- An entry of a legal book begins where its first slot stands, and lies within the book.
-use Prim.Native.Nat.{ℕ, _-_, _<_}
+-- An entry of a legal book begins where its first slot stands, and lies within the book, slot by slot.
+use Prim.Native.Nat.{ℕ, _+_, _-_, _<_, _≤_}
 use mathlib.Core.Path.{_≡_, _∙_}
 use mathlib.Core.List.{List}
 use native.Mathlib.Omega.{arith}
-use Rattle.meaning.specs.Layout.{slotPlace, entrySlot}
+use lib.ListN.{length}
+use Rattle.meaning.specs.Layout.{perEntry, slotLength, placeFrom, slotPlace, entrySlot}
 use Rattle.meaning.specs.Book.{nOf, numbersOf, placeIn}
 use Rattle.meaning.specs.Legal.{Has}
 use Rattle.meaning.proofs.Legality.{legal-facts}
-use Rattle.layout.specs.Places.{Begins}
+use Rattle.layout.specs.Places.{Within, Begins}
 use Rattle.meaning.proofs.Room.{header-room, entry-room}
 
 pub begins : (b : List ℕ) (j c n s k r : ℕ) → Has b j c → n ≡ nOf b → s ≡ numbersOf b → k ≡ entrySlot n s c j 0
@@ -25,3 +26,5 @@ begins b j c n s k r has en es ek er small =
       };
     }
 
+pub slot-room : (b : List ℕ) (base i : ℕ) → Within b base → i < perEntry (nOf b) → placeFrom base i + slotLength ≤ length b
+slot-room b base i w l = omega (arith, w .room)

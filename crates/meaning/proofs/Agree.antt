@@ -2,8 +2,7 @@
 use mathlib.Core.Path.{_≡_, ap}
 use mathlib.Core.List.{List}
 use Prim.Native.Nat.{ℕ}
-use Rattle.sheet.specs.Kept.{sheetAt}
-use Rattle.meaning.specs.Book.{Header, headerOf, nOf, numbersOf, ownOf, seasonOf, sheetPlace, downOf}
+use Rattle.meaning.specs.Book.{Header, headerOf, nOf, numbersOf, ownOf, seasonOf, downOf, sheetOf}
 
 module _ (b c : List ℕ) (same : headerOf b ≡ headerOf c) where
   pub agree-n : nOf b ≡ nOf c
@@ -22,7 +21,7 @@ module _ (b c : List ℕ) (same : headerOf b ≡ headerOf c) where
   unfolding headerOf
   agree-season = ap (λ (h : Header). h .season) same
 
-  pub agree-sheet : sheetAt b sheetPlace ≡ sheetAt c sheetPlace
+  pub agree-sheet : sheetOf b ≡ sheetOf c
   unfolding headerOf
   agree-sheet = ap (λ (h : Header). h .sheet) same
 

@@ -17,8 +17,8 @@ use Rattle.sheet.specs.Kept.{sheetBytes, sheetAt, sheetLegalAt, isSheet}
 use Rattle.sheet.proofs.OneForm.{sheet-of-bytes, legal-bytes, sheet-bytes}
 use Rattle.entry.specs.Entry.{Entry, PerEntry}
 use Rattle.meaning.specs.Slot.{slotBytes, part, slotAt, slotOk}
-use Rattle.meaning.specs.Layout.{mostLimit, helpedPlace, headLength, slotCount, lengthOf, slotPlace}
-use Rattle.meaning.specs.Book.{Header, Help, Meaning, nOf, numbersOf, ownOf, seasonOf, sheetPlace, downOf, limitOf, helpedOf, slotOf}
+use Rattle.meaning.specs.Layout.{mostLimit, helpedPlace, headLength, slotCount, lengthOf, slotPlace, slotLength, sheetPlace}
+use Rattle.meaning.specs.Book.{Header, Help, Meaning, nOf, numbersOf, ownOf, seasonOf, downOf, limitOf, helpedOf, slotOf, sheetOf}
 use Rattle.meaning.specs.Book.{look, headerOf, helpOf, meant, helpBytes, head, rows, write}
 use Rattle.meaning.specs.Legal.{legal, IsBook}
 use Rattle.meaning.proofs.Parts.{getD-first, part-before, part-after}
@@ -51,7 +51,7 @@ module _ (B : Meaning) (ok : IsBook B) where
   abbrev each : ℕ → List ℕ
   each k = slotBytes (slotsOf B k)
 
-  each-long : (k : ℕ) → k < all → length (each k) ≡ 21
+  each-long : (k : ℕ) → k < all → length (each k) ≡ slotLength
   each-long k l = slot-bytes-length (slotsOf B k) (slots-are-slots B ok k)
 
   pub written-slots : write B ≡ top ++ rows all each
@@ -61,14 +61,15 @@ module _ (B : Meaning) (ok : IsBook B) where
 
   pub written-length : length (write B) ≡ lengthOf (h .n) (h .numbers)
   unfolding lengthOf
-  written-length = ap length written-slots ∙ length-append top (rows all each) ∙ omega (arith, top-long, rows-length 21 all each each-long)
+  written-length =
+      ap length written-slots ∙ length-append top (rows all each) ∙ omega (arith, top-long, rows-length slotLength all each each-long)
 
-  slot-written : (k : ℕ) → k < all → part (write B) (slotPlace (h .n) k) 21 ≡ each k
+  slot-written : (k : ℕ) → k < all → part (write B) (slotPlace (h .n) k) slotLength ≡ each k
   unfolding slotPlace
   slot-written k l =
-      ap (λ (b : List ℕ). part b (slotPlace (h .n) k) 21) written-slots
-      ∙ part-after top (rows all each) (slotPlace (h .n) k) (k * 21) 21 (omega (arith, top-long))
-      ∙ part-rows 21 all each each-long k l
+      ap (λ (b : List ℕ). part b (slotPlace (h .n) k) slotLength) written-slots
+      ∙ part-after top (rows all each) (slotPlace (h .n) k) (k * slotLength) slotLength (omega (arith, top-long))
+      ∙ part-rows slotLength all each each-long k l
 
   -- ---- the header
 
@@ -88,7 +89,7 @@ module _ (B : Meaning) (ok : IsBook B) where
   unfolding write
   season-written = word-be (h .season)
 
-  sheet-written : sheetAt (write B) sheetPlace ≡ h .sheet
+  sheet-written : sheetOf (write B) ≡ h .sheet
   unfolding write sheetAt sheetBytes
   sheet-written = sheet-of-bytes (h .sheet) (ok .header .moisture) (ok .header .conductivity)
 
@@ -112,10 +113,10 @@ module _ (B : Meaning) (ok : IsBook B) where
       let before : List ℕ =
       h .n ∷ h .numbers ∷ h .own ∷ be32 (h .season) ++ (sheetBytes (h .sheet) ++ (h .down ∷ w .limit ∷ [])) in
       let e : p ≡ p * 1 = omega arith in
-      getD-first (write B) (31 + p) 1 (omega arith)
+      getD-first (write B) (helpedPlace p) 1 (omega arith)
       ∙ ap (λ (l : List ℕ). getD l 0 0)
-      (ap (λ (b : List ℕ). part b (31 + p) 1) written-slots
-      ∙ part-after before (helps ++ rows all each) (31 + p) p 1 (omega arith)
+      (ap (λ (b : List ℕ). part b (helpedPlace p) 1) written-slots
+      ∙ part-after before (helps ++ rows all each) (helpedPlace p) p 1 (omega arith)
       ∙ part-before helps (rows all each) p 1 (omega (arith, helps-long))
       ∙ ap (λ (k : ℕ). part helps k 1) e
       ∙ part-rows 1 (h .n) (λ p. w .helped p ∷ []) (λ p l. refl) p l)

@@ -16,8 +16,8 @@ use Rattle.sheet.specs.Kept.{sheetBytes, sheetAt, sheetLegalAt, isSheet}
 use Rattle.sheet.proofs.Gates.{legal-sheet}
 use Rattle.sheet.proofs.OneForm.{bytes-of-sheet}
 use Rattle.meaning.specs.Slot.{part}
-use Rattle.meaning.specs.Book.{nOf, numbersOf, ownOf, sheetPlace, downOf, limitOf, helpedOf, headerOf, helpOf, helpBytes, head}
-use Rattle.meaning.specs.Layout.{downPlace, limitPlace, helpedPlace, headLength}
+use Rattle.meaning.specs.Book.{nOf, numbersOf, ownOf, downOf, limitOf, helpedOf, headerOf, helpOf, helpBytes, head, sheetOf}
+use Rattle.meaning.specs.Layout.{downPlace, limitPlace, helpedPlace, headLength, seasonPlace, sheetPlace, sheetLength}
 use Rattle.meaning.proofs.Agree.{agree-n}
 use Rattle.meaning.proofs.Rows.{rows-same, rows-parts}
 use Rattle.meaning.proofs.Parts.{part-length, getD-part, part-add, bytes-part}
@@ -67,36 +67,42 @@ module _ (b c : List ℕ) (same : (i : ℕ) → i < headLength (nOf c) → getD 
       go p true e = same-helped p (ltb-true p (nOf c) e)
       go p false e = refl
 
--- ---- the sheet's 22 bytes by themselves
+-- ---- the sheet's bytes by themselves
 
 module _ (b : List ℕ) (all : headLength (nOf b) ≤ length b) where
-  long : 29 ≤ length b
+  long : downPlace ≤ length b
   unfolding headLength
   long = omega (arith, all)
 
-  sheet-listed : listed 22 (λ i. getD b (7 + i) 0) ≡ part b 7 22
-  sheet-listed =
-      listed-same 22 (λ i. getD b (7 + i) 0) (λ i. getD (part b 7 22) i 0) (λ i l. sym (getD-part b 7 22 i l))
-      ∙ sym (listed-is (part b 7 22) 22 (part-length b 7 22 long))
+  abbrev kept : List ℕ
+  kept = part b sheetPlace sheetLength
 
-  sheet-part : sheetAt b sheetPlace ≡ sheetAt (part b 7 22) 0
+  kept-long : length kept ≡ sheetLength
+  kept-long = part-length b sheetPlace sheetLength long
+
+  sheet-listed : listed sheetLength (λ i. getD b (sheetPlace + i) 0) ≡ kept
+  sheet-listed =
+      listed-same sheetLength (λ i. getD b (sheetPlace + i) 0) (λ i. getD kept i 0) (λ i l. sym (getD-part b sheetPlace sheetLength i l))
+      ∙ sym (listed-is kept sheetLength kept-long)
+
+  sheet-part : sheetOf b ≡ sheetAt kept 0
   unfolding sheetAt
   sheet-part = ap (λ (h : List ℕ). sheetAt h 0) sheet-listed
 
-  legal-part : sheetLegalAt b sheetPlace ≡ sheetLegalAt (part b 7 22) 0
+  legal-part : sheetLegalAt b sheetPlace ≡ sheetLegalAt kept 0
   unfolding sheetLegalAt
   legal-part = ap (λ (h : List ℕ). sheetLegalAt h 0) sheet-listed
 
   module _ (bytes : Bytes b) (h : sheetLegalAt b sheetPlace ≡ true) where
-    part-is-sheet : isSheet (part b 7 22) ≡ true
+    kept-is-sheet : isSheet kept ≡ true
     unfolding isSheet
-    part-is-sheet = rw (eq-eqb (length (part b 7 22)) 22 (part-length b 7 22 long)) (sym legal-part ∙ h)
+    kept-is-sheet = rw (eq-eqb (length kept) sheetLength kept-long) (sym legal-part ∙ h)
 
-    pub header-sheet-legal : sheetLegal (sheetAt b sheetPlace) ≡ true
+    pub header-sheet-legal : sheetLegal (sheetOf b) ≡ true
     header-sheet-legal = legal-sheet b sheetPlace h
 
-    header-sheet-bytes : sheetBytes (sheetAt b sheetPlace) ≡ part b 7 22
-    header-sheet-bytes = ap sheetBytes sheet-part ∙ bytes-of-sheet (part b 7 22) (bytes-part b 7 22 bytes) part-is-sheet
+    header-sheet-bytes : sheetBytes (sheetOf b) ≡ kept
+    header-sheet-bytes = ap sheetBytes sheet-part ∙ bytes-of-sheet kept (bytes-part b sheetPlace sheetLength bytes) kept-is-sheet
 
     -- d and the help given
     one : (at : ℕ) → at + 1 ≤ length b → getD b at 0 ∷ [] ≡ part b at 1
@@ -125,17 +131,17 @@ module _ (b : List ℕ) (all : headLength (nOf b) ≤ length b) where
     unfolding head headerOf headLength
     header-bytes =
         let first =
-        listed-is (part b 0 7) 7 (part-length b 0 7 (omega (arith, all)))
-        ∙ listed-same 7 (λ i. getD (part b 0 7) i 0) (λ i. getD b (0 + i) 0) (getD-part b 0 7)
+        listed-is (part b 0 sheetPlace) sheetPlace (part-length b 0 sheetPlace (omega (arith, all)))
+        ∙ listed-same sheetPlace (λ i. getD (part b 0 sheetPlace) i 0) (λ i. getD b (0 + i) 0) (getD-part b 0 sheetPlace)
         in
         let rest : ℕ = 1 + (1 + nOf b) in
-        let size : headLength (nOf b) ≡ 7 + (22 + (1 + (1 + nOf b))) = omega arith in
+        let size : headLength (nOf b) ≡ sheetPlace + (sheetLength + (1 + (1 + nOf b))) = omega arith in
         sym
         (ap (λ (m : ℕ). part b 0 m) size
-        ∙ part-add b 0 7 (22 + rest)
-        ∙ ap (λ (l : List ℕ). part b 0 7 ++ l) (part-add b 7 22 rest)
-        ∙ ap (λ (l : List ℕ). part b 0 7 ++ (part b 7 22 ++ l)) (part-add b downPlace 1 (1 + nOf b))
+        ∙ part-add b 0 sheetPlace (sheetLength + rest)
+        ∙ ap (λ (l : List ℕ). part b 0 sheetPlace ++ l) (part-add b sheetPlace sheetLength rest)
+        ∙ ap (λ (l : List ℕ). part b 0 sheetPlace ++ (kept ++ l)) (part-add b downPlace 1 (1 + nOf b))
         ∙ (λ i. first i ++ (sym header-sheet-bytes i ++ (sym (one downPlace (omega (arith, all))) i ++ sym help-bytes i)))
         ∙ (λ i.
-        nOf b ∷ numbersOf b ∷ ownOf b ∷ be-wordAt b bytes 3 i
-        ++ (sheetBytes (sheetAt b sheetPlace) ++ (downOf b ∷ helpBytes (nOf b) (helpOf b)))))
+        nOf b ∷ numbersOf b ∷ ownOf b ∷ be-wordAt b bytes seasonPlace i
+        ++ (sheetBytes (sheetOf b) ++ (downOf b ∷ helpBytes (nOf b) (helpOf b)))))

@@ -13,7 +13,7 @@ use borrow.Author.Tests.{eqb-true, eqb-false, lt-ltb}
 use Rattle.words.specs.Words.{Bytes}
 use Rattle.entry.specs.Entry.{upd}
 use Rattle.meaning.specs.Slot.{part, slotAt, slotOk}
-use Rattle.meaning.specs.Layout.{mostLimit, limitPlace, helpedPlace, slotCount, slotPlace}
+use Rattle.meaning.specs.Layout.{mostLimit, limitPlace, helpedPlace, slotCount, slotPlace, slotLength}
 use Rattle.meaning.specs.Book.{nOf, numbersOf, ownOf, limitOf, helpedOf, headerOf, helpOf, moreHelp, withHelp, countHelp, slotOf}
 use Rattle.meaning.specs.Book.{meant, write}
 use Rattle.meaning.specs.Legal.{legal, Legal}
@@ -69,9 +69,9 @@ module _ (b : List ℕ) (h : legal b ≡ true) (bytes : Bytes b) (p : ℕ) (lp :
   limit-kept : limitOf after ≡ limitOf b
   limit-kept = first limitPlace (omega arith)
 
-  part-kept : (k : ℕ) → part after (slotPlace (nOf b) k) 21 ≡ part b (slotPlace (nOf b) k) 21
+  part-kept : (k : ℕ) → part after (slotPlace (nOf b) k) slotLength ≡ part b (slotPlace (nOf b) k) slotLength
   part-kept k =
-      part-set b (helpedPlace p) more (slotPlace (nOf b) k) 21
+      part-set b (helpedPlace p) more (slotPlace (nOf b) k) slotLength
       (omega (arith, helped-within (nOf b) p lp, slot-past-header (nOf b) k))
 
   slots-kept : slotOf after ≡ slotOf b

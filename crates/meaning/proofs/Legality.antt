@@ -11,8 +11,9 @@ use borrow.Author.Tests.{eqb-true, eq-eqb, ltb-true, lt-ltb, leb-true, le-leb}
 use Rattle.card.specs.Card.{houses, downOk}
 use Rattle.sheet.specs.Kept.{sheetLegalAt}
 use Rattle.meaning.specs.Slot.{slotOk}
-use Rattle.meaning.specs.Layout.{numbersOk, mostLimit, helpedPlace, headLength, slotCount, lengthOf, slotPlace}
-use Rattle.meaning.specs.Book.{nOf, numbersOf, ownOf, downOf, limitOf, sheetPlace}
+use Rattle.meaning.specs.Layout.{numbersOk, mostLimit, helpedPlace, headLength, slotCount, lengthOf, slotPlace, slotLength}
+use Rattle.meaning.specs.Layout.{sheetPlace}
+use Rattle.meaning.specs.Book.{nOf, numbersOf, ownOf, downOf, limitOf}
 use Rattle.meaning.specs.Legal.{slotsOk, helpsOk, helpOk, legal, Legal}
 use Rattle.meaning.proofs.Places.{length-header, slot-within}
 
@@ -119,5 +120,5 @@ module _ (b : List ℕ) where
     pub header-within : headLength (nOf b) ≤ length b
     header-within = omega (arith, length-header (nOf b) (numbersOf b), l .long)
 
-    pub slot-within-book : (k : ℕ) → k < slotCount (nOf b) (numbersOf b) → slotPlace (nOf b) k + 21 ≤ length b
+    pub slot-within-book : (k : ℕ) → k < slotCount (nOf b) (numbersOf b) → slotPlace (nOf b) k + slotLength ≤ length b
     slot-within-book k h = omega (arith, slot-within (nOf b) (numbersOf b) k h, l .long)

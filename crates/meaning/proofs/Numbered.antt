@@ -14,12 +14,12 @@ use Rattle.meaning.specs.Legal.{IsSlot, IsEntry, IsBook}
 use Rattle.meaning.proofs.Written.{withEntries}
 use Rattle.meaning.proofs.Entries.{entryFrom, rowIn, publishedIn, entryIn, entriesIn, entry-same}
 
--- slot i of an entry's row
+-- slot i of an entry's row; the READYs begin where an ECHO from a house n would stand
 abbrev inRow : ℕ → Entry → ℕ → Option Decl
 inRow n e i =
-    cond (ltb i 1) (e .send)
-    (cond (ltb i (1 + n)) (e .echo (i - 1))
-    (cond (ltb i (1 + 2 * n)) (e .ready (i - (1 + n))) (cond (ltb i (2 + 2 * n)) (e .readySent) (e .delivered))))
+    cond (ltb i (echoSlot 0)) (e .send)
+    (cond (ltb i (echoSlot n)) (e .echo (i - echoSlot 0))
+    (cond (ltb i (readySentSlot n)) (e .ready (i - echoSlot n)) (cond (ltb i (deliveredSlot n)) (e .readySent) (e .delivered))))
 
 -- slot k of the book
 unfoldable pub slotsOf : Meaning → ℕ → Option Decl
@@ -39,24 +39,26 @@ pick x y false a b = b
 module _ (n : ℕ) (e : Entry) where
   echo-at : (p : ℕ) → p < n → inRow n e (echoSlot p) ≡ e .echo p
   echo-at p l =
-      let x : 1 + p - 1 ≡ p = omega arith in
-      rw (le-ltb (1 + p) 1 (omega arith), lt-ltb (1 + p) (1 + n) (omega arith), x)
+      let x : echoSlot p - echoSlot 0 ≡ p = omega arith in
+      rw (le-ltb (echoSlot p) (echoSlot 0) (omega arith), lt-ltb (echoSlot p) (echoSlot n) (omega arith), x)
 
   ready-at : (p : ℕ) → p < n → inRow n e (readySlot n p) ≡ e .ready p
   ready-at p l =
-      let i = 1 + n + p in
-      let x : 1 + n + p - (1 + n) ≡ p = omega arith in
-      rw (le-ltb i 1 (omega arith), le-ltb i (1 + n) (omega arith), lt-ltb i (1 + 2 * n) (omega arith), x)
+      let i = readySlot n p in
+      let x : readySlot n p - echoSlot n ≡ p = omega arith in
+      rw (le-ltb i (echoSlot 0) (omega arith), le-ltb i (echoSlot n) (omega arith), lt-ltb i (readySentSlot n) (omega arith), x)
 
   sent-at : inRow n e (readySentSlot n) ≡ e .readySent
   sent-at =
-      let i = 1 + 2 * n in
-      rw (le-ltb i 1 (omega arith), le-ltb i (1 + n) (omega arith), le-ltb i i (omega arith), lt-ltb i (2 + 2 * n) (omega arith))
+      let i = readySentSlot n in
+      let ready = le-ltb i i (omega arith) in
+      rw (le-ltb i (echoSlot 0) (omega arith), le-ltb i (echoSlot n) (omega arith), ready, lt-ltb i (deliveredSlot n) (omega arith))
 
   delivered-at : inRow n e (deliveredSlot n) ≡ e .delivered
   delivered-at =
-      let i = 2 + 2 * n in
-      rw (le-ltb i 1 (omega arith), le-ltb i (1 + n) (omega arith), le-ltb i (1 + 2 * n) (omega arith), le-ltb i i (omega arith))
+      let i = deliveredSlot n in
+      let ready = le-ltb i (readySentSlot n) (omega arith) in
+      rw (le-ltb i (echoSlot 0) (omega arith), le-ltb i (echoSlot n) (omega arith), ready, le-ltb i i (omega arith))
 
   houses-are : (f g : ℕ → Option Decl) → ((p : ℕ) → p < n → f p ≡ g p) → ((p : ℕ) → n ≤ p → g p ≡ none) → forHouses n f ≡ g
   houses-are f g h past = fun-ext (λ p. go p (ltb p n) refl)
@@ -81,19 +83,19 @@ module _ (n : ℕ) (e : Entry) where
 
   row-is-slot : IsEntry n e → (i : ℕ) → IsSlot (inRow n e i)
   row-is-slot ok i =
-      pick (e .send) echoes (ltb i 1) (ok .send)
-      (pick (e .echo (i - 1)) readies (ltb i (1 + n)) (ok .echo (i - 1))
-      (pick (e .ready (i - (1 + n))) marks (ltb i (1 + 2 * n)) (ok .ready (i - (1 + n)))
-      (pick (e .readySent) (e .delivered) (ltb i (2 + 2 * n)) (ok .readySent) (ok .delivered))))
+      pick (e .send) echoes (ltb i (echoSlot 0)) (ok .send)
+      (pick (e .echo (i - echoSlot 0)) readies (ltb i (echoSlot n)) (ok .echo (i - echoSlot 0))
+      (pick (e .ready (i - echoSlot n)) marks (ltb i (readySentSlot n)) (ok .ready (i - echoSlot n))
+      (pick (e .readySent) (e .delivered) (ltb i (deliveredSlot n)) (ok .readySent) (ok .delivered))))
     where
       marks : Option Decl
-      marks = cond (ltb i (2 + 2 * n)) (e .readySent) (e .delivered)
+      marks = cond (ltb i (deliveredSlot n)) (e .readySent) (e .delivered)
 
       readies : Option Decl
-      readies = cond (ltb i (1 + 2 * n)) (e .ready (i - (1 + n))) marks
+      readies = cond (ltb i (readySentSlot n)) (e .ready (i - echoSlot n)) marks
 
       echoes : Option Decl
-      echoes = cond (ltb i (1 + n)) (e .echo (i - 1)) readies
+      echoes = cond (ltb i (echoSlot n)) (e .echo (i - echoSlot 0)) readies
 
 -- ---- the book
 
@@ -158,10 +160,10 @@ pick-stays x y x₂ y₂ false f g = g
 
 row-stays : (n : ℕ) (e e₂ : Entry) → Filled e e₂ → (i : ℕ) → Stays (inRow n e i) (inRow n e₂ i)
 row-stays n e e₂ f i =
-    pick-stays _ _ _ _ (ltb i 1) (f .send)
-    (pick-stays _ _ _ _ (ltb i (1 + n)) (f .echo (i - 1))
-    (pick-stays _ _ _ _ (ltb i (1 + 2 * n)) (f .ready (i - (1 + n)))
-    (pick-stays _ _ _ _ (ltb i (2 + 2 * n)) (f .readySent) (f .delivered))))
+    pick-stays _ _ _ _ (ltb i (echoSlot 0)) (f .send)
+    (pick-stays _ _ _ _ (ltb i (echoSlot n)) (f .echo (i - echoSlot 0))
+    (pick-stays _ _ _ _ (ltb i (readySentSlot n)) (f .ready (i - echoSlot n))
+    (pick-stays _ _ _ _ (ltb i (deliveredSlot n)) (f .readySent) (f .delivered))))
 
 pub slots-stay : (B : Meaning) (f : PerEntry Entry) → ((j c : ℕ) → Filled (B .entries j c) (f j c)) → (k : ℕ)
     → Stays (slotsOf B k) (slotsOf (withEntries B f) k)

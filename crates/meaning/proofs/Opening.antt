@@ -74,7 +74,7 @@ module _ (h : Header) (d : ℕ) (below : h .own < h .n) where
       (λ i. write (record { header = h; help = freshHelp d; entries = none-fresh i }))
       ∙ write-slots h (freshHelp d) (λ k. none) below
       ∙ ap (λ (l : List ℕ). head h (freshHelp d) ++ l)
-      (rows-zeros (slotCount n s) 21 ∙ ap (λ (m : ℕ). replicate m 0) (mul-comm (slotCount n s) 21))
+      (rows-zeros (slotCount n s) slotLength ∙ ap (λ (m : ℕ). replicate m 0) (mul-comm (slotCount n s) slotLength))
 
   pub fresh-length : length (write (freshBook h d)) ≡ lengthOf n s
   unfolding lengthOf

@@ -9,7 +9,7 @@ use native.Mathlib.Omega.{arith}
 use lib.Dec.{leb}
 use borrow.Author.Tests.{leb-true}
 use Rattle.meaning.specs.Layout.{mostNumbers, numbersOk, helpedPlace, headLength, slotLength, perEntry, slotCount, lengthOf}
-use Rattle.meaning.specs.Layout.{slotPlace, entrySlot}
+use Rattle.meaning.specs.Layout.{slotPlace, entrySlot, sendSlot, echoSlot, readySlot, readySentSlot, deliveredSlot}
 
 -- ---- S, and the length
 
@@ -55,7 +55,7 @@ length-header n s = omega arith
 
 pub slot-within : (n s k : ℕ) → k < slotCount n s → slotPlace n k + slotLength ≤ lengthOf n s
 unfolding lengthOf slotPlace headLength
-slot-within n s k h = let l = mul-le-mul-left 21 h in omega arith
+slot-within n s k h = let l = mul-le-mul-left slotLength h in omega arith
 
 pub slot-past-header : (n k : ℕ) → headLength n ≤ slotPlace n k
 unfolding slotPlace
@@ -91,6 +91,27 @@ same-row m r r₂ i i₂ l l₂ e =
     let q : r ≡ r₂ = omega arith in
     let h : r₂ * m + i ≡ r₂ * m + i₂ = rw q at e in
     (q, omega arith)
+
+-- the slots of an entry that have a name
+pub send-below : (n : ℕ) → sendSlot < perEntry n
+unfolding perEntry
+send-below n = omega arith
+
+pub echo-below : (n p : ℕ) → p < n → echoSlot p < perEntry n
+unfolding perEntry
+echo-below n p l = omega arith
+
+pub ready-below : (n p : ℕ) → p < n → readySlot n p < perEntry n
+unfolding perEntry
+ready-below n p l = omega arith
+
+pub ready-sent-below : (n : ℕ) → readySentSlot n < perEntry n
+unfolding perEntry
+ready-sent-below n = omega arith
+
+pub delivered-below : (n : ℕ) → deliveredSlot n < perEntry n
+unfolding perEntry
+delivered-below n = omega arith
 
 pub entry-slot-below : (n s c j i : ℕ) → c < s → j < n → i < perEntry n → entrySlot n s c j i < slotCount n s
 unfolding entrySlot slotCount

@@ -13,11 +13,12 @@ use Rattle.words.specs.Words.{Bytes}
 use Rattle.entry.specs.Entry.{Decl, Kind, SEND, ECHO, READY, Entry, upd, recorded, marked, PerEntry, sameEntry, place, announced}
 use Rattle.meaning.specs.Slot.{slotAt, slotOk, putSlot}
 use Rattle.meaning.specs.Layout.{helpedPlace, headLength, perEntry, slotCount, slotPlace, entrySlot, sendSlot, echoSlot, readySlot}
-use Rattle.meaning.specs.Layout.{readySentSlot, deliveredSlot, heardSlot}
+use Rattle.meaning.specs.Layout.{readySentSlot, deliveredSlot, heardSlot, slotLength}
 use Rattle.meaning.specs.Book.{nOf, numbersOf, ownOf, limitOf, headerOf, helpOf, slotOf, look}
 use Rattle.meaning.specs.Legal.{legal, Legal, IsDecl}
 use Rattle.meaning.proofs.Legality.{legal-facts, facts-legal, slots-at, slots-all, slot-within-book}
-use Rattle.meaning.proofs.Places.{slot-past-header, slots-apart, entry-slot-below, published-slot-below}
+use Rattle.meaning.proofs.Places.{slot-past-header, slots-apart, send-below, echo-below, ready-below, ready-sent-below}
+use Rattle.meaning.proofs.Places.{delivered-below, entry-slot-below, published-slot-below}
 use Rattle.meaning.proofs.Slots.{put-length, slot-put, ok-put, put-bytes, getD-elsewhere, slot-elsewhere, ok-elsewhere}
 use Rattle.meaning.proofs.Agree.{agree-n, agree-numbers, agree-own, agree-down}
 use Rattle.meaning.proofs.Header.{same-header, same-sheet-legal, same-first, same-limit, same-helped, same-help}
@@ -92,7 +93,7 @@ module _ (b : List ℕ) (h : legal b ≡ true) (bytes : Bytes b) (v : Decl) (d :
     abbrev after : List ℕ
     after = putSlot b at v
 
-    fits : at + 21 ≤ length b
+    fits : at + slotLength ≤ length b
     fits = slot-within-book b facts k hk
 
     before : (i : ℕ) → i < headLength (nOf b) → getD after i 0 ≡ getD b i 0
@@ -205,22 +206,19 @@ module _ (b : List ℕ) (h : legal b ≡ true) (bytes : Bytes b) (v : Decl) (d :
       -- a message of the kind recorded
       pub stored-heard : (k : Kind) (p : ℕ) → p < n
           → Stored b (putSlot b (slotPlace n (entrySlot n s c j (heardSlot n k p))) v) j c (recorded k p v (look b j c))
-      unfolding perEntry
-      stored-heard SEND p h = stored-in sendSlot (recorded SEND p v) (omega arith) (λ row o. send-filled n row o v p)
-      stored-heard ECHO p h = stored-in (echoSlot p) (recorded ECHO p v) (omega arith) (λ row o. echo-filled n row o v p h)
-      stored-heard READY p h = stored-in (readySlot n p) (recorded READY p v) (omega arith) (λ row o. ready-filled n row o v p h)
+      stored-heard SEND p h = stored-in sendSlot (recorded SEND p v) (send-below n) (λ row o. send-filled n row o v p)
+      stored-heard ECHO p h = stored-in (echoSlot p) (recorded ECHO p v) (echo-below n p h) (λ row o. echo-filled n row o v p h)
+      stored-heard READY p h = stored-in (readySlot n p) (recorded READY p v) (ready-below n p h) (λ row o. ready-filled n row o v p h)
 
       -- the READY sent marked, where r says so; the delivered, where r says so
       pub stored-ready-sent : (r : Bool)
           → Stored b (cond r (putSlot b (slotPlace n (entrySlot n s c j (readySentSlot n))) v) b) j c (marked r false v (look b j c))
-      unfolding perEntry
-      stored-ready-sent true = stored-in (readySentSlot n) (marked true false v) (omega arith) (λ row o. ready-sent-filled n row o v)
+      stored-ready-sent true = stored-in (readySentSlot n) (marked true false v) (ready-sent-below n) (λ row o. ready-sent-filled n row o v)
       stored-ready-sent false = stored-none b j c h bytes
 
       pub stored-delivered : (r : Bool)
           → Stored b (cond r (putSlot b (slotPlace n (entrySlot n s c j (deliveredSlot n))) v) b) j c (marked false r v (look b j c))
-      unfolding perEntry
-      stored-delivered true = stored-in (deliveredSlot n) (marked false true v) (omega arith) (λ row o. delivered-filled n row o v)
+      stored-delivered true = stored-in (deliveredSlot n) (marked false true v) (delivered-below n) (λ row o. delivered-filled n row o v)
       stored-delivered false = stored-none b j c h bytes
 
 -- ---- a message's stores: recorded, the READY sent marked or not, the delivered marked or not

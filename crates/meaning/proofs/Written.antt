@@ -10,7 +10,7 @@ use native.Mathlib.Omega.{arith}
 use borrow.Author.Tests.{eq-eqb, lt-ltb}
 use Rattle.entry.specs.Entry.{Decl, Entry, PerEntry}
 use Rattle.meaning.specs.Slot.{slotBytes}
-use Rattle.meaning.specs.Layout.{headLength, perEntry, slotCount, entrySlot, echoSlot, readySlot}
+use Rattle.meaning.specs.Layout.{headLength, perEntry, slotCount, entrySlot, echoSlot, readySlot, readySentSlot, deliveredSlot}
 use Rattle.meaning.specs.Book.{Header, Help, Meaning, forHouses, helpBytes, head, rows, entryBytes, write}
 use Rattle.meaning.proofs.Rows.{rows-same, rows-add, rows-flat, rows-length}
 use Rattle.meaning.proofs.Entries.{entryFrom, rowIn, publishedIn, entriesIn, entries-in}
@@ -27,14 +27,14 @@ entry-rows : (n : ℕ) (row : ℕ → Option Decl) (o : Option Decl)
     → entryBytes n (entryFrom n row o) ≡ rows (perEntry n) (λ i. slotBytes (row i))
 unfolding entryBytes perEntry rows
 entry-rows n row o =
-    let count : 2 * n + 3 ≡ 1 + (n + (n + 2)) = omega arith in
+    let count : perEntry n ≡ 1 + (n + (n + 2)) = omega arith in
     let echo = rows-same n (λ p. f (1 + p)) (λ p. slotBytes (forHouses n echoes p)) (λ p l. ap slotBytes (in-houses n echoes p l)) in
     let ready =
     rows-same n (λ p. f (1 + (n + p))) (λ p. slotBytes (forHouses n readies p))
-    (λ p l. let e : 1 + (n + p) ≡ 1 + n + p = omega arith in ap f e ∙ ap slotBytes (in-houses n readies p l))
+    (λ p l. let e : 1 + (n + p) ≡ readySlot n p = omega arith in ap f e ∙ ap slotBytes (in-houses n readies p l))
     in
-    let sent : 1 + (n + (n + 0)) ≡ 1 + 2 * n = omega arith in
-    let delivered : 1 + (n + (n + 1)) ≡ 2 + 2 * n = omega arith in
+    let sent : 1 + (n + (n + 0)) ≡ readySentSlot n = omega arith in
+    let delivered : 1 + (n + (n + 1)) ≡ deliveredSlot n = omega arith in
     sym
     (ap (λ (x : ℕ). rows x f) count
     ∙ rows-add 1 (n + (n + 2)) f

@@ -10,8 +10,8 @@ use Rattle.sheet.specs.declared.Sheet.{Sheet}
 use Rattle.sheet.specs.Kept.{sheetBytes, sheetAt}
 use Rattle.entry.specs.Entry.{Decl, Entry, fresh, upd, PerEntry}
 use Rattle.meaning.specs.Slot.{slotBytes, slotAt}
-use Rattle.meaning.specs.Layout.{downPlace, limitPlace, helpedPlace, slotPlace, entrySlot, sendSlot, echoSlot, readySlot}
-use Rattle.meaning.specs.Layout.{readySentSlot, deliveredSlot}
+use Rattle.meaning.specs.Layout.{nPlace, numbersPlace, ownPlace, seasonPlace, sheetPlace, downPlace, limitPlace, helpedPlace}
+use Rattle.meaning.specs.Layout.{slotPlace, publishedSlot, entrySlot, sendSlot, echoSlot, readySlot, readySentSlot, deliveredSlot}
 
 -- n, S, own number, season, sheet and f: what no call changes, and all that publishing and receiving a message read beside the entry
 pub record Header : Type 0 where
@@ -36,19 +36,19 @@ pub record Meaning : Type 0 where
 -- ---- from bytes to their meaning
 
 abbrev pub nOf : List ℕ → ℕ
-nOf b = getD b 0 0
+nOf b = getD b nPlace 0
 
 abbrev pub numbersOf : List ℕ → ℕ
-numbersOf b = getD b 1 0
+numbersOf b = getD b numbersPlace 0
 
 abbrev pub ownOf : List ℕ → ℕ
-ownOf b = getD b 2 0
+ownOf b = getD b ownPlace 0
 
 abbrev pub seasonOf : List ℕ → ℕ
-seasonOf b = wordAt b 3
+seasonOf b = wordAt b seasonPlace
 
-abbrev pub sheetPlace : ℕ
-sheetPlace = 7
+abbrev pub sheetOf : List ℕ → Sheet
+sheetOf b = sheetAt b sheetPlace
 
 abbrev pub downOf : List ℕ → ℕ
 downOf b = getD b downPlace 0
@@ -67,7 +67,7 @@ headerOf b =
       numbers = numbersOf b;
       own = ownOf b;
       season = seasonOf b;
-      sheet = sheetAt b sheetPlace;
+      sheet = sheetOf b;
       down = downOf b;
     }
 
@@ -114,7 +114,7 @@ entryOf b j c =
       ready = forHouses (nOf b) (λ p. slotIn b j c (readySlot (nOf b) p));
       readySent = slotIn b j c (readySentSlot (nOf b));
       delivered = slotIn b j c (deliveredSlot (nOf b));
-      published = cond (eqb j (ownOf b)) (slotOf b c) none;
+      published = cond (eqb j (ownOf b)) (slotOf b (publishedSlot c)) none;
     }
 
 -- every entry in the book, and nothing outside

@@ -12,8 +12,8 @@ use Rattle.sheet.specs.Sheet.{GateFits, sheetLegal}
 use Rattle.sheet.specs.Kept.{sheetLegalAt}
 use Rattle.entry.specs.Entry.{Decl, Entry, fresh, PerEntry}
 use Rattle.meaning.specs.Slot.{slotOk}
-use Rattle.meaning.specs.Layout.{numbersOk, mostLimit, helpedPlace, slotCount, lengthOf, slotPlace}
-use Rattle.meaning.specs.Book.{Header, Help, Meaning, nOf, numbersOf, ownOf, downOf, limitOf, sheetPlace}
+use Rattle.meaning.specs.Layout.{numbersOk, mostLimit, sheetPlace, helpedPlace, slotCount, lengthOf, slotPlace}
+use Rattle.meaning.specs.Book.{Header, Help, Meaning, nOf, numbersOf, ownOf, downOf, limitOf}
 
 -- the first k slots of a book of n houses have one byte form per meaning
 unfoldable pub slotsOk : List ℕ → (n k : ℕ) → Bool

@@ -7,8 +7,7 @@ use Rattle.meaning.specs.Layout.{slotPlace}
 use Rattle.meaning.specs.Slot.{slotAt}
 use Rattle.entry.specs.Entry.{isSome}
 use Prim.Native.Nat.{ℕ, _<_}
-use Rattle.sheet.specs.Kept.{sheetAt}
-use Rattle.meaning.specs.Book.{nOf, numbersOf, sheetPlace}
+use Rattle.meaning.specs.Book.{nOf, numbersOf, sheetOf}
 use Rattle.calls.specs.Entered.{okBy}
 use native.Mathlib.Omega.{arith}
 use denote.Ref.{now}
@@ -45,7 +44,7 @@ is-full-requires c κs =
 
 -- the second test is document 01's
 ok : (c : tie.After-is-plausible) → let start = c .before .before .before .before .before in
-    c .is-plausible .result ≡ okBy (sheetAt (now (start .args .book)) sheetPlace) (bytesOf (start .args .d))
+    c .is-plausible .result ≡ okBy (sheetOf (now (start .args .book))) (bytesOf (start .args .d))
 ok c =
     let s = c .before in
     let start = s .before .before .before .before in
