@@ -16,15 +16,15 @@ use Rattle.calls.specs.Accepted.{countsBy, Claims}
 
 quorum-by : (h : Header) → rulesBy h .quorum ≡ countsBy h .quorum
 unfolding rulesBy rulesOf countsOf
-quorum-by B = refl
+quorum-by h = refl
 
 amplify-by : (h : Header) → rulesBy h .amplify ≡ countsBy h .amplify
 unfolding rulesBy rulesOf countsOf
-amplify-by B = refl
+amplify-by h = refl
 
 deliver-by : (h : Header) → rulesBy h .deliver ≡ countsBy h .deliver
 unfolding rulesBy rulesOf countsOf
-deliver-by B = refl
+deliver-by h = refl
 
 kind-known : (k : Kind) → isKind (kindNumber k) ≡ true
 unfolding isKind
