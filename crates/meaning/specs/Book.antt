@@ -13,7 +13,7 @@ use Rattle.meaning.specs.Slot.{slotBytes, slotAt}
 use Rattle.meaning.specs.Layout.{nPlace, numbersPlace, ownPlace, seasonPlace, sheetPlace, downPlace, limitPlace, helpedPlace}
 use Rattle.meaning.specs.Layout.{slotPlace, publishedSlot, entrySlot, sendSlot, echoSlot, readySlot, readySentSlot, deliveredSlot}
 
--- n, S, own number, season, sheet and f: what no call changes, and all that publishing and receiving a message read beside the entry
+-- n, S, own number, season, sheet and f: all that publishing, and receiving a message, read beside the entry
 pub record Header : Type 0 where
   pub n : ℕ
   pub numbers : ℕ
@@ -22,7 +22,7 @@ pub record Header : Type 0 where
   pub sheet : Sheet
   pub down : ℕ
 
--- d, and how often each asker was helped, which requests alone read
+-- d, and how often each asker was helped, which requests alone read; so the rule between entries asks nothing of it
 pub record Help : Type 0 where
   pub limit : ℕ
   pub helped : ℕ → ℕ
