@@ -1,5 +1,5 @@
 -- A return and what was sent, answer by answer, from what the code found.
-use Prim.Native.Nat.{ℕ, _+_, _*_, _<_, _≤_}
+use Prim.Native.Nat.{ℕ, _+_, _<_, _≤_}
 use mathlib.Core.Path.{_≡_, refl, sym, ap, _∙_}
 use mathlib.Core.Bool.{Bool, true, false, cond, true≢false}
 use mathlib.Core.List.{List}
@@ -14,7 +14,7 @@ use Rattle.message.specs.declared.Written.{Written}
 use Rattle.message.specs.Message.{isKind, requestWire, writtenOf}
 use Rattle.entry.specs.Entry.{Decl, Kind, SEND, ECHO, READY, Entry, own, isSome, PerEntry}
 use Rattle.meaning.specs.Slot.{part, slotAt}
-use Rattle.meaning.specs.Layout.{slotPlace, readySentSlot}
+use Rattle.meaning.specs.Layout.{slotLength, placeFrom, slotPlace, publishedSlot, sendSlot, readySentSlot}
 use Rattle.meaning.specs.Book.{nOf, numbersOf, ownOf, seasonOf, slotOf}
 use Rattle.meaning.specs.Legal.{legal, Has}
 use Rattle.meaning.proofs.Meant.{others-published}
@@ -45,7 +45,7 @@ module _ (b : List ℕ) where
 -- ---- what was sent
 
 -- the slot at `at`
-module _ (b : List ℕ) (at kind j c : ℕ) (room : at + 21 ≤ length b) (known : isKind kind ≡ true)
+module _ (b : List ℕ) (at kind j c : ℕ) (room : at + slotLength ≤ length b) (known : isKind kind ≡ true)
     (r : Bool) (er : r ≡ isSome (slotAt b at)) where
   abbrev there : Option (List ℕ)
   there = letters (seasonOf b) j c (saidOf (kindOf kind) (slotAt b at))
@@ -78,7 +78,7 @@ module _ (b : List ℕ) (kind j c : ℕ) (has : Has b j c) (w : Sent) where
   abbrev Is : Type 0
   Is = w ≡ sending 0 (sentOn b (kindOf kind) j c)
 
-  pub sent-send : kind ≡ 1 → (own n at : ℕ) → own ≡ ownOf b → j ≡ own → n ≡ nOf b → at ≡ slotPlace n c
+  pub sent-send : kind ≡ 1 → (own n at : ℕ) → own ≡ ownOf b → j ≡ own → n ≡ nOf b → at ≡ slotPlace n (publishedSlot c)
       → w ≡ from (kindOf kind) (slotAt b at) → Is
   unfolding sentOn
   sent-send e own n at eo ej en ea ew =
@@ -98,18 +98,21 @@ module _ (b : List ℕ) (kind j c : ℕ) (has : Has b j c) (w : Sent) where
       rw (k, none-there) ew
 
   module _ (base : ℕ) (at : Begins b j c base) (f : kind ≡ 1 → ⊥) where
-    pub sent-echo : kind ≡ 2 → w ≡ from (kindOf kind) (slotAt b base) → Is
+    pub sent-echo : kind ≡ 2 → (send : ℕ) → send ≡ placeFrom base sendSlot → w ≡ from (kindOf kind) (slotAt b send) → Is
     unfolding sentOn
-    sent-echo e ew =
+    sent-echo e send es ew =
         let k = kind-echo kind f e in
-        let slot = ap (slotAt b) (at .is) ∙ sym (heard-seen b j c has SEND j (has .sender)) in
+        let place = es ∙ from-base b j c has base (at .is) sendSlot in
+        let slot = ap (slotAt b) place ∙ sym (heard-seen b j c has SEND j (has .sender)) in
         rw k ((rw k at ew) ∙ ap (from ECHO) slot)
 
-    pub sent-ready : (kind ≡ 2 → ⊥) → (n : ℕ) → n ≡ nOf b → w ≡ from (kindOf kind) (slotAt b (base + 21 * (1 + 2 * n))) → Is
+    pub sent-ready : (kind ≡ 2 → ⊥) → (n sent : ℕ) → n ≡ nOf b → sent ≡ placeFrom base (readySentSlot n)
+        → w ≡ from (kindOf kind) (slotAt b sent) → Is
     unfolding sentOn
-    sent-ready g n en ew =
+    sent-ready g n sent en es ew =
         let k = kind-ready kind f g in
-        let place = ap (λ (x : ℕ). base + 21 * (1 + 2 * x)) en ∙ from-base b j c has base (at .is) (readySentSlot (nOf b)) in
+        let named = ap (λ (x : ℕ). placeFrom base (readySentSlot x)) en in
+        let place = es ∙ named ∙ from-base b j c has base (at .is) (readySentSlot (nOf b)) in
         let slot = ap (slotAt b) place ∙ sym (sent-seen b j c has) in
         rw k ((rw k at ew) ∙ ap (from READY) slot)
 

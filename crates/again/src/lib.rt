@@ -2,9 +2,10 @@
 ghost use mathlib.Core.Path.{_≡_};
 ghost use mathlib.Core.Bool.{true};
 ghost use mathlib.Core.Option.{none};
-ghost use Prim.Native.Nat.{_+_, _<_, _≤_};
+ghost use Prim.Native.Nat.{_+_, _≤_};
 ghost use lib.ListN.{length};
 ghost use Rattle.message.specs.Message.{isKind};
+ghost use Rattle.meaning.specs.Layout.{sheetPlace, slotLength};
 ghost use Rattle.meaning.specs.Slot.{slotAt};
 ghost use Rattle.meaning.specs.Book.{seasonOf};
 ghost use Rattle.meaning.specs.Legal.{Has};
@@ -40,7 +41,7 @@ fn send_nothing(answer: u8) -> Sent
 
 // The message of the kind with the declaration in the slot at `at`, or none.
 fn sent_in(book: &[u8], at: usize, kind: u8, sender: u8, number: u8) -> Sent
-    requires { ⌜ (at + 21 ≤ length (now book)) × (6 < length (now book)) × (isKind kind ≡ true) ⌝ }
+    requires { ⌜ (at + slotLength ≤ length (now book)) × (sheetPlace ≤ length (now book)) × (isKind kind ≡ true) ⌝ }
     ensures { λ r. ⌜ r ≡ sending 0 (letters (seasonOf (now (book .entry))) sender number
         (saidOf (kindOf kind) (slotAt (now (book .entry)) at))) ⌝ }
 {
@@ -58,7 +59,7 @@ fn sent_in(book: &[u8], at: usize, kind: u8, sender: u8, number: u8) -> Sent
     send_nothing(0)
 }
 
-// What this house sent of the kind on an entry of the book.
+// What this house sent of the kind on an entry of the book. An ECHO sent is of the SEND recorded, so it is read there.
 fn sent_entry(book: &[u8], kind: u8, sender: u8, number: u8) -> Sent
     requires { ⌜ Has (now book) sender number × (isKind kind ≡ true) ⌝ }
     ensures { λ r. ⌜ r ≡ sending 0 (sentOn (now (book .entry)) (kindOf kind) sender number) ⌝ }
@@ -68,7 +69,7 @@ fn sent_entry(book: &[u8], kind: u8, sender: u8, number: u8) -> Sent
         if (sender as usize) == layout::own_of(book) {
             return sent_in(
                 book,
-                layout::slot_place(n, number as usize),
+                layout::published_at(n, number as usize),
                 kind,
                 sender,
                 number,
@@ -78,9 +79,9 @@ fn sent_entry(book: &[u8], kind: u8, sender: u8, number: u8) -> Sent
     }
     let base = layout::entry_at(book, sender as usize, number as usize);
     if kind == 2 {
-        return sent_in(book, base, kind, sender, number);
+        return sent_in(book, layout::send_at(base), kind, sender, number);
     }
-    sent_in(book, base + 21 * (1 + 2 * n), kind, sender, number)
+    sent_in(book, layout::ready_sent_at(base, n), kind, sender, number)
 }
 
 // What was sent: 1, 2 for a kind not 1 to 3, 4; else the message, or a plain none.

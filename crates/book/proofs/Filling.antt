@@ -7,6 +7,7 @@ use native.Mathlib.Numerals.{add-one}
 use lib.ListN.{length, take, drop, length-take, set, replicate, length-drop, length-replicate, getD-replicate, drop-of-length-le}
 use lib.Seq.{paste, paste-suc, take-all, drop-drop, drop-append-add, getD-drop, ext-getD}
 use Rattle.words.specs.Words.{be32}
+use Rattle.meaning.specs.Layout.{sheetPlace, sheetLength, downPlace, limitPlace, helpedPlace}
 use Rattle.book.specs.Parts.{blank}
 
 drop-replicate : (m k : ℕ) → drop {A = ℕ} m (replicate k 0) ≡ replicate (k - m) 0
@@ -35,28 +36,34 @@ module _ (b₀ b : List ℕ) (i : ℕ) (e : b ≡ paste b₀ 0 (replicate (lengt
       let o : length b₀ ≤ 0 + i = omega arith in
       e ∙ rw (take-all i (replicate (length b₀) 0) n, drop-of-length-le b₀ o) (append-nil (replicate (length b₀) 0))
 
--- what stands past the first 29
-past : (x y : List ℕ) → 29 ≤ length x → drop 29 (take 29 x ++ y) ≡ y
-past x y l =
-    let e : 29 ≡ length (take 29 x) + 0 = omega (arith, length-take 29 x) in
-    ap (λ (k : ℕ). drop k (take 29 x ++ y)) e ∙ drop-append-add (take 29 x) y 0
+-- where the help given begins
+abbrev helps : ℕ
+helps = helpedPlace 0
 
-pub blank-laid : (b b1 b2 b3 b4 bytes two sheet : List ℕ) (n s own f d season : ℕ) → 30 < length b → b1 ≡ replicate (length b) 0
+-- what stands from f on
+past : (x y : List ℕ) → downPlace ≤ length x → drop downPlace (take downPlace x ++ y) ≡ y
+past x y l =
+    let e : downPlace ≡ length (take downPlace x) + 0 = omega (arith, length-take downPlace x) in
+    ap (λ (k : ℕ). drop k (take downPlace x ++ y)) e ∙ drop-append-add (take downPlace x) y 0
+
+pub blank-laid : (b b1 b2 b3 b4 bytes two sheet : List ℕ) (n s own f d season : ℕ) → limitPlace < length b → b1 ≡ replicate (length b) 0
     → bytes ≡ n ∷ s ∷ own ∷ be32 season → b2 ≡ paste b1 0 bytes (length bytes) → two ≡ f ∷ d ∷ []
-    → b3 ≡ paste b2 29 two (length two) → length sheet ≡ 22
-    → b4 ≡ paste b3 7 sheet (length sheet) → b4 ≡ blank (length b) n s own f d season sheet
+    → b3 ≡ paste b2 downPlace two (length two) → length sheet ≡ sheetLength
+    → b4 ≡ paste b3 sheetPlace sheet (length sheet) → b4 ≡ blank (length b) n s own f d season sheet
 unfolding blank
 blank-laid b b1 b2 b3 b4 bytes two sheet n s own f d season long e1 eb e2 et e3 l e4 =
-    let m : length sheet ≤ 22 = omega arith in
+    let m : length sheet ≤ sheetLength = omega arith in
     let zeros : List ℕ = replicate (length b) 0 in
-    let q2 : b2 ≡ n ∷ s ∷ own ∷ be32 season ++ drop 7 zeros = e2 ∙ rw (e1, eb) in
-    let size : 29 + length (f ∷ d ∷ []) ≡ 31 = omega arith in
-    let q3 : b3 ≡ take 29 b2 ++ (f ∷ d ∷ drop 31 b2) =
-    e3 ∙ ap (λ (x : List ℕ). paste b2 29 x (length x)) et
-    ∙ append-assoc (take 29 b2) (f ∷ d ∷ []) (drop (29 + length (f ∷ d ∷ [])) b2)
-    ∙ ap (λ (k : ℕ). take 29 b2 ++ (f ∷ d ∷ drop k b2)) size in
-    let l2 : 31 ≤ length b2 = rw q2 (omega (arith, length-drop 7 zeros, length-replicate {A = ℕ} (length b) 0)) in
-    let past29 : drop 29 b3 ≡ f ∷ d ∷ drop 31 b2 = ap (drop 29) q3 ∙ past b2 (f ∷ d ∷ drop 31 b2) (omega arith) in
-    let past31 : drop 31 b2 ≡ replicate (length b - 31) 0 = ap (drop 31) q2 ∙ drop-drop 24 7 zeros ∙ drop-replicate 31 (length b) in
-    let first : take 7 b3 ≡ n ∷ s ∷ own ∷ be32 season = ap (take 7) q3 ∙ rw q2 in
-    e4 ∙ rw (l, take-all 22 sheet m, first, past29, past31)
+    let q2 : b2 ≡ n ∷ s ∷ own ∷ be32 season ++ drop sheetPlace zeros = e2 ∙ rw (e1, eb) in
+    let size : downPlace + length (f ∷ d ∷ []) ≡ helps = omega arith in
+    let q3 : b3 ≡ take downPlace b2 ++ (f ∷ d ∷ drop helps b2) =
+    e3 ∙ ap (λ (x : List ℕ). paste b2 downPlace x (length x)) et
+    ∙ append-assoc (take downPlace b2) (f ∷ d ∷ []) (drop (downPlace + length (f ∷ d ∷ [])) b2)
+    ∙ ap (λ (k : ℕ). take downPlace b2 ++ (f ∷ d ∷ drop k b2)) size in
+    let l2 : helps ≤ length b2 = rw q2 (omega (arith, length-drop sheetPlace zeros, length-replicate {A = ℕ} (length b) 0)) in
+    let rest : drop downPlace b3 ≡ f ∷ d ∷ drop helps b2 =
+    ap (drop downPlace) q3 ∙ past b2 (f ∷ d ∷ drop helps b2) (omega arith) in
+    let help : drop helps b2 ≡ replicate (length b - helps) 0 =
+    ap (drop helps) q2 ∙ drop-drop (helps - sheetPlace) sheetPlace zeros ∙ drop-replicate helps (length b) in
+    let first : take sheetPlace b3 ≡ n ∷ s ∷ own ∷ be32 season = ap (take sheetPlace) q3 ∙ rw q2 in
+    e4 ∙ rw (l, take-all sheetLength sheet m, first, rest, help)

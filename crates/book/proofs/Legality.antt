@@ -14,9 +14,9 @@ use Rattle.sheet.specs.Kept.{sheetLegalAt}
 use Rattle.entry.proofs.Basics.{and-l, and-r, and-mk, and-false}
 use Rattle.entry.proofs.Basics as basics
 use Rattle.meaning.specs.Slot.{slotOk}
-use Rattle.meaning.specs.Layout.{numbersOk, mostLimit, helpedPlace, headLength, slotCount, lengthOf, slotPlace}
-use Rattle.meaning.specs.Book.{nOf, numbersOf, ownOf, downOf, limitOf, sheetPlace}
-use Rattle.meaning.specs.Legal.{slotsOk, helpsOk, careOk, legal}
+use Rattle.meaning.specs.Layout.{numbersOk, mostLimit, helpedPlace, headLength, slotCount, lengthOf, slotPlace, limitPlace, sheetPlace}
+use Rattle.meaning.specs.Book.{nOf, numbersOf, ownOf, downOf, limitOf}
+use Rattle.meaning.specs.Legal.{slotsOk, helpsOk, helpOk, legal}
 use Rattle.meaning.specs.Opening.{allowed}
 use Rattle.book.specs.Parts.{sized}
 
@@ -91,12 +91,12 @@ module _ (b : List ℕ) where
   sized-long : sized b ≡ true → length b ≡ lengthOf (nOf b) (numbersOf b)
   sized-long h = eqb-true (length b) (lengthOf (nOf b) (numbersOf b)) (both h .1)
 
-  pub sized-room : (r : Bool) (k : ℕ) → r ≡ sized b → r ≡ true → k ≤ 30 → k < length b
+  pub sized-room : (r : Bool) (k : ℕ) → r ≡ sized b → r ≡ true → k ≤ limitPlace → k < length b
   unfolding lengthOf headLength
   sized-room r k e t h = let l = sized-long (sym e ∙ t) in omega arith
 
   -- so there is room for what is said of each house
-  pub helps-room : (n : ℕ) (r : Bool) → r ≡ sized b → r ≡ true → n ≡ nOf b → 31 + n ≤ length b
+  pub helps-room : (n : ℕ) (r : Bool) → r ≡ sized b → r ≡ true → n ≡ nOf b → helpedPlace n ≤ length b
   unfolding lengthOf headLength
   helps-room n r e t u = let l = sized-long (sym e ∙ t) in omega arith
 
@@ -109,7 +109,7 @@ module _ (b : List ℕ) where
       let q : k ≡ slotCount (nOf b) (numbersOf b) = w ∙ ap₂ slotCount u v in
       omega (arith, ap headLength u)
 
-  pub not-sized : length b < 31 → false ≡ sized b
+  pub not-sized : length b ≤ limitPlace → false ≡ sized b
   unfolding sized lengthOf headLength
   not-sized l =
       sym (and-false (allowed (nOf b) (numbersOf b) (ownOf b) (downOf b) (limitOf b)) _
@@ -138,22 +138,22 @@ module _ (b : List ℕ) where
   helps = helpsOk b (limitOf b) (nOf b)
 
   legal-is : legal b ≡ sized b && (slots && (helps && sheetLegalAt b sheetPlace))
-  unfolding legal sized allowed careOk
+  unfolding legal sized allowed helpOk
   legal-is =
       go (houses (nOf b)) (numbersOk (numbersOf b)) (ltb (ownOf b) (nOf b)) (eqb (length b) (lengthOf (nOf b) (numbersOf b)))
       (sheetLegalAt b sheetPlace) (downOk (nOf b) (downOf b)) (leb (limitOf b) mostLimit) helps slots
     where
-      last : (x y a l e z : Bool) → (x && (y && ((a && (l && e)) && z))) ≡ ((a && l) && x) && (z && (e && y))
+      last : (x y a l e z : Bool) → (x && (y && (a && ((l && e) && z)))) ≡ ((a && l) && x) && (z && (e && y))
       last x y a l e z =
-          basics.both (x && (y && ((a && (l && e)) && z))) (((a && l) && x) && (z && (e && y)))
-          (λ t. let t₁ = and-r x _ t in let t₂ = and-r y _ t₁ in let t₃ = and-l (a && (l && e)) z t₂ in
-          and-mk ((a && l) && x) _ (and-mk (a && l) x (and-mk a l (and-l a _ t₃) (and-l l e (and-r a _ t₃))) (and-l x _ t))
-          (and-mk z _ (and-r (a && (l && e)) z t₂) (and-mk e y (and-r l e (and-r a _ t₃)) (and-l y _ t₁))))
+          basics.both (x && (y && (a && ((l && e) && z)))) (((a && l) && x) && (z && (e && y)))
+          (λ t. let t₁ = and-r x _ t in let t₂ = and-r y _ t₁ in let t₃ = and-r a _ t₂ in let t₄ = and-l (l && e) z t₃ in
+          and-mk ((a && l) && x) _ (and-mk (a && l) x (and-mk a l (and-l a _ t₂) (and-l l e t₄)) (and-l x _ t))
+          (and-mk z _ (and-r (l && e) z t₃) (and-mk e y (and-r l e t₄) (and-l y _ t₁))))
           (λ t. let p = and-l ((a && l) && x) _ t in let q = and-r ((a && l) && x) _ t in let o = and-l (a && l) x p in
           and-mk x _ (and-r (a && l) x p) (and-mk y _ (and-r e y (and-r z _ q))
-          (and-mk (a && (l && e)) z (and-mk a _ (and-l a l o) (and-mk l e (and-r a l o) (and-l e y (and-r z _ q)))) (and-l z _ q))))
+          (and-mk a _ (and-l a l o) (and-mk (l && e) z (and-mk l e (and-r a l o) (and-l e y (and-r z _ q))) (and-l z _ q)))))
 
-      go : (u v w x y a l e z : Bool) → (u && (v && (w && (x && (y && ((a && (l && e)) && z))))))
+      go : (u v w x y a l e z : Bool) → (u && (v && (w && (x && (y && (a && ((l && e) && z)))))))
           ≡ (u && (v && (w && (a && l))) && x) && (z && (e && y))
       go true true true x y a l e z = last x y a l e z
       go true true false x y a l e z = refl

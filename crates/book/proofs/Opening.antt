@@ -9,27 +9,27 @@ use borrow.Author.Tests.{eq-eqb, ne-eqb}
 use Rattle.words.specs.Words.{Bytes, be32}
 use Rattle.sheet.specs.Kept.{isSheet, sheetAt}
 use Rattle.sheet.proofs.OneForm.{bytes-of-sheet}
-use Rattle.meaning.specs.Layout.{headLength, slotCount, lengthOf}
-use Rattle.meaning.specs.Book.{rows, careBytes, head, write}
+use Rattle.meaning.specs.Layout.{helpedPlace, headLength, slotLength, slotCount, lengthOf}
+use Rattle.meaning.specs.Book.{rows, helpBytes, head, write}
 use Rattle.meaning.proofs.Rows.{rows-zeros}
-use Rattle.meaning.specs.Opening.{freshBook, Opened, allowed, opened}
+use Rattle.meaning.specs.Opening.{headed, freshBook, Opened, allowed, opened}
 use Rattle.meaning.proofs.Opening.{allowed-facts, fresh-written}
 use Rattle.book.specs.Parts.{blank}
 
 module _ (b : List ℕ) (n s own f d season : ℕ) (sheet : List ℕ) where
   blank-fresh : own < n → Bytes sheet → isSheet sheet ≡ true → length b ≡ lengthOf n s
-      → blank (length b) n s own f d season sheet ≡ write (freshBook n s own f d season (sheetAt sheet 0))
-  unfolding blank head careBytes lengthOf headLength
+      → blank (length b) n s own f d season sheet ≡ write (freshBook (headed n s own f season (sheetAt sheet 0)) d)
+  unfolding blank head helpBytes lengthOf headLength
   blank-fresh o x h l =
-      let k : length b - 31 ≡ n * 1 + 21 * slotCount n s = omega arith in
-      let zeros : rows n (λ p. 0 ∷ []) ++ replicate (21 * slotCount n s) 0 ≡ replicate (n * 1 + 21 * slotCount n s) 0 =
-      ap (λ (l : List ℕ). l ++ replicate (21 * slotCount n s) 0) (rows-zeros n 1)
-      ∙ replicate-append-replicate (n * 1) (21 * slotCount n s) 0
+      let k : length b - helpedPlace 0 ≡ n * 1 + slotLength * slotCount n s = omega arith in
+      let zeros : rows n (λ p. 0 ∷ []) ++ replicate (slotLength * slotCount n s) 0 ≡ replicate (n * 1 + slotLength * slotCount n s) 0 =
+      ap (λ (l : List ℕ). l ++ replicate (slotLength * slotCount n s) 0) (rows-zeros n 1)
+      ∙ replicate-append-replicate (n * 1) (slotLength * slotCount n s) 0
       in
-      rw (k, fresh-written n s own f d season (sheetAt sheet 0) o, bytes-of-sheet sheet x h)
+      rw (k, fresh-written (headed n s own f season (sheetAt sheet 0)) d o, bytes-of-sheet sheet x h)
       (ap (λ (l : List ℕ). n ∷ s ∷ own ∷ be32 season ++ (sheet ++ (f ∷ d ∷ l))) (sym zeros)
       ∙ ap (λ (l : List ℕ). n ∷ s ∷ own ∷ be32 season ++ l)
-      (sym (append-assoc sheet (f ∷ d ∷ rows n (λ p. 0 ∷ [])) (replicate (21 * slotCount n s) 0))))
+      (sym (append-assoc sheet (f ∷ d ∷ rows n (λ p. 0 ∷ [])) (replicate (slotLength * slotCount n s) 0))))
 
   -- the answers of `open_book`, by what its parts answered
   module _ (r : Bool) (e : r ≡ allowed n s own f d) where

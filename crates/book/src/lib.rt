@@ -2,11 +2,11 @@
 ghost use mathlib.Core.Path.{_≡_};
 ghost use mathlib.Core.Bool.{_&&_};
 ghost use mathlib.Core.List.{_∷_};
-ghost use Prim.Native.Nat.{_+_, _<_, _≤_};
+ghost use Prim.Native.Nat.{_<_, _≤_};
 ghost use lib.ListN.{length, replicate};
 ghost use Rattle.card.specs.Card.{houses};
 ghost use Rattle.words.specs.Words.{be32};
-ghost use Rattle.meaning.specs.Layout.{numbersOk, slotPlace};
+ghost use Rattle.meaning.specs.Layout.{numbersOk, limitPlace, helpedPlace, sheetLength, slotPlace};
 ghost use Rattle.meaning.specs.Legal.{slotsOk, helpsOk, legal};
 ghost use Rattle.meaning.specs.Opening.{Opened, Length, allowed, opened, lengthAnswer};
 ghost use Rattle.book.specs.Parts.{sized, blank};
@@ -16,11 +16,6 @@ const MOST_NUMBERS: u32 = 4;
 
 // The recovery limit d: 0 to 8.
 const MOST_LIMIT: u32 = 8;
-
-// Where the sheet's 22 bytes stand, then f, d and the help given to each house.
-const SHEET: usize = 7;
-
-const DOWN: usize = 29;
 
 // S is 1 to 4.
 fn is_numbers(s: u32) -> bool
@@ -89,7 +84,7 @@ fn are_slots_ok(b: &[u8], n: usize, k: usize) -> bool
 
 // Each of the first k askers was helped at most d times.
 fn are_helps_ok(b: &[u8], d: usize, k: usize) -> bool
-    requires { ⌜ (k < 256) × (31 + k ≤ length (now b)) ⌝ }
+    requires { ⌜ (k < 256) × (helpedPlace k ≤ length (now b)) ⌝ }
     ensures { λ r. ⌜ r ≡ helpsOk (now (b .entry)) d k ⌝ }
 {
     for p in 0..k {
@@ -104,7 +99,7 @@ fn are_helps_ok(b: &[u8], d: usize, k: usize) -> bool
 fn is_sized(b: &[u8]) -> bool
     ensures { λ r. ⌜ r ≡ sized (now (b .entry)) ⌝ }
 {
-    if 30 < b.len() {
+    if layout::LIMIT < b.len() {
         let n = layout::n_of(b);
         let s = layout::numbers_of(b);
         if is_allowed(
@@ -128,7 +123,7 @@ pub fn is_legal(b: &[u8]) -> bool
         let n = layout::n_of(b);
         if are_slots_ok(b, n, layout::slot_count(n, layout::numbers_of(b))) {
             if are_helps_ok(b, layout::limit_of(b), n) {
-                return judge::is_sheet_at(b, SHEET);
+                return judge::is_sheet_at(b, layout::SHEET);
             }
         }
     }
@@ -154,13 +149,13 @@ fn before_sheet(n: u8, s: u8, own: u8, season: u32) -> [u8; 7]
 
 // Writes the whole buffer: the header, and every slot empty.
 fn lay_blank(b: &mut [u8], n: u8, s: u8, own: u8, f: u8, d: u8, season: u32, sheet: &[u8])
-    requires { ⌜ (30 < length (now b)) × (length (now sheet) ≡ 22) ⌝ }
+    requires { ⌜ (limitPlace < length (now b)) × (length (now sheet) ≡ sheetLength) ⌝ }
     ensures { λ _. ⌜ now (b .exit) ≡ blank (length (now (b .entry))) n s own f d season (now (sheet .entry)) ⌝ }
 {
     clear(b);
     slots::lay_at(b, 0, &before_sheet(n, s, own, season));
-    slots::lay_at(b, DOWN, &[f, d]);
-    slots::lay_at(b, SHEET, sheet);
+    slots::lay_at(b, layout::DOWN, &[f, d]);
+    slots::lay_at(b, layout::SHEET, sheet);
 }
 
 // Opening: 9, 10, 11; else it writes the whole buffer.

@@ -9,22 +9,22 @@ use Rattle.message.proofs.RoundTrip.{read-of-wire}
 use Rattle.entry.specs.Entry.{Decl, Kind}
 use Rattle.protocol.specs.Steps.{say}
 use Rattle.protocol.specs.Thresholds.{rulesOf}
-use Rattle.meaning.specs.Book.{Meaning}
 use Rattle.calls.specs.Entered.{kindNumber, fiveOf, letter, rulesBy}
 use Rattle.calls.proofs.KindNumber.{kind-is, is-known}
+use Rattle.meaning.specs.Book.{Header}
 use Rattle.calls.specs.Accepted.{countsBy, Claims}
 
-quorum-by : (B : Meaning) → rulesBy B .quorum ≡ countsBy B .quorum
+quorum-by : (h : Header) → rulesBy h .quorum ≡ countsBy h .quorum
 unfolding rulesBy rulesOf countsOf
-quorum-by B = refl
+quorum-by h = refl
 
-amplify-by : (B : Meaning) → rulesBy B .amplify ≡ countsBy B .amplify
+amplify-by : (h : Header) → rulesBy h .amplify ≡ countsBy h .amplify
 unfolding rulesBy rulesOf countsOf
-amplify-by B = refl
+amplify-by h = refl
 
-deliver-by : (B : Meaning) → rulesBy B .deliver ≡ countsBy B .deliver
+deliver-by : (h : Header) → rulesBy h .deliver ≡ countsBy h .deliver
 unfolding rulesBy rulesOf countsOf
-deliver-by B = refl
+deliver-by h = refl
 
 letter-read : (season sender number : ℕ) (k : Kind) (v : Decl)
     → readOf (letter season sender number (say k v)) ≡ gives (fiveOf (kindNumber k) season sender number (declarationAt v 0))

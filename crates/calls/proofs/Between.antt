@@ -7,23 +7,22 @@ use mathlib.Core.List.{List}
 use mathlib.Core.Option.{Option, none, some}
 use lib.Dec.{eqb}
 use Rattle.lot.specs.Declaration.{bytesOf}
-use Rattle.card.specs.Card.{fitting}
 use Rattle.words.specs.Words.{Bytes, wordAt}
 use Rattle.message.specs.Message.{Five, readOf, isRequest, requestOf}
 use Rattle.message.proofs.Request.{request-names, no-request}
 use Rattle.entry.specs.Entry.{Decl, Entry, PerEntry, sameEntry, place, Kind}
 use Rattle.protocol.specs.Steps.{Out}
 use Rattle.protocol.specs.Book.{Call, publishing, senderOf, numberOf, outcome, receiving}
-use Rattle.protocol.specs.Thresholds.{rulesOf}
 use Rattle.protocol.proofs.Calls.{alone}
-use Rattle.meaning.specs.Book.{careOf, numbersOf, ownOf, seasonOf, look, meant}
+use Rattle.meaning.specs.Book.{Header, headerOf, helpOf, numbersOf, ownOf, seasonOf, look, meant}
 use Rattle.meaning.specs.Legal.{legal}
+use Rattle.meaning.proofs.Agree.{agree-own, agree-season}
 use Rattle.meaning.proofs.Entries.{same-entry}
 use Rattle.meaning.proofs.Stores.{stored-entry}
-use Rattle.calls.specs.Entered.{Result, giving, okBy, rulesBy, letters, kindOf}
+use Rattle.calls.specs.Entered.{Result, giving, rulesBy, letters, kindOf}
 use Rattle.calls.specs.Call.{refusal, stepOf, called, published, asked, heardFrom, heardAny, received, answering, askedAs}
-use Rattle.calls.specs.Between.{Other, SameHeader, Alike, Between}
-use Rattle.calls.proofs.Keeps.{kept-none, called-stored, called-given, called-keeps, requested-entries}
+use Rattle.calls.proofs.Keeps.{called-stored, called-given, requested-entries}
+use Rattle.calls.specs.Between.{Other, Alike, Between}
 
 place-other : (f : PerEntry Entry) (j c : ℕ) (x : Entry) (j₂ c₂ : ℕ) → Other j c j₂ c₂ → place f j c x j₂ c₂ ≡ f j₂ c₂
 place-other f j c x j₂ c₂ d = go (sameEntry j c j₂ c₂) refl
@@ -70,15 +69,15 @@ module _ (b : List ℕ) (h : legal b ≡ true) (bytes : Bytes b) where
       any none x d = go x d
       any (some season) x d = ap (λ (f : PerEntry Entry). f j c) (requested-entries b h bytes p season)
 
-  -- the header and the care stay
+  -- the header and the help stay
   abbrev Stay : Result → Type 0
-  Stay r = SameHeader (r .book) b × (careOf (r .book) ≡ careOf b)
+  Stay r = (headerOf (r .book) ≡ headerOf b) × (helpOf (r .book) ≡ helpOf b)
 
   stays : (n : ℕ) → Stay (refusal n b)
-  stays n = (kept-none b h bytes .header, refl)
+  stays n = (refl, refl)
 
   called-header : (a : Call) → Stay (called b a)
-  called-header a = (called-keeps b h bytes a .header, called-stored b h bytes a .care)
+  called-header a = (called-stored b h bytes a .header, called-stored b h bytes a .help)
 
   pub published-header : (number : ℕ) (v : Decl) → Stay (published b number v)
   unfolding published
@@ -106,31 +105,30 @@ module _ (b : List ℕ) (h : legal b ≡ true) (bytes : Bytes b) where
 
 -- ---- two books that agree on the header and on one entry
 
-module _ (b d : List ℕ) (hb : legal b ≡ true) (hd : legal d ≡ true) (bb : Bytes b) (bd : Bytes d) (same : SameHeader b d) where
+module _ (b d : List ℕ) (hb : legal b ≡ true) (hd : legal d ≡ true) (bb : Bytes b) (bd : Bytes d) (same : headerOf b ≡ headerOf d) where
   step-same : (a : Call) → look b (senderOf (ownOf b) a) (numberOf a) ≡ look d (senderOf (ownOf b) a) (numberOf a) → stepOf b a ≡ stepOf d a
-  unfolding stepOf meant rulesBy careOf
+  unfolding stepOf meant
   step-same a e =
-      alone (rulesBy (meant b)) (numbersOf b) (ownOf b) a .same (look b) (look d) e
-      ∙ (λ i. outcome (rules i) (same .numbers i) (same .own i) a (look d))
-    where
-      rules : rulesBy (meant b) ≡ rulesBy (meant d)
-      rules = λ i. rulesOf (same .n i) (fitting (same .n i) (same .down i)) (same .down i) (okBy (same .sheet i))
+      alone (rulesBy (headerOf b)) (numbersOf b) (ownOf b) a .same (look b) (look d) e
+      ∙ ap (λ (h : Header). outcome (rulesBy h) (h .numbers) (h .own) a (look d)) same
 
   pub called-same : (a : Call) → look b (senderOf (ownOf b) a) (numberOf a) ≡ look d (senderOf (ownOf b) a) (numberOf a)
       → Alike (called b a) (called d a) (senderOf (ownOf b) a) (numberOf a)
   called-same a e =
       let o = step-same a e in
       let c = numberOf a in
+      let own = agree-own b d same in
+      let season = agree-season b d same in
       record {
         given =
             called-given b hb bb a
-            ∙ (λ i. giving (o i .answer) (letters (same .season i) (senderOf (same .own i) a) c (o i .message)) (o i .delivery))
+            ∙ (λ i. giving (o i .answer) (letters (season i) (senderOf (own i) a) c (o i .message)) (o i .delivery))
             ∙ sym (called-given d hd bd a);
         entry =
             stored-entry b (senderOf (ownOf b) a) c (called b a .book) (stepOf b a .entry) (called-stored b hb bb a)
             ∙ ap (λ (x : Out). x .entry) o
             ∙ sym (stored-entry d (senderOf (ownOf d) a) c (called d a .book) (stepOf d a .entry) (called-stored d hd bd a))
-            ∙ ap (λ (x : ℕ). look (called d a .book) (senderOf x a) c) (sym (same .own));
+            ∙ ap (λ (x : ℕ). look (called d a .book) (senderOf x a) c) (sym own);
       }
 
   pub published-same : (c : ℕ) (v : Decl) → look b (ownOf b) c ≡ look d (ownOf b) c → Alike (published b c v) (published d c v) (ownOf b) c
@@ -160,7 +158,7 @@ module _ (b d : List ℕ) (hb : legal b ≡ true) (hd : legal d ≡ true) (bb : 
       go (some m) f =
           let names = f m refl in
           subst (λ (x : ℕ). Alike (heardFrom b p (some m)) (cond (eqb (m .season) x) (answering d (asked p m)) (refusal 3 d)) j c)
-          (same .season) (in-season m (names .0) (names .1) (eqb (m .season) (seasonOf b)))
+          (agree-season b d same) (in-season m (names .0) (names .1) (eqb (m .season) (seasonOf b)))
 
 pub between : Between
 between =

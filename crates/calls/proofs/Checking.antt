@@ -9,7 +9,6 @@ use native.Mathlib.Omega.{arith}
 use borrow.Author.Tests.{eq-eqb, ne-eqb, lt-ltb}
 use Rattle.sheet.specs.declared.Sheet.{Sheet}
 use Rattle.sheet.specs.Sheet.{sheetLegal}
-use Rattle.sheet.specs.Kept.{sheetAt}
 use Rattle.sheet.proofs.Gates.{legal-sheet}
 use Rattle.entry.specs.Entry.{Decl, Kind, SEND, heard}
 use Rattle.protocol.specs.Steps.{takes, may, recording, receiveAnswer}
@@ -17,15 +16,16 @@ use Rattle.protocol.specs.Book.{Call, receiving, senderOf, numberOf}
 use Rattle.protocol.specs.Order.{ReceivingOrder}
 use Rattle.protocol.specs.Thresholds.{rulesOf}
 use Rattle.protocol.proofs.Order.{receiving-ordered, answer-is, accepted-is}
-use Rattle.meaning.specs.Book.{nOf, numbersOf, ownOf, look, meant, sheetPlace}
+use Rattle.meaning.specs.Book.{nOf, numbersOf, ownOf, look, meant, headerOf, sheetOf}
 use Rattle.meaning.specs.Legal.{legal, Has}
 use Rattle.meaning.proofs.Legality.{legal-facts}
 use Rattle.calls.specs.declared.Outcome.{Outcome}
 use Rattle.calls.specs.Entered.{result, giving, okBy, rulesBy, entered, taken}
 use Rattle.calls.specs.Call.{stepOf, called}
+use Rattle.meaning.specs.Layout.{sheetPlace}
 
 -- the sheet of a legal book is legal
-pub book-sheet : (b : List ℕ) (s : Sheet) → legal b ≡ true → s ≡ sheetAt b sheetPlace → sheetLegal s ≡ true
+pub book-sheet : (b : List ℕ) (s : Sheet) → legal b ≡ true → s ≡ sheetOf b → sheetLegal s ≡ true
 book-sheet b s h e = ap sheetLegal e ∙ legal-sheet b sheetPlace (legal-facts b h .sheet)
 
 module _ (b : List ℕ) (a : Call) where
@@ -43,8 +43,8 @@ module _ (b : List ℕ) (j c p : ℕ) (k : Kind) (v : Decl) where
   abbrev a : Call
   a = receiving p k j c v
 
-  pub ordered : ReceivingOrder (rulesBy (meant b)) (numbersOf b) (ownOf b) p k j c v (look b)
-  ordered = receiving-ordered (rulesBy (meant b)) (numbersOf b) (ownOf b) p k j c v (look b)
+  pub ordered : ReceivingOrder (rulesBy (headerOf b)) (numbersOf b) (ownOf b) p k j c v (look b)
+  ordered = receiving-ordered (rulesBy (headerOf b)) (numbersOf b) (ownOf b) p k j c v (look b)
 
   pub missing : (nOf b ≤ j) ⊎ ((numbersOf b ≤ c) ⊎ (nOf b ≤ p)) → 4 ≡ stepOf b a .answer
   unfolding stepOf rulesBy rulesOf meant
@@ -55,15 +55,15 @@ module _ (b : List ℕ) (j c p : ℕ) (k : Kind) (v : Decl) where
   missing-refused x r q = called-refused b a 4 r (missing x) (λ z. omega arith) q
 
   module _ (has : Has b j c) (hp : p < nOf b) where
-    pub not-plausible : okBy (sheetAt b sheetPlace) v ≡ false → 5 ≡ stepOf b a .answer
+    pub not-plausible : okBy (sheetOf b) v ≡ false → 5 ≡ stepOf b a .answer
     unfolding stepOf rulesBy rulesOf meant
     not-plausible f = sym (ordered .not-plausible (has .sender) (has .number) hp f)
 
     -- 5
-    pub implausible-refused : okBy (sheetAt b sheetPlace) v ≡ false → (r : Outcome) → r ≡ giving 5 none none → result r b ≡ called b a
+    pub implausible-refused : okBy (sheetOf b) v ≡ false → (r : Outcome) → r ≡ giving 5 none none → result r b ≡ called b a
     implausible-refused f r q = called-refused b a 5 r (not-plausible f) (λ z. omega arith) q
 
-    module _ (ok : okBy (sheetAt b sheetPlace) v ≡ true) where
+    module _ (ok : okBy (sheetOf b) v ≡ true) where
       pub not-sender : may j k p ≡ false → 6 ≡ stepOf b a .answer
       unfolding stepOf rulesBy rulesOf meant
       not-sender f = sym (ordered .not-sender (has .sender) (has .number) hp ok f)
@@ -73,25 +73,25 @@ module _ (b : List ℕ) (j c p : ℕ) (k : Kind) (v : Decl) where
         pub answer-past : stepOf b a .answer ≡ recording (heard k p (look b j c)) v
         unfolding stepOf rulesBy rulesOf meant receiveAnswer
         answer-past =
-            answer-is (rulesBy (meant b)) (numbersOf b) (ownOf b) p k j c v (look b) (has .sender) (has .number)
+            answer-is (rulesBy (headerOf b)) (numbersOf b) (ownOf b) p k j c v (look b) (has .sender) (has .number)
             ∙ rw (lt-ltb _ _ hp, ok, from)
 
         pub recorded-refused : (n : ℕ) → n ≡ recording (heard k p (look b j c)) v → (n ≡ 0 → ⊥) → (r : Outcome) → r ≡ giving n none none
             → result r b ≡ called b a
         recorded-refused n e f r q = called-refused b a n r (e ∙ sym answer-past) f q
 
-        step-takes : recording (heard k p (look b j c)) v ≡ 0 → stepOf b a ≡ takes (rulesBy (meant b)) k p v (look b j c)
+        step-takes : recording (heard k p (look b j c)) v ≡ 0 → stepOf b a ≡ takes (rulesBy (headerOf b)) k p v (look b j c)
         unfolding stepOf rulesBy rulesOf meant
         step-takes z =
-            accepted-is (rulesBy (meant b)) (numbersOf b) (ownOf b) p k j c v (look b) (has .sender) (has .number)
-            (sym (answer-is (rulesBy (meant b)) (numbersOf b) (ownOf b) p k j c v (look b) (has .sender) (has .number)) ∙ answer-past ∙ z)
+            accepted-is (rulesBy (headerOf b)) (numbersOf b) (ownOf b) p k j c v (look b) (has .sender) (has .number)
+            (sym (answer-is (rulesBy (headerOf b)) (numbersOf b) (ownOf b) p k j c v (look b) (has .sender) (has .number)) ∙ answer-past ∙ z)
 
         pub message-taken : recording (heard k p (look b j c)) v ≡ 0 → taken b p k j c v ≡ called b a
         unfolding taken
         message-taken z = sym (called-accepted b a (answer-past ∙ z) ∙ ap (entered b j c) (step-takes z))
 
 -- 6
-module _ (b : List ℕ) (j c p : ℕ) (v : Decl) (has : Has b j c) (hp : p < nOf b) (ok : okBy (sheetAt b sheetPlace) v ≡ true) where
+module _ (b : List ℕ) (j c p : ℕ) (v : Decl) (has : Has b j c) (hp : p < nOf b) (ok : okBy (sheetOf b) v ≡ true) where
   pub another-refused : (p ≡ j → ⊥) → (r : Outcome) → r ≡ giving 6 none none → result r b ≡ called b (receiving p SEND j c v)
   another-refused f r q =
       called-refused b (receiving p SEND j c v) 6 r (not-sender b j c p SEND v has hp ok (ne-eqb p j f)) (λ z. omega arith) q

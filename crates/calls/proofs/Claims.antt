@@ -3,7 +3,7 @@ use Prim.Native.Nat.{ℕ}
 use mathlib.Core.Path.{_≡_, sym, ap, _∙_}
 use mathlib.Core.List.{List}
 use borrow.Author.Tests.{eq-eqb}
-use Rattle.meaning.specs.Book.{careOf, moreCare, withCare, meant}
+use Rattle.meaning.specs.Book.{helpOf, moreHelp, withHelp, meant}
 use Rattle.meaning.specs.Legal.{Lent}
 use Rattle.calls.specs.Entered.{Result}
 use Rattle.calls.specs.Call.{requestAnswer, requested}
@@ -16,7 +16,7 @@ use Rattle.calls.proofs.Silent.{silent}
 use Rattle.calls.proofs.Between.{between}
 
 requested-meant : (b : List ℕ) → Lent b → (p season : ℕ) → requestAnswer b p season ≡ 0
-    → meant (requested b p season .book) ≡ withCare (meant b) (moreCare (careOf b) p)
+    → meant (requested b p season .book) ≡ withHelp (meant b) (moreHelp (helpOf b) p)
 unfolding requested
 requested-meant b L p season z = rw (eq-eqb (requestAnswer b p season) 0 z) (keeps.helped-meant b (L .legal) (L .bytes) p season z)
 

@@ -14,7 +14,6 @@ use Rattle.words.specs.Words.{Bytes}
 use Rattle.sheet.specs.declared.Sheet.{Sheet}
 use Rattle.sheet.specs.Sheet.{plausible}
 use Rattle.lot.specs.Declaration.{declarationAt}
-use Rattle.sheet.specs.Kept.{sheetAt}
 use Rattle.message.specs.Message.{Five, readOf, requestOf}
 use Rattle.entry.specs.Entry.{Decl, Entry, fresh, PerEntry, sameEntry, place, Filled}
 use Rattle.protocol.specs.Steps.{Out, refused}
@@ -24,10 +23,11 @@ use Rattle.entry.proofs.Basics.{true-of, and-l, upd-all}
 use Rattle.entry.proofs.Filled.{filled-refl}
 use Rattle.protocol.proofs.Calls.{outcome-done}
 use Rattle.meaning.specs.Layout.{lengthOf}
-use Rattle.meaning.specs.Book.{Care, helpedOf, careOf, moreCare, withCare, countHelp, Meaning, nOf, numbersOf, ownOf, seasonOf, sheetPlace}
-use Rattle.meaning.specs.Book.{look, meant}
+use Rattle.meaning.specs.Book.{Help, helpedOf, headerOf, helpOf, moreHelp, withHelp, countHelp, Meaning, nOf, numbersOf, ownOf, seasonOf}
+use Rattle.meaning.specs.Book.{sheetOf, look, meant}
 use Rattle.meaning.specs.Legal.{legal, IsDecl, IsEntry, IsBook}
 use Rattle.meaning.proofs.Legality.{legal-facts}
+use Rattle.meaning.proofs.Agree.{agree-n, agree-numbers}
 use Rattle.meaning.proofs.Entries.{same-entry}
 use Rattle.meaning.proofs.Stores.{Stored, stored-none}
 use Rattle.meaning.proofs.OneForm.{stored-meant}
@@ -62,7 +62,7 @@ module _ (b : List ℕ) (h : legal b ≡ true) (bytes : Bytes b) where
       record {
         legal = h;
         bytes = bytes;
-        header = record { n = refl; numbers = refl; own = refl; season = refl; sheet = refl; down = refl };
+        header = refl;
         limit = refl;
         helped = λ p. le-refl (helpedOf b p);
         fills = λ j c. filled-refl (look b j c);
@@ -70,7 +70,9 @@ module _ (b : List ℕ) (h : legal b ≡ true) (bytes : Bytes b) where
 
   pub kept-length : (a : List ℕ) → Kept b a → length a ≡ length b
   kept-length a k =
-      legal-facts a (k .legal) .long ∙ ap₂ lengthOf (k .header .n) (k .header .numbers) ∙ sym (legal-facts b h .long)
+      legal-facts a (k .legal) .long
+      ∙ ap₂ lengthOf (agree-n a b (k .header)) (agree-numbers a b (k .header))
+      ∙ sym (legal-facts b h .long)
 
   module _ (a : Call) where
     -- the entry that the call names, and the step on it
@@ -87,37 +89,30 @@ module _ (b : List ℕ) (h : legal b ≡ true) (bytes : Bytes b) where
     unfolding stepOf meant rulesBy rulesOf
     fits =
         let I = meant-is-book b h bytes in
-        outcome-fits (rulesBy (meant b)) (numbersOf b) (ownOf b) (look b) a (plausible-decl (sheetAt b sheetPlace))
-        (record { entry = I .entries j c; others = I .others j c })
+        outcome-fits (rulesBy (headerOf b)) (numbersOf b) (ownOf b) (look b) a (plausible-decl (sheetOf b))
+        (record { entry = I .entries .each j c; others = I .entries .others j c })
 
     -- what the step of an accepted call leaves is what a book may mean
     is-book : o .answer ≡ 0 → IsBook (withEntry (meant b) j c (o .entry))
     unfolding stepOf meant rulesBy rulesOf
     is-book z =
         let I = meant-is-book b h bytes in
-        let t = outcome-in-book (rulesBy (meant b)) (numbersOf b) (ownOf b) (look b) a z in
+        let E = I .entries in
+        let t = outcome-in-book (rulesBy (headerOf b)) (numbersOf b) (ownOf b) (look b) a z in
         let both = and-eq-true-iff (ltb j (nOf b)) (ltb c (numbersOf b)) .0 t in
         let in-senders = ltb-true j (nOf b) (both .0) in
         let in-numbers = ltb-true c (numbersOf b) (both .1) in
         record {
-          n = I .n;
-          numbers = I .numbers;
-          own = I .own;
-          season = I .season;
-          cap = I .cap;
-          moisture = I .moisture;
-          conductivity = I .conductivity;
-          sheet = I .sheet;
-          down = I .down;
-          limit = I .limit;
-          helped = I .helped;
-          helped-past = I .helped-past;
-          entries = place-all (λ j c x. IsEntry (nOf b) x) (look b) j c (o .entry) (fits .entry) (I .entries);
-          others = place-all (λ j c x. (j ≡ ownOf b → ⊥) → x .published ≡ none) (look b) j c (o .entry) (fits .others) (I .others);
-          past-sender =
-              place-all (λ j c x. nOf b ≤ j → x ≡ fresh) (look b) j c (o .entry) (λ l. absurd (omega arith)) (I .past-sender);
-          past-number =
-              place-all (λ j c x. numbersOf b ≤ c → x ≡ fresh) (look b) j c (o .entry) (λ l. absurd (omega arith)) (I .past-number);
+          header = I .header;
+          help = I .help;
+          entries = record {
+            each = place-all (λ j c x. IsEntry (nOf b) x) (look b) j c (o .entry) (fits .entry) (E .each);
+            others = place-all (λ j c x. (j ≡ ownOf b → ⊥) → x .published ≡ none) (look b) j c (o .entry) (fits .others) (E .others);
+            past-sender =
+                place-all (λ j c x. nOf b ≤ j → x ≡ fresh) (look b) j c (o .entry) (λ l. absurd (omega arith)) (E .past-sender);
+            past-number =
+                place-all (λ j c x. numbersOf b ≤ c → x ≡ fresh) (look b) j c (o .entry) (λ l. absurd (omega arith)) (E .past-number);
+          };
         }
 
     accepted-stored : o .answer ≡ 0 → Stored b (entered b j c o .book) j c (o .entry)
@@ -128,18 +123,14 @@ module _ (b : List ℕ) (h : legal b ≡ true) (bytes : Bytes b) where
         record {
           legal = written-legal B (is-book z);
           bytes = written-bytes B (is-book z);
-          n = ap (λ (B : Meaning). B .n) M;
-          numbers = ap (λ (B : Meaning). B .numbers) M;
-          own = ap (λ (B : Meaning). B .own) M;
-          season = ap (λ (B : Meaning). B .season) M;
-          sheet = ap (λ (B : Meaning). B .sheet) M;
-          care = ap (λ (B : Meaning). B .care) M;
+          header = ap (λ (B : Meaning). B .header) M;
+          help = ap (λ (B : Meaning). B .help) M;
           entries = ap (λ (B : Meaning). B .entries) M;
         }
 
     refused-is : (o .answer ≡ 0 → ⊥) → o ≡ refused (o .answer) (look b j c)
     unfolding stepOf meant
-    refused-is = outcome-refused (rulesBy (meant b)) (numbersOf b) (ownOf b) (look b) a
+    refused-is = outcome-refused (rulesBy (headerOf b)) (numbersOf b) (ownOf b) (look b) a
 
     -- the named entry is as the step leaves it, the others and the header are as before
     pub called-stored : Stored b (called b a .book) j c (o .entry)
@@ -168,25 +159,18 @@ module _ (b : List ℕ) (h : legal b ≡ true) (bytes : Bytes b) where
 
     step-fills : Filled (look b j c) (o .entry)
     unfolding stepOf meant
-    step-fills = outcome-done (rulesBy (meant b)) (numbersOf b) (ownOf b) a (look b) .moves .filled
+    step-fills = outcome-done (rulesBy (headerOf b)) (numbersOf b) (ownOf b) a (look b) .moves .filled
 
     pub called-keeps : Kept b (called b a .book)
-    unfolding careOf
+    unfolding helpOf
     called-keeps =
         let s = called-stored in
         record {
           legal = s .legal;
           bytes = s .bytes;
-          header = record {
-            n = s .n;
-            numbers = s .numbers;
-            own = s .own;
-            season = s .season;
-            sheet = s .sheet;
-            down = ap (λ (w : Care). w .down) (s .care);
-          };
-          limit = ap (λ (w : Care). w .limit) (s .care);
-          helped = λ p. omega (arith, ap (λ (w : Care). w .helped p) (s .care));
+          header = s .header;
+          limit = ap (λ (w : Help). w .limit) (s .help);
+          helped = λ p. omega (arith, ap (λ (w : Help). w .helped p) (s .help));
           fills = λ j₂ c₂. rw (s .entries)
               (place-all (λ j c x. Filled (look b j c) x) (look b) j c (o .entry) step-fills (λ j c. filled-refl (look b j c)) j₂ c₂);
         }
@@ -198,26 +182,19 @@ module _ (b : List ℕ) (h : legal b ≡ true) (bytes : Bytes b) where
     accepted = requestAnswer b p season ≡ 0
 
     -- an accepted request's bytes mean the book with one more help for the asker
-    pub helped-meant : accepted → meant (countHelp b p) ≡ withCare (meant b) (moreCare (careOf b) p)
+    pub helped-meant : accepted → meant (countHelp b p) ≡ withHelp (meant b) (moreHelp (helpOf b) p)
     helped-meant z = help-meant b h bytes p (request-from b p season z) (request-low b p season z)
 
     pub helped-keeps : accepted → Kept b (countHelp b p)
-    unfolding meant careOf
+    unfolding meant helpOf
     helped-keeps z =
         let M = helped-meant z in
         record {
           legal = help-legal b h bytes p (request-from b p season z) (request-low b p season z);
           bytes = help-bytes b h bytes p (request-from b p season z) (request-low b p season z);
-          header = record {
-            n = ap (λ (B : Meaning). B .n) M;
-            numbers = ap (λ (B : Meaning). B .numbers) M;
-            own = ap (λ (B : Meaning). B .own) M;
-            season = ap (λ (B : Meaning). B .season) M;
-            sheet = ap (λ (B : Meaning). B .sheet) M;
-            down = ap (λ (B : Meaning). B .care .down) M;
-          };
-          limit = ap (λ (B : Meaning). B .care .limit) M;
-          helped = λ q. subst (λ (f : ℕ → ℕ). helpedOf b q ≤ f q) (sym (ap (λ (B : Meaning). B .care .helped) M))
+          header = ap (λ (B : Meaning). B .header) M;
+          limit = ap (λ (B : Meaning). B .help .limit) M;
+          helped = λ q. subst (λ (f : ℕ → ℕ). helpedOf b q ≤ f q) (sym (ap (λ (B : Meaning). B .help .helped) M))
               (upd-all (λ q x. helpedOf b q ≤ x) (helpedOf b) p (suc (helpedOf b p)) (omega arith) (λ q. le-refl (helpedOf b q)) q);
           fills = λ j c. subst (λ (f : PerEntry Entry). Filled (look b j c) (f j c)) (sym (ap (λ (B : Meaning). B .entries) M))
               (filled-refl (look b j c));

@@ -9,14 +9,13 @@ use lib.Dec.{eqb}
 use lib.ListN.{getD}
 use borrow.Author.Tests.{eqb-true, eq-eqb, ne-eqb, lt-ltb}
 use Rattle.lot.specs.Declaration.{bytesOf}
-use Rattle.sheet.specs.Kept.{sheetAt}
 use Rattle.message.specs.Message.{Five, Told, gives, malformed, readOf, requestOf}
 use Rattle.message.proofs.Request.{message-unasked}
 use Rattle.entry.specs.Entry.{Decl, Kind, SEND, ECHO, READY, heard}
 use Rattle.protocol.specs.Steps.{Out, publishes, may, recording}
 use Rattle.protocol.specs.Book.{Call, publishing, receiving, senderOf, numberOf}
 use Rattle.meaning.specs.Layout.{helpedPlace}
-use Rattle.meaning.specs.Book.{nOf, numbersOf, ownOf, seasonOf, sheetPlace, limitOf, helpedOf, countHelp, look}
+use Rattle.meaning.specs.Book.{nOf, numbersOf, ownOf, seasonOf, limitOf, helpedOf, countHelp, look, sheetOf}
 use Rattle.meaning.specs.Legal.{legal, Has}
 use Rattle.calls.specs.Entered.{helping, okBy, kindNumber, kindOf, entered}
 use Rattle.calls.specs.Call.{refusal, stepOf, called, published, requestAnswer, requested, received}
@@ -51,7 +50,7 @@ module _ (b : List ℕ) where
       unfolding published
       publishing-answer n e = rw h (called-answer (publishing c v) ∙ sym e)
 
-      module _ (l : c < numbersOf b) (t : okBy (sheetAt b sheetPlace) v ≡ true) where
+      module _ (l : c < numbersOf b) (t : okBy (sheetOf b) v ≡ true) where
         accepted : look b (ownOf b) c .published ≡ none → 0 ≡ stepOf b (publishing c v) .answer
         unfolding publishes
         accepted e = sym (ap (λ (o : Out). o .answer) (step-publishes b h c v l t e))
@@ -110,7 +109,7 @@ module _ (b : List ℕ) where
           has : Has b j c
           has = record { is-legal = R .legal; sender = I .sender; number = I .number }
 
-          module _ (t : okBy (sheetAt b sheetPlace) v ≡ true) (from : may j k p ≡ true) where
+          module _ (t : okBy (sheetOf b) v ≡ true) (from : may j k p ≡ true) where
             already-heard : (w : Decl) → heard k p (look b j c) ≡ some w → 7 ≡ stepOf b a .answer
             unfolding recording
             already-heard w e = sym (answer-past b j c p k v has (I .house) t from ∙ rw e)

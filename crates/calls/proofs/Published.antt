@@ -5,14 +5,13 @@ use mathlib.Core.Bool.{Bool, true, false}
 use mathlib.Core.List.{List}
 use mathlib.Core.Option.{none, some}
 use native.Mathlib.Omega.{arith}
-use Rattle.sheet.specs.Kept.{sheetAt}
 use Rattle.entry.specs.Entry.{Decl, isSome}
 use Rattle.protocol.specs.Steps.{Out, publishes}
 use Rattle.protocol.specs.Book.{Call, publishing}
 use Rattle.protocol.specs.Thresholds.{rulesOf}
 use Rattle.meaning.specs.Slot.{slotAt}
 use Rattle.meaning.specs.Layout.{slotPlace}
-use Rattle.meaning.specs.Book.{nOf, numbersOf, ownOf, look, meant, sheetPlace}
+use Rattle.meaning.specs.Book.{nOf, numbersOf, ownOf, look, meant, headerOf, sheetOf}
 use Rattle.meaning.specs.Legal.{legal, IsDecl}
 use Rattle.calls.specs.declared.Outcome.{Outcome}
 use Rattle.calls.specs.Entered.{Result, result, giving, okBy, rulesBy, entered, publishedAt}
@@ -32,9 +31,9 @@ module _ (b : List ℕ) (h : legal b ≡ true) (c : ℕ) (v : Decl) where
   abbrev a : Call
   a = publishing c v
 
-  ordered : PublishingOrder (rulesBy (meant b)) (numbersOf b) (ownOf b) c v (look b)
+  ordered : PublishingOrder (rulesBy (headerOf b)) (numbersOf b) (ownOf b) c v (look b)
   unfolding rulesBy rulesOf meant
-  ordered = publishing-ordered (rulesBy (meant b)) (numbersOf b) (ownOf b) c v (look b) (own-below b h)
+  ordered = publishing-ordered (rulesBy (headerOf b)) (numbersOf b) (ownOf b) c v (look b) (own-below b h)
 
   pub number-missing : numbersOf b ≤ c → 4 ≡ stepOf b a .answer
   unfolding stepOf meant
@@ -45,15 +44,15 @@ module _ (b : List ℕ) (h : legal b ≡ true) (c : ℕ) (v : Decl) where
   number-refused l r q = called-refused b a 4 r (number-missing l) (λ z. omega arith) q
 
   module _ (l : c < numbersOf b) where
-    pub lot-not-plausible : okBy (sheetAt b sheetPlace) v ≡ false → 5 ≡ stepOf b a .answer
+    pub lot-not-plausible : okBy (sheetOf b) v ≡ false → 5 ≡ stepOf b a .answer
     unfolding stepOf rulesBy rulesOf meant
     lot-not-plausible f = sym (ordered .not-plausible l f)
 
     -- 5
-    pub lot-refused : okBy (sheetAt b sheetPlace) v ≡ false → (r : Outcome) → r ≡ giving 5 none none → result r b ≡ called b a
+    pub lot-refused : okBy (sheetOf b) v ≡ false → (r : Outcome) → r ≡ giving 5 none none → result r b ≡ called b a
     lot-refused f r q = called-refused b a 5 r (lot-not-plausible f) (λ z. omega arith) q
 
-    module _ (ok : okBy (sheetAt b sheetPlace) v ≡ true) where
+    module _ (ok : okBy (sheetOf b) v ≡ true) where
       pub already-there : (w : Decl) → look b (ownOf b) c .published ≡ some w → 8 ≡ stepOf b a .answer
       unfolding stepOf rulesBy rulesOf meant
       already-there w e = sym (ordered .already l ok w e)

@@ -7,20 +7,20 @@ use Rattle.lot.specs.Declaration.{declarationAt, bytesOf}
 use Rattle.message.specs.Message.{gives, readOf}
 use Rattle.entry.specs.Entry.{Decl, Kind}
 use Rattle.protocol.specs.Steps.{say}
-use Rattle.meaning.specs.Book.{Meaning}
+use Rattle.meaning.specs.Book.{Header}
 use Rattle.meaning.specs.Legal.{IsDecl}
 use Rattle.calls.specs.Entered.{kindNumber, kindOf, fiveOf, letter, rulesBy}
 use mathlib.Core.Option.{some}
 
 -- the counts that a book's steps compare with
-abbrev pub countsBy : Meaning → Counts
-countsBy B = countsOf (B .n) (B .care .down)
+abbrev pub countsBy : Header → Counts
+countsBy h = countsOf (h .n) (h .down)
 
 pub record Claims : Type 0 where
   -- The counts that a book's steps compare with are the wall card's, at its n and f.
-  pub quorum-by : (B : Meaning) → rulesBy B .quorum ≡ countsBy B .quorum
-  pub amplify-by : (B : Meaning) → rulesBy B .amplify ≡ countsBy B .amplify
-  pub deliver-by : (B : Meaning) → rulesBy B .deliver ≡ countsBy B .deliver
+  pub quorum-by : (h : Header) → rulesBy h .quorum ≡ countsBy h .quorum
+  pub amplify-by : (h : Header) → rulesBy h .amplify ≡ countsBy h .amplify
+  pub deliver-by : (h : Header) → rulesBy h .deliver ≡ countsBy h .deliver
   -- Each message given on an entry reads as its kind, with the book's season and that entry's sender and number,
   pub letter-read : (season sender number : ℕ) (k : Kind) (v : Decl)
       → readOf (letter season sender number (say k v)) ≡ gives (fiveOf (kindNumber k) season sender number (declarationAt v 0))

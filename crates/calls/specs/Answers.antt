@@ -6,17 +6,16 @@ use mathlib.Core.List.{List}
 use mathlib.Core.Logic.{_⊎_}
 use mathlib.Core.Option.{none, some}
 use Rattle.lot.specs.Declaration.{bytesOf}
-use Rattle.sheet.specs.Kept.{sheetAt}
 use Rattle.message.specs.Message.{Five, gives, malformed, readOf, requestOf}
 use Rattle.entry.specs.Entry.{Decl, heard, Kind}
-use Rattle.meaning.specs.Book.{nOf, numbersOf, ownOf, seasonOf, sheetPlace, limitOf, helpedOf, look}
+use Rattle.meaning.specs.Book.{nOf, numbersOf, ownOf, seasonOf, limitOf, helpedOf, look, sheetOf}
 use Rattle.meaning.specs.Legal.{legal}
 use Rattle.calls.specs.Entered.{okBy, kindOf}
 use Rattle.calls.specs.Call.{published, received}
 
 -- plausible by the book's sheet
 abbrev ok : List ℕ → Decl → Bool
-ok b v = okBy (sheetAt b sheetPlace) v
+ok b v = okBy (sheetOf b) v
 
 -- Publishing v at number c: 1, 4, 5, 8.
 pub record Publishing (b : List ℕ) (c : ℕ) (v : Decl) : Type 0 where

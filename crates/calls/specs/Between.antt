@@ -5,10 +5,9 @@ use mathlib.Core.Path.{_≡_}
 use mathlib.Core.Bool.{true, false}
 use mathlib.Core.List.{List}
 use mathlib.Core.Option.{some}
-use Rattle.sheet.specs.Kept.{sheetAt}
 use Rattle.message.specs.Message.{Five, readOf, isRequest}
 use Rattle.entry.specs.Entry.{Decl}
-use Rattle.meaning.specs.Book.{nOf, numbersOf, ownOf, seasonOf, sheetPlace, downOf, careOf, look}
+use Rattle.meaning.specs.Book.{ownOf, headerOf, helpOf, look}
 use Rattle.meaning.specs.Legal.{Lent}
 use Rattle.calls.specs.Entered.{Result}
 use Rattle.calls.specs.Call.{published, received}
@@ -16,15 +15,6 @@ use Rattle.calls.specs.Call.{published, received}
 -- an entry other than that of sender j and number c
 abbrev pub Other : (j c j₂ c₂ : ℕ) → Type 0
 Other j c j₂ c₂ = (j₂ ≡ j) × (c₂ ≡ c) → ⊥
-
--- two books agree on n, S, own number, season, sheet and f
-pub record SameHeader (b d : List ℕ) : Type 0 where
-  pub n : nOf b ≡ nOf d
-  pub numbers : numbersOf b ≡ numbersOf d
-  pub own : ownOf b ≡ ownOf d
-  pub season : seasonOf b ≡ seasonOf d
-  pub sheet : sheetAt b sheetPlace ≡ sheetAt d sheetPlace
-  pub down : downOf b ≡ downOf d
 
 -- two results give the same answer, message and delivery, and end agreeing on the entry of sender j and number c
 pub record Alike (r s : Result) (j c : ℕ) : Type 0 where
@@ -40,14 +30,14 @@ pub record Between : Type 0 where
       → look (received b house message .book) j c ≡ look b j c
   -- n, S, own number, season, sheet, f, d and how often each asker was helped stay as they are.
   pub published-header : (b : List ℕ) → Lent b → (number : ℕ) (v : Decl)
-      → SameHeader (published b number v .book) b × (careOf (published b number v .book) ≡ careOf b)
+      → (headerOf (published b number v .book) ≡ headerOf b) × (helpOf (published b number v .book) ≡ helpOf b)
   pub received-header : (b : List ℕ) → Lent b → (house : ℕ) (message : List ℕ) → isRequest message ≡ false
-      → SameHeader (received b house message .book) b × (careOf (received b house message .book) ≡ careOf b)
+      → (headerOf (received b house message .book) ≡ headerOf b) × (helpOf (received b house message .book) ≡ helpOf b)
   -- Two legal books that agree on n, S, own number, season, sheet, f and one entry give the same answer, message and delivery to any
   -- publishing or receiving that names that entry, and end agreeing on it, whatever the other entries hold.
-  pub published-same : (b d : List ℕ) → Lent b → Lent d → SameHeader b d → (number : ℕ) (v : Decl)
+  pub published-same : (b d : List ℕ) → Lent b → Lent d → headerOf b ≡ headerOf d → (number : ℕ) (v : Decl)
       → look b (ownOf b) number ≡ look d (ownOf b) number → Alike (published b number v) (published d number v) (ownOf b) number
-  pub received-same : (b d : List ℕ) → Lent b → Lent d → SameHeader b d → (house : ℕ) (message : List ℕ) (j c : ℕ)
+  pub received-same : (b d : List ℕ) → Lent b → Lent d → headerOf b ≡ headerOf d → (house : ℕ) (message : List ℕ) (j c : ℕ)
       → isRequest message ≡ false → ((m : Five) → readOf message .five ≡ some m → (m .sender ≡ j) × (m .number ≡ c))
       → look b j c ≡ look d j c → Alike (received b house message) (received d house message) j c
   -- A request changes no entry.

@@ -6,13 +6,12 @@ use mathlib.Core.List.{List}
 use mathlib.Core.Option.{Option, none, some}
 use lib.Dec.{eqb}
 use Rattle.lot.specs.Declaration.{bytesOf}
-use Rattle.sheet.specs.Kept.{sheetAt}
 use Rattle.message.specs.Message.{Five, readOf, requestOf}
 use Rattle.entry.specs.Entry.{Decl, Kind, heard}
 use Rattle.protocol.specs.Steps.{Out, must, may, recording}
 use Rattle.protocol.specs.Book.{Call, publishing, receiving, senderOf, numberOf, outcome}
 use Rattle.protocol.specs.Run.{helpAnswer}
-use Rattle.meaning.specs.Book.{Meaning, meant, look, nOf, ownOf, seasonOf, sheetPlace, limitOf, helpedOf, countHelp}
+use Rattle.meaning.specs.Book.{Meaning, meant, look, nOf, ownOf, seasonOf, limitOf, helpedOf, countHelp, sheetOf}
 use Rattle.meaning.specs.Legal.{legal}
 use Rattle.calls.specs.Entered.{Result, giving, helping, okBy, rulesBy, kindOf, entered}
 
@@ -25,7 +24,7 @@ abbrev pub fromAnswer : List ℕ → (house : ℕ) → Kind → (sender number :
 fromAnswer b p k j c v = must (may j k p) 6 (recording (heard k p (look b j c)) v)
 
 abbrev pub lotAnswer : List ℕ → (house : ℕ) → Kind → (sender number : ℕ) → Decl → ℕ
-lotAnswer b p k j c v = must (okBy (sheetAt b sheetPlace) v) 5 (fromAnswer b p k j c v)
+lotAnswer b p k j c v = must (okBy (sheetOf b) v) 5 (fromAnswer b p k j c v)
 
 -- a step's outcome at the bytes
 abbrev pub carried : List ℕ → (sender number : ℕ) → Out → Result
@@ -35,7 +34,7 @@ carried b j c o = cond (eqb (o .answer) 0) (entered b j c o) (refusal (o .answer
 unfoldable pub stepOf : List ℕ → Call → Out
 unfolding rulesBy
 stepOf b a =
-    let B : Meaning = meant b in outcome (rulesBy B) (B .numbers) (B .own) a (B .entries)
+    let B : Meaning = meant b in outcome (rulesBy (B .header)) (B .header .numbers) (B .header .own) a (B .entries)
 
 unfoldable pub called : List ℕ → Call → Result
 unfolding stepOf entered

@@ -9,7 +9,7 @@ use Rattle.words.specs.Settled.{Settled, SettledWith}
 use Rattle.entry.specs.Entry.{Decl, Stays}
 use Rattle.protocol.specs.Book.{Call, senderOf, numberOf}
 use Rattle.meaning.specs.Layout.{slotCount}
-use Rattle.meaning.specs.Book.{nOf, numbersOf, ownOf, seasonOf, careOf, moreCare, withCare, slotOf, meant}
+use Rattle.meaning.specs.Book.{nOf, numbersOf, ownOf, seasonOf, helpOf, moreHelp, withHelp, slotOf, meant}
 use Rattle.meaning.specs.Legal.{Lent}
 use Rattle.calls.specs.declared.Outcome.{Outcome}
 use Rattle.calls.specs.Entered.{result, giving, letters, withEntry}
@@ -43,7 +43,7 @@ pub record Claims : Type 0 where
       → meant (called b a .book) ≡ withEntry (meant b) (senderOf (ownOf b) a) (numberOf a) (stepOf b a .entry)
   -- An accepted request's bytes mean the book with one more help for the asker.
   pub requested-meant : (b : List ℕ) → Lent b → (house season : ℕ) → requestAnswer b house season ≡ 0
-      → meant (requested b house season .book) ≡ withCare (meant b) (moreCare (careOf b) house)
+      → meant (requested b house season .book) ≡ withHelp (meant b) (moreHelp (helpOf b) house)
   -- Each answer is given exactly when the rules say: where several apply, the first in the call's order.
   pub publishing : (b : List ℕ) (number : ℕ) (v : Decl) → Publishing b number v
   pub receiving : (b : List ℕ) (house : ℕ) (message : List ℕ) → Receiving b house message

@@ -14,7 +14,7 @@ use Rattle.message.specs.Message.{Five, wire}
 use Rattle.entry.specs.Entry.{Decl, Kind, SEND, ECHO, READY, Entry, place}
 use Rattle.protocol.specs.Steps.{Rules, Say, say, Out, publishes, takes}
 use Rattle.protocol.specs.Thresholds.{rulesOf}
-use Rattle.meaning.specs.Book.{Meaning, meant, look, write, ownOf, seasonOf}
+use Rattle.meaning.specs.Book.{Header, Meaning, headerOf, meant, look, write, ownOf, seasonOf}
 use Rattle.calls.specs.declared.Outcome.{Outcome}
 
 -- what a call gives, and each byte of the lent buffer afterwards
@@ -71,9 +71,9 @@ unfolding isDecl
 okBy s v = isDecl v && plausible s (declarationAt v 0)
 
 -- the rules of a book: t and the quorum from the wall card
-unfoldable pub rulesBy : Meaning → Rules
+unfoldable pub rulesBy : Header → Rules
 unfolding okBy
-rulesBy B = rulesOf (B .n) (fitting (B .n) (B .care .down)) (B .care .down) (okBy (B .sheet))
+rulesBy h = rulesOf (h .n) (fitting (h .n) (h .down)) (h .down) (okBy (h .sheet))
 
 -- 1 SEND, 2 ECHO, 3 READY
 abbrev pub kindNumber : Kind → ℕ
@@ -102,16 +102,7 @@ letters season j c (some m) = some (letter season j c m)
 
 -- what a book means with another entry of sender j and number c
 abbrev pub withEntry : Meaning → (sender number : ℕ) → Entry → Meaning
-withEntry B j c e =
-    record {
-      n = B .n;
-      numbers = B .numbers;
-      own = B .own;
-      season = B .season;
-      sheet = B .sheet;
-      care = B .care;
-      entries = place (B .entries) j c e;
-    }
+withEntry B j c e = record { header = B .header; help = B .help; entries = place (B .entries) j c e }
 
 -- an accepted call: its message and delivery, and the bytes that mean the book with the named entry as the step leaves it
 unfoldable pub entered : List ℕ → (sender number : ℕ) → Out → Result
@@ -125,7 +116,7 @@ entered b j c o =
 -- an accepted message of the kind from house p, on the entry of sender j and number c
 unfoldable pub taken : List ℕ → (house : ℕ) → Kind → (sender number : ℕ) → Decl → Result
 unfolding entered rulesBy
-taken b p k j c v = entered b j c (takes (rulesBy (meant b)) k p v (look b j c))
+taken b p k j c v = entered b j c (takes (rulesBy (headerOf b)) k p v (look b j c))
 
 -- an accepted publication at number c
 unfoldable pub publishedAt : List ℕ → (number : ℕ) → Decl → Result

@@ -5,15 +5,15 @@ use mathlib.Core.Bool.{true}
 use mathlib.Core.List.{List}
 use Rattle.words.specs.Words.{Bytes}
 use Rattle.entry.specs.Entry.{Filled}
-use Rattle.meaning.specs.Book.{limitOf, helpedOf, look}
+use Rattle.meaning.specs.Book.{limitOf, helpedOf, headerOf, look}
 use Rattle.meaning.specs.Legal.{legal}
-use Rattle.calls.specs.Between.{SameHeader}
 
 -- bytes a after bytes b
 pub record Kept (b a : List ℕ) : Type 0 where
   pub legal : legal a ≡ true
   pub bytes : Bytes a
-  pub header : SameHeader a b
+  -- n, S, own number, season, sheet and f
+  pub header : headerOf a ≡ headerOf b
   pub limit : limitOf a ≡ limitOf b
   -- help is only ever counted
   pub helped : (p : ℕ) → helpedOf b p ≤ helpedOf a p

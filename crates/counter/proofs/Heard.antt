@@ -6,12 +6,11 @@ use mathlib.Core.List.{List}
 use mathlib.Core.Logic.{_⊎_}
 use mathlib.Core.Option.{Option, none, some}
 use borrow.Author.Tests.{eq-eqb, ne-eqb}
-use Rattle.sheet.specs.Kept.{sheetAt}
 use Rattle.message.specs.declared.ReadAnswer.{ReadAnswer}
 use Rattle.message.specs.Message.{isKind}
 use Rattle.entry.specs.Entry.{Decl, Kind, SEND, ECHO, READY}
 use Rattle.protocol.specs.Book.{receiving}
-use Rattle.meaning.specs.Book.{nOf, numbersOf, seasonOf, sheetPlace}
+use Rattle.meaning.specs.Book.{nOf, numbersOf, seasonOf, sheetOf}
 use Rattle.meaning.specs.Legal.{Has}
 use Rattle.calls.specs.declared.Outcome.{Outcome}
 use Rattle.calls.specs.Entered.{Result, result, giving, kindOf, okBy}
@@ -36,7 +35,7 @@ module _ (b : List ℕ) (p kind j c : ℕ) (v : Decl) where
   ready-heard e x q = q ∙ sym (heard-is READY (kind-ready kind e))
 
   -- 6
-  pub another-heard : Has b j c → p < nOf b → okBy (sheetAt b sheetPlace) v ≡ true → kind ≡ 1 → (p ≡ j → ⊥) → (r : Outcome)
+  pub another-heard : Has b j c → p < nOf b → okBy (sheetOf b) v ≡ true → kind ≡ 1 → (p ≡ j → ⊥) → (r : Outcome)
       → r ≡ giving 6 none none → result r b ≡ heardAs b p kind j c v
   another-heard has hp ok e f r q = another-refused b j c p v has hp ok f r q ∙ sym (heard-is SEND (kind-send kind e))
 
@@ -53,7 +52,7 @@ module _ (b : List ℕ) (p kind j c : ℕ) (v : Decl) where
     missing-heard x r q = missing-refused b j c p k v x r q ∙ is
 
     -- 5
-    pub implausible-heard : Has b j c → p < nOf b → okBy (sheetAt b sheetPlace) v ≡ false → (r : Outcome) → r ≡ giving 5 none none
+    pub implausible-heard : Has b j c → p < nOf b → okBy (sheetOf b) v ≡ false → (r : Outcome) → r ≡ giving 5 none none
         → result r b ≡ heardAs b p kind j c v
     implausible-heard has hp f r q = implausible-refused b j c p k v has hp f r q ∙ is
 

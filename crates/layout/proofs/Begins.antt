@@ -1,15 +1,17 @@
--- An entry of a legal book begins where its first slot stands, and lies within the book.
-use lib.ListN.{length}
-use Prim.Native.Nat.{ℕ, _-_, _<_, _+_, _≤_, _*_}
+-- An entry of a legal book begins where its first slot stands, and lies within the book, slot by slot.
+use Prim.Native.Nat.{ℕ, _+_, _-_, _<_, _≤_}
 use mathlib.Core.Path.{_≡_, _∙_}
 use mathlib.Core.List.{List}
 use native.Mathlib.Omega.{arith}
-use Rattle.meaning.specs.Layout.{slotPlace, entrySlot, slotLength, perEntry, sendSlot, echoSlot, readySlot, readySentSlot, deliveredSlot}
+use lib.ListN.{length}
+use Rattle.meaning.specs.Layout.{perEntry, slotLength, placeFrom, slotPlace, entrySlot}
 use Rattle.meaning.specs.Book.{nOf, numbersOf, placeIn}
 use Rattle.meaning.specs.Legal.{Has}
 use Rattle.meaning.proofs.Legality.{legal-facts}
-use Rattle.layout.specs.Places.{Begins, Within, placeFrom}
+use Rattle.layout.specs.Places.{Within, Begins}
 use Rattle.meaning.proofs.Room.{header-room, entry-room}
+use Rattle.meaning.specs.Layout.{sendSlot, echoSlot, readySlot, readySentSlot, deliveredSlot}
+use Prim.Native.Nat.{_*_}
 
 pub begins : (b : List ℕ) (j c n s k r : ℕ) → Has b j c → n ≡ nOf b → s ≡ numbersOf b → k ≡ entrySlot n s c j 0
     → r ≡ slotPlace n k → r < 4294967296 → Begins b j c r
@@ -26,10 +28,8 @@ begins b j c n s k r has en es ek er small =
       };
     }
 
--- ---- the slots of an entry lie within the book
-
-pub slot-within : (b : List ℕ) (base i : ℕ) → Within b base → i < perEntry (nOf b) → placeFrom base i + slotLength ≤ length b
-slot-within b base i W l = omega (arith, W .room, l)
+pub slot-room : (b : List ℕ) (base i : ℕ) → Within b base → i < perEntry (nOf b) → placeFrom base i + slotLength ≤ length b
+slot-room b base i w l = omega (arith, w .room)
 
 pub echo-below : (n p : ℕ) → p < n → echoSlot p < perEntry n
 unfolding perEntry

@@ -1,62 +1,67 @@
 // Where a book's parts lie: the header's fields, its slots, the slots of an entry.
 ghost use mathlib.Core.Path.{_≡_};
-ghost use Prim.Native.Nat.{_+_, _*_, _<_, _≤_};
+ghost use Prim.Native.Nat.{_*_, _<_, _≤_};
 ghost use lib.ListN.{length, getD};
-ghost use Rattle.sheet.specs.Kept.{sheetAt};
-ghost use Rattle.meaning.specs.Layout.{helpedPlace, headLength, perEntry, slotCount, lengthOf, slotPlace, entrySlot};
-ghost use Rattle.meaning.specs.Layout.{echoSlot, readySlot, readySentSlot, deliveredSlot};
-ghost use Rattle.meaning.specs.Book.{nOf, numbersOf, ownOf, seasonOf, sheetPlace, downOf, limitOf, countHelp};
+ghost use Rattle.meaning.specs.Layout.{nPlace, numbersPlace, ownPlace, sheetPlace, downPlace, limitPlace, helpedPlace, headLength};
+ghost use Rattle.meaning.specs.Layout.{perEntry, slotCount, lengthOf, placeFrom, slotPlace, publishedSlot, entrySlot};
+ghost use Rattle.meaning.specs.Layout.{sendSlot, echoSlot, readySlot, readySentSlot, deliveredSlot};
+ghost use Rattle.meaning.specs.Book.{nOf, numbersOf, ownOf, seasonOf, sheetOf, downOf, limitOf, countHelp};
 ghost use Rattle.meaning.specs.Legal.{Has};
-ghost use Rattle.layout.specs.Places.{Begins, placeFrom};
+ghost use Rattle.layout.specs.Places.{Begins};
 use sheet::Sheet;
 
-// Where the sheet's 22 bytes stand, then f, d and the help given to each house.
-const SHEET: usize = 7;
+// Where n, S, the own number, the season, the sheet, f, d and the help given to each house stand.
+const N: usize = 0;
 
-const DOWN: usize = 29;
+const NUMBERS: usize = 1;
 
-const LIMIT: usize = 30;
+const OWN: usize = 2;
+
+const SEASON: usize = 3;
+
+pub const SHEET: usize = 7;
+
+pub const DOWN: usize = 29;
+
+pub const LIMIT: usize = 30;
 
 const HELPED: usize = 31;
 
-// The bytes of a slot.
-const SLOT: usize = 21;
-
 // Houses n.
 pub fn n_of(b: &[u8]) -> usize
-    requires { ⌜ 0 < length (now b) ⌝ }
+    requires { ⌜ nPlace < length (now b) ⌝ }
     ensures { λ r. ⌜ (r ≡ nOf (now (b .entry))) × (r < 256) ⌝ }
 {
-    octets::wide(b[0]) as usize
+    octets::wide(b[N]) as usize
 }
 
 // Entry numbers S.
 pub fn numbers_of(b: &[u8]) -> usize
-    requires { ⌜ 1 < length (now b) ⌝ }
+    requires { ⌜ numbersPlace < length (now b) ⌝ }
     ensures { λ r. ⌜ (r ≡ numbersOf (now (b .entry))) × (r < 256) ⌝ }
 {
-    octets::wide(b[1]) as usize
+    octets::wide(b[NUMBERS]) as usize
 }
 
 // The own number.
 pub fn own_of(b: &[u8]) -> usize
-    requires { ⌜ 2 < length (now b) ⌝ }
+    requires { ⌜ ownPlace < length (now b) ⌝ }
     ensures { λ r. ⌜ (r ≡ ownOf (now (b .entry))) × (r < 256) ⌝ }
 {
-    octets::wide(b[2]) as usize
+    octets::wide(b[OWN]) as usize
 }
 
 // The season.
 pub fn season_of(b: &[u8]) -> u32
-    requires { ⌜ 6 < length (now b) ⌝ }
+    requires { ⌜ sheetPlace ≤ length (now b) ⌝ }
     ensures { λ r. ⌜ r ≡ seasonOf (now (b .entry)) ⌝ }
 {
-    octets::word_at(b, 3)
+    octets::word_at(b, SEASON)
 }
 
 // f, how many honest houses may be down.
 pub fn down_of(b: &[u8]) -> usize
-    requires { ⌜ 29 < length (now b) ⌝ }
+    requires { ⌜ downPlace < length (now b) ⌝ }
     ensures { λ r. ⌜ (r ≡ downOf (now (b .entry))) × (r < 256) ⌝ }
 {
     octets::wide(b[DOWN]) as usize
@@ -64,7 +69,7 @@ pub fn down_of(b: &[u8]) -> usize
 
 // The recovery limit d.
 pub fn limit_of(b: &[u8]) -> usize
-    requires { ⌜ 30 < length (now b) ⌝ }
+    requires { ⌜ limitPlace < length (now b) ⌝ }
     ensures { λ r. ⌜ (r ≡ limitOf (now (b .entry))) × (r < 256) ⌝ }
 {
     octets::wide(b[LIMIT]) as usize
@@ -72,7 +77,7 @@ pub fn limit_of(b: &[u8]) -> usize
 
 // How often asker p was helped.
 pub fn helped_at(b: &[u8], p: usize) -> usize
-    requires { ⌜ (p < 256) × (31 + p < length (now b)) ⌝ }
+    requires { ⌜ (p < 256) × (helpedPlace p < length (now b)) ⌝ }
     ensures { λ r. ⌜ (r ≡ getD (now (b .entry)) (helpedPlace p) 0) × (r < 256) ⌝ }
 {
     octets::wide(b[HELPED + p]) as usize
@@ -80,7 +85,7 @@ pub fn helped_at(b: &[u8], p: usize) -> usize
 
 // One more help for asker p.
 pub fn count_help(b: &mut [u8], p: usize)
-    requires { ⌜ (p < 256) × (31 + p < length (now b)) × (getD (now b) (helpedPlace p) 0 < 255) ⌝ }
+    requires { ⌜ (p < 256) × (helpedPlace p < length (now b)) × (getD (now b) (helpedPlace p) 0 < 255) ⌝ }
     ensures { λ _. ⌜ now (b .exit) ≡ countHelp (now (b .entry)) p ⌝ }
 {
     b[HELPED + p] = b[HELPED + p] + 1;
@@ -88,13 +93,13 @@ pub fn count_help(b: &mut [u8], p: usize)
 
 // The sheet.
 pub fn sheet_of(b: &[u8]) -> Sheet
-    requires { ⌜ 28 < length (now b) ⌝ }
-    ensures { λ r. ⌜ r ≡ sheetAt (now (b .entry)) sheetPlace ⌝ }
+    requires { ⌜ downPlace ≤ length (now b) ⌝ }
+    ensures { λ r. ⌜ r ≡ sheetOf (now (b .entry)) ⌝ }
 {
     judge::sheet_at(b, SHEET)
 }
 
-// The header's bytes: n, S, own number, season, sheet, f, d, and for each house how often it was helped.
+// The bytes before the slots.
 fn head_length(n: usize) -> usize
     requires { ⌜ n < 256 ⌝ }
     ensures { λ r. ⌜ (r ≡ headLength n) × (r < 512) ⌝ }
@@ -139,7 +144,7 @@ pub fn slot_place(n: usize, k: usize) -> usize
     requires { ⌜ (n < 256) × (k < 134217728) ⌝ }
     ensures { λ r. ⌜ (r ≡ slotPlace n k) × (r < 4294967296) ⌝ }
 {
-    head_length(n) + SLOT * k
+    head_length(n) + slots::LENGTH * k
 }
 
 // Slot i of the entry of number c and sender j, counted over the book.
@@ -168,44 +173,49 @@ pub fn entry_at(book: &[u8], sender: usize, number: usize) -> usize
     slot_place(n, entry_slot(n, s, number, sender, 0))
 }
 
-// ---- the slots of an entry that begins at `base`
-
-// Where slot i stands.
-fn slot_from(base: usize, i: usize) -> usize
-    requires { ⌜ (base < 4294967296) × (i < 1024) ⌝ }
-    ensures { λ r. ⌜ r ≡ placeFrom base i ⌝ }
+// Where what this house published at a number stands.
+pub fn published_at(n: usize, number: usize) -> usize
+    requires { ⌜ (n < 256) × (number < 256) ⌝ }
+    ensures { λ r. ⌜ r ≡ slotPlace n (publishedSlot number) ⌝ }
 {
-    base + SLOT * i
+    slot_place(n, number)
 }
 
-// The ECHO of a house.
+// Where the SEND of an entry that begins at `base` stands.
+pub fn send_at(base: usize) -> usize
+    ensures { λ r. ⌜ r ≡ placeFrom base sendSlot ⌝ }
+{
+    base
+}
+
+// Where a house's ECHO stands.
 pub fn echo_at(base: usize, house: usize) -> usize
     requires { ⌜ (base < 4294967296) × (house < 256) ⌝ }
     ensures { λ r. ⌜ r ≡ placeFrom base (echoSlot house) ⌝ }
 {
-    slot_from(base, 1 + house)
+    base + slots::LENGTH * (1 + house)
 }
 
-// The READY of a house.
+// Where a house's READY stands.
 pub fn ready_at(base: usize, n: usize, house: usize) -> usize
     requires { ⌜ (base < 4294967296) × (n < 256) × (house < 256) ⌝ }
     ensures { λ r. ⌜ r ≡ placeFrom base (readySlot n house) ⌝ }
 {
-    slot_from(base, 1 + n + house)
+    base + slots::LENGTH * (1 + n + house)
 }
 
-// The READY that this house sent.
+// Where the READY that this house sent stands.
 pub fn ready_sent_at(base: usize, n: usize) -> usize
     requires { ⌜ (base < 4294967296) × (n < 256) ⌝ }
     ensures { λ r. ⌜ r ≡ placeFrom base (readySentSlot n) ⌝ }
 {
-    slot_from(base, 1 + 2 * n)
+    base + slots::LENGTH * (1 + 2 * n)
 }
 
-// What was delivered.
+// Where what was delivered stands.
 pub fn delivered_at(base: usize, n: usize) -> usize
     requires { ⌜ (base < 4294967296) × (n < 256) ⌝ }
     ensures { λ r. ⌜ r ≡ placeFrom base (deliveredSlot n) ⌝ }
 {
-    slot_from(base, 2 + 2 * n)
+    base + slots::LENGTH * (2 + 2 * n)
 }

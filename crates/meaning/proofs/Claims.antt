@@ -4,7 +4,7 @@ use mathlib.Core.List.{List}
 use lib.ListN.{getD}
 use borrow.Author.Tests.{lt-ltb}
 use Rattle.meaning.specs.Layout.{helpedPlace}
-use Rattle.meaning.specs.Book.{nOf, limitOf, helpedOf, careOf, moreCare, withCare, countHelp, meant}
+use Rattle.meaning.specs.Book.{nOf, limitOf, helpedOf, helpOf, moreHelp, withHelp, countHelp, meant}
 use Rattle.meaning.specs.Legal.{Lent}
 use Rattle.meaning.specs.Claims.{Means, Claims}
 use Rattle.meaning.proofs.Legality.{legal-facts}
@@ -15,7 +15,7 @@ use Rattle.meaning.proofs.Opening.{opened-refused, opened-legal, opened
 use Rattle.meaning.proofs.Helped.{help-legal, help-bytes, help-meant}
 
 helped-more : (b : List ℕ) → Lent b → (p : ℕ) → p < nOf b → helpedOf b p < limitOf b
-    → Means (countHelp b p) (withCare (meant b) (moreCare (careOf b) p))
+    → Means (countHelp b p) (withHelp (meant b) (moreHelp (helpOf b) p))
 unfolding helpedOf
 helped-more b L p l m =
     let low : getD b (helpedPlace p) 0 < limitOf b = rw (lt-ltb p (nOf b) l) at m in

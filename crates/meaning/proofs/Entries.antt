@@ -12,7 +12,8 @@ use Rattle.entry.specs.Entry.{Decl, SEND, ECHO, READY, Entry, fresh, upd, recor
 use Rattle.entry.proofs.Basics.{upd-same, upd-other}
 use Rattle.meaning.specs.Layout.{perEntry, slotCount, entrySlot, sendSlot, echoSlot, readySlot, readySentSlot, deliveredSlot}
 use Rattle.meaning.specs.Book.{nOf, numbersOf, ownOf, slotOf, forHouses, look}
-use Rattle.meaning.proofs.Places.{entry-slot-below, published-slot-below, entry-slot-past, same-entry-row, same-entry-slot}
+use Rattle.meaning.proofs.Places.{send-below, echo-below, ready-below, ready-sent-below, delivered-below, entry-slot-below}
+use Rattle.meaning.proofs.Places.{published-slot-below, entry-slot-past, same-entry-row, same-entry-slot}
 
 -- the entry of a row of slots, and of what was published
 abbrev pub entryFrom : ℕ → (ℕ → Option Decl) → Option Decl → Entry
@@ -66,17 +67,16 @@ module _ (n : ℕ) where
 
   pub entry-same : (f g : ℕ → Option Decl) (o x : Option Decl) → ((i : ℕ) → i < perEntry n → f i ≡ g i) → o ≡ x
       → entryFrom n f o ≡ entryFrom n g x
-  unfolding perEntry
   entry-same f g o x h e =
-      let echo = houses-same (λ p. f (echoSlot p)) (λ p. g (echoSlot p)) (λ p l. h (echoSlot p) (omega arith)) in
-      let ready = houses-same (λ p. f (readySlot n p)) (λ p. g (readySlot n p)) (λ p l. h (readySlot n p) (omega arith)) in
+      let echo = houses-same (λ p. f (echoSlot p)) (λ p. g (echoSlot p)) (λ p l. h (echoSlot p) (echo-below n p l)) in
+      let ready = houses-same (λ p. f (readySlot n p)) (λ p. g (readySlot n p)) (λ p l. h (readySlot n p) (ready-below n p l)) in
       λ i.
       record {
-        send = h sendSlot (omega arith) i;
+        send = h sendSlot (send-below n) i;
         echo = echo i;
         ready = ready i;
-        readySent = h (readySentSlot n) (omega arith) i;
-        delivered = h (deliveredSlot n) (omega arith) i;
+        readySent = h (readySentSlot n) (ready-sent-below n) i;
+        delivered = h (deliveredSlot n) (delivered-below n) i;
         published = e i;
       }
 

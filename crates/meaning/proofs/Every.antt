@@ -17,9 +17,9 @@ use Rattle.sheet.specs.Kept.{sheetBytes, sheetAt, sheetLegalAt, isSheet}
 use Rattle.sheet.proofs.OneForm.{sheet-of-bytes, legal-bytes, sheet-bytes}
 use Rattle.entry.specs.Entry.{Entry, PerEntry}
 use Rattle.meaning.specs.Slot.{slotBytes, part, slotAt, slotOk}
-use Rattle.meaning.specs.Layout.{mostLimit, helpedPlace, headLength, slotCount, lengthOf, slotPlace}
-use Rattle.meaning.specs.Book.{Meaning, nOf, numbersOf, ownOf, seasonOf, sheetPlace, downOf, limitOf, helpedOf, careOf, slotOf, look}
-use Rattle.meaning.specs.Book.{meant, careBytes, head, rows, write}
+use Rattle.meaning.specs.Layout.{mostLimit, helpedPlace, headLength, slotCount, lengthOf, slotPlace, slotLength, sheetPlace}
+use Rattle.meaning.specs.Book.{Header, Help, Meaning, nOf, numbersOf, ownOf, seasonOf, downOf, limitOf, helpedOf, slotOf, sheetOf}
+use Rattle.meaning.specs.Book.{look, headerOf, helpOf, meant, helpBytes, head, rows, write}
 use Rattle.meaning.specs.Legal.{legal, IsBook}
 use Rattle.meaning.proofs.Parts.{getD-first, part-before, part-after}
 use Rattle.meaning.proofs.Legality.{facts-legal, slots-all}
@@ -33,121 +33,141 @@ use Rattle.meaning.proofs.Written.{withEntries, write-slots, head-lengt
 use Rattle.meaning.proofs.Numbered.{slotsOf, slots-are-slots, slots-entries}
 
 module _ (B : Meaning) (ok : IsBook B) where
-  abbrev top : List ℕ
-  top = head (B .n) (B .numbers) (B .own) (B .season) (B .sheet) (B .care)
+  abbrev h : Header
+  h = B .header
 
-  top-long : length top ≡ headLength (B .n)
-  top-long = head-length (B .n) (B .numbers) (B .own) (B .season) (B .sheet) (B .care)
+  abbrev w : Help
+  w = B .help
+
+  abbrev top : List ℕ
+  top = head h w
+
+  top-long : length top ≡ headLength (h .n)
+  top-long = head-length h w
 
   abbrev all : ℕ
-  all = slotCount (B .n) (B .numbers)
+  all = slotCount (h .n) (h .numbers)
 
   abbrev each : ℕ → List ℕ
   each k = slotBytes (slotsOf B k)
 
-  each-long : (k : ℕ) → k < all → length (each k) ≡ 21
+  each-long : (k : ℕ) → k < all → length (each k) ≡ slotLength
   each-long k l = slot-bytes-length (slotsOf B k) (slots-are-slots B ok k)
 
   pub written-slots : write B ≡ top ++ rows all each
   written-slots =
       ap (λ (e : PerEntry Entry). write (withEntries B e)) (sym (slots-entries B ok))
-      ∙ write-slots (B .n) (B .numbers) (B .own) (B .season) (B .sheet) (B .care) (slotsOf B) (ok .own)
+      ∙ write-slots h w (slotsOf B) (ok .header .own)
 
-  pub written-length : length (write B) ≡ lengthOf (B .n) (B .numbers)
+  pub written-length : length (write B) ≡ lengthOf (h .n) (h .numbers)
   unfolding lengthOf
-  written-length = ap length written-slots ∙ length-append top (rows all each) ∙ omega (arith, top-long, rows-length 21 all each each-long)
+  written-length =
+      ap length written-slots ∙ length-append top (rows all each) ∙ omega (arith, top-long, rows-length slotLength all each each-long)
 
-  slot-written : (k : ℕ) → k < all → part (write B) (slotPlace (B .n) k) 21 ≡ each k
+  slot-written : (k : ℕ) → k < all → part (write B) (slotPlace (h .n) k) slotLength ≡ each k
   unfolding slotPlace
   slot-written k l =
-      ap (λ (b : List ℕ). part b (slotPlace (B .n) k) 21) written-slots
-      ∙ part-after top (rows all each) (slotPlace (B .n) k) (k * 21) 21 (omega (arith, top-long))
-      ∙ part-rows 21 all each each-long k l
+      ap (λ (b : List ℕ). part b (slotPlace (h .n) k) slotLength) written-slots
+      ∙ part-after top (rows all each) (slotPlace (h .n) k) (k * slotLength) slotLength (omega (arith, top-long))
+      ∙ part-rows slotLength all each each-long k l
 
   -- ---- the header
 
-  n-written : nOf (write B) ≡ B .n
+  n-written : nOf (write B) ≡ h .n
   unfolding write
   n-written = refl
 
-  numbers-written : numbersOf (write B) ≡ B .numbers
+  numbers-written : numbersOf (write B) ≡ h .numbers
   unfolding write
   numbers-written = refl
 
-  own-written : ownOf (write B) ≡ B .own
+  own-written : ownOf (write B) ≡ h .own
   unfolding write
   own-written = refl
 
-  season-written : seasonOf (write B) ≡ B .season
+  season-written : seasonOf (write B) ≡ h .season
   unfolding write
-  season-written = word-be (B .season)
+  season-written = word-be (h .season)
 
-  sheet-written : sheetAt (write B) sheetPlace ≡ B .sheet
+  sheet-written : sheetOf (write B) ≡ h .sheet
   unfolding write sheetAt sheetBytes
-  sheet-written = sheet-of-bytes (B .sheet) (ok .moisture) (ok .conductivity)
+  sheet-written = sheet-of-bytes (h .sheet) (ok .header .moisture) (ok .header .conductivity)
 
-  down-written : downOf (write B) ≡ B .care .down
+  down-written : downOf (write B) ≡ h .down
   unfolding write sheetBytes
   down-written = refl
 
-  limit-written : limitOf (write B) ≡ B .care .limit
+  limit-written : limitOf (write B) ≡ w .limit
   unfolding write sheetBytes
   limit-written = refl
 
   abbrev helps : List ℕ
-  helps = rows (B .n) (λ p. B .care .helped p ∷ [])
+  helps = rows (h .n) (λ p. w .helped p ∷ [])
 
-  helps-long : length helps ≡ B .n * 1
-  helps-long = rows-length 1 (B .n) (λ p. B .care .helped p ∷ []) (λ p l. refl)
+  helps-long : length helps ≡ h .n * 1
+  helps-long = rows-length 1 (h .n) (λ p. w .helped p ∷ []) (λ p l. refl)
 
-  helped-written : (p : ℕ) → p < B .n → getD (write B) (helpedPlace p) 0 ≡ B .care .helped p
-  unfolding head sheetBytes careBytes
+  helped-written : (p : ℕ) → p < h .n → getD (write B) (helpedPlace p) 0 ≡ w .helped p
+  unfolding head sheetBytes helpBytes
   helped-written p l =
       let before : List ℕ =
-      B .n ∷ B .numbers ∷ B .own ∷ be32 (B .season) ++ (sheetBytes (B .sheet) ++ (B .care .down ∷ B .care .limit ∷ [])) in
+      h .n ∷ h .numbers ∷ h .own ∷ be32 (h .season) ++ (sheetBytes (h .sheet) ++ (h .down ∷ w .limit ∷ [])) in
       let e : p ≡ p * 1 = omega arith in
-      getD-first (write B) (31 + p) 1 (omega arith)
+      getD-first (write B) (helpedPlace p) 1 (omega arith)
       ∙ ap (λ (l : List ℕ). getD l 0 0)
-      (ap (λ (b : List ℕ). part b (31 + p) 1) written-slots
-      ∙ part-after before (helps ++ rows all each) (31 + p) p 1 (omega arith)
+      (ap (λ (b : List ℕ). part b (helpedPlace p) 1) written-slots
+      ∙ part-after before (helps ++ rows all each) (helpedPlace p) p 1 (omega arith)
       ∙ part-before helps (rows all each) p 1 (omega (arith, helps-long))
       ∙ ap (λ (k : ℕ). part helps k 1) e
-      ∙ part-rows 1 (B .n) (λ p. B .care .helped p ∷ []) (λ p l. refl) p l)
+      ∙ part-rows 1 (h .n) (λ p. w .helped p ∷ []) (λ p l. refl) p l)
 
-  care-written : careOf (write B) ≡ B .care
-  unfolding careOf helpedOf
-  care-written = λ i. record { down = down-written i; limit = limit-written i; helped = helped i }
+  header-written : headerOf (write B) ≡ h
+  unfolding headerOf
+  header-written =
+      λ i.
+      record {
+        n = n-written i;
+        numbers = numbers-written i;
+        own = own-written i;
+        season = season-written i;
+        sheet = sheet-written i;
+        down = down-written i;
+      }
+
+  help-written : helpOf (write B) ≡ w
+  unfolding helpOf helpedOf
+  help-written = λ i. record { limit = limit-written i; helped = helped i }
     where
-      go : (p : ℕ) (t : Bool) → ltb p (B .n) ≡ t → cond t (getD (write B) (helpedPlace p) 0) 0 ≡ B .care .helped p
-      go p true e = helped-written p (ltb-true p (B .n) e)
-      go p false e = sym (ok .helped-past p (ltb-false p (B .n) e))
+      go : (p : ℕ) (t : Bool) → ltb p (h .n) ≡ t → cond t (getD (write B) (helpedPlace p) 0) 0 ≡ w .helped p
+      go p true e = helped-written p (ltb-true p (h .n) e)
+      go p false e = sym (ok .help .past p (ltb-false p (h .n) e))
 
-      helped : (λ (p : ℕ). cond (ltb p (nOf (write B))) (getD (write B) (helpedPlace p) 0) 0) ≡ B .care .helped
-      helped = fun-ext (λ p. ap (λ (n : ℕ). cond (ltb p n) (getD (write B) (helpedPlace p) 0) 0) n-written ∙ go p (ltb p (B .n)) refl)
+      helped : (λ (p : ℕ). cond (ltb p (nOf (write B))) (getD (write B) (helpedPlace p) 0) 0) ≡ w .helped
+      helped = fun-ext (λ p. ap (λ (n : ℕ). cond (ltb p n) (getD (write B) (helpedPlace p) 0) 0) n-written ∙ go p (ltb p (h .n)) refl)
 
   sheet-legal-written : sheetLegalAt (write B) sheetPlace ≡ true
   unfolding write sheetLegalAt isSheet sheetBytes
-  sheet-legal-written = legal-bytes (B .sheet) (ok .moisture) (ok .conductivity) ∙ ok .sheet
+  sheet-legal-written = legal-bytes (h .sheet) (ok .header .moisture) (ok .header .conductivity) ∙ ok .header .sheet
 
   -- ---- legal
 
-  ok-written : (k : ℕ) → k < all → slotOk (write B) (slotPlace (B .n) k) ≡ true
+  ok-written : (k : ℕ) → k < all → slotOk (write B) (slotPlace (h .n) k) ≡ true
   ok-written k l =
-      ok-part (write B) (slotPlace (B .n) k) ∙ ap (λ (p : List ℕ). slotOk p 0) (slot-written k l) ∙ ok-of-bytes (slotsOf B k)
+      ok-part (write B) (slotPlace (h .n) k) ∙ ap (λ (p : List ℕ). slotOk p 0) (slot-written k l) ∙ ok-of-bytes (slotsOf B k)
 
   pub written-legal : legal (write B) ≡ true
   written-legal =
       facts-legal (write B)
       (record {
-        n = rw n-written (ok .n);
-        numbers = rw numbers-written (ok .numbers);
-        own = rw (own-written, n-written) (ok .own);
+        n = rw n-written (ok .header .n);
+        numbers = rw numbers-written (ok .header .numbers);
+        own = rw (own-written, n-written) (ok .header .own);
         long = rw (n-written, numbers-written) written-length;
         sheet = sheet-legal-written;
-        down = rw (n-written, down-written) (ok .down);
-        limit = rw limit-written (ok .limit);
-        helped = λ p l. let q : p < B .n = omega (arith, n-written) in omega (arith, helped-written p q, limit-written, ok .helped p);
-        slots = rw (n-written, numbers-written) (slots-all (write B) (B .n) all ok-written);
+        down = rw (n-written, down-written) (ok .header .down);
+        limit = rw limit-written (ok .help .limit);
+        helped = λ p l. let q : p < h .n = omega (arith, n-written) in omega (arith, helped-written p q, limit-written, ok .help .most p);
+        slots = rw (n-written, numbers-written) (slots-all (write B) (h .n) all ok-written);
       })
 
   -- ---- and it means that
@@ -156,7 +176,7 @@ module _ (B : Meaning) (ok : IsBook B) where
   unfolding slotOf
   slot-meant k l =
       ap (λ (n : ℕ). slotAt (write B) (slotPlace n k)) n-written
-      ∙ slot-part (write B) (slotPlace (B .n) k)
+      ∙ slot-part (write B) (slotPlace (h .n) k)
       ∙ ap (λ (p : List ℕ). slotAt p 0) (slot-written k l)
       ∙ slot-of-bytes (slotsOf B k) (slots-are-slots B ok k)
 
@@ -164,45 +184,36 @@ module _ (B : Meaning) (ok : IsBook B) where
   look-written =
       look-is (write B)
       ∙ (λ i. entriesIn (n-written i) (numbers-written i) (own-written i) (slotOf (write B)))
-      ∙ entries-same (B .n) (B .numbers) (B .own) (slotOf (write B)) (slotsOf B) slot-meant
+      ∙ entries-same (h .n) (h .numbers) (h .own) (slotOf (write B)) (slotsOf B) slot-meant
       ∙ slots-entries B ok
 
   pub written-meant : meant (write B) ≡ B
   unfolding meant
-  written-meant =
-      λ i.
-      record {
-        n = n-written i;
-        numbers = numbers-written i;
-        own = own-written i;
-        season = season-written i;
-        sheet = sheet-written i;
-        care = care-written i;
-        entries = look-written i;
-      }
+  written-meant = λ i. record { header = header-written i; help = help-written i; entries = look-written i }
 
   -- ---- and it is bytes
 
-  care-is-bytes : Bytes (careBytes (B .n) (B .care))
-  unfolding careBytes mostLimit mostDown
-  care-is-bytes =
-      let d = down-between (B .n) (B .care .down) (ok .down) in
-      bytes-cons (B .care .down) (B .care .limit ∷ helps) (omega (arith, d .0))
-      (bytes-cons (B .care .limit) helps (omega (arith, ok .limit))
-      (rows-bytes (B .n) (λ p. B .care .helped p ∷ [])
-      (λ p l. bytes-cons (B .care .helped p) [] (omega (arith, ok .helped p, ok .limit)) (bytes-zeros 0))))
+  help-is-bytes : Bytes (helpBytes (h .n) w)
+  unfolding helpBytes mostLimit
+  help-is-bytes =
+      bytes-cons (w .limit) helps (omega (arith, ok .help .limit))
+      (rows-bytes (h .n) (λ p. w .helped p ∷ [])
+      (λ p l. bytes-cons (w .helped p) [] (omega (arith, ok .help .most p, ok .help .limit)) (bytes-zeros 0)))
 
   top-bytes : Bytes top
-  unfolding head
+  unfolding head mostDown
   top-bytes =
-      let n = houses-byte (B .n) (ok .n) in
-      let rest = be32 (B .season) ++ (sheetBytes (B .sheet) ++ careBytes (B .n) (B .care)) in
-      bytes-cons (B .n) (B .numbers ∷ B .own ∷ rest) n
-      (bytes-cons (B .numbers) (B .own ∷ rest) (numbers-byte (B .numbers) (ok .numbers))
-      (bytes-cons (B .own) rest (omega (arith, ok .own))
-      (bytes-append (be32 (B .season)) (sheetBytes (B .sheet) ++ careBytes (B .n) (B .care)) (be-bytes (B .season) (ok .season))
-      (bytes-append (sheetBytes (B .sheet)) (careBytes (B .n) (B .care))
-      (sheet-bytes (B .sheet) (ok .cap) (ok .moisture) (ok .conductivity)) care-is-bytes))))
+      let n = houses-byte (h .n) (ok .header .n) in
+      let down = down-between (h .n) (h .down) (ok .header .down) in
+      let last = h .down ∷ helpBytes (h .n) w in
+      let rest = be32 (h .season) ++ (sheetBytes (h .sheet) ++ last) in
+      bytes-cons (h .n) (h .numbers ∷ h .own ∷ rest) n
+      (bytes-cons (h .numbers) (h .own ∷ rest) (numbers-byte (h .numbers) (ok .header .numbers))
+      (bytes-cons (h .own) rest (omega (arith, ok .header .own))
+      (bytes-append (be32 (h .season)) (sheetBytes (h .sheet) ++ last) (be-bytes (h .season) (ok .header .season))
+      (bytes-append (sheetBytes (h .sheet)) last
+      (sheet-bytes (h .sheet) (ok .header .cap) (ok .header .moisture) (ok .header .conductivity))
+      (bytes-cons (h .down) (helpBytes (h .n) w) (omega (arith, down .0)) help-is-bytes)))))
 
   pub written-bytes : Bytes (write B)
   written-bytes =

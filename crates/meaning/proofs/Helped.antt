@@ -13,14 +13,15 @@ use borrow.Author.Tests.{eqb-true, eqb-false, lt-ltb}
 use Rattle.words.specs.Words.{Bytes}
 use Rattle.entry.specs.Entry.{upd}
 use Rattle.meaning.specs.Slot.{part, slotAt, slotOk}
-use Rattle.meaning.specs.Layout.{mostLimit, helpedPlace, slotCount, slotPlace}
-use Rattle.meaning.specs.Book.{nOf, numbersOf, ownOf, downOf, limitOf, helpedOf, careOf, moreCare, withCare, countHelp, slotOf, meant}
-use Rattle.meaning.specs.Book.{write}
+use Rattle.meaning.specs.Layout.{mostLimit, limitPlace, helpedPlace, slotCount, slotPlace, slotLength}
+use Rattle.meaning.specs.Book.{nOf, numbersOf, ownOf, limitOf, helpedOf, headerOf, helpOf, moreHelp, withHelp, countHelp, slotOf}
+use Rattle.meaning.specs.Book.{meant, write}
 use Rattle.meaning.specs.Legal.{legal, Legal}
 use Rattle.meaning.proofs.Legality.{legal-facts, facts-legal, slots-at, slots-all, header-within}
-use Rattle.meaning.proofs.Places.{slot-past-header}
+use Rattle.meaning.proofs.Places.{helped-within, slot-past-header}
 use Rattle.meaning.proofs.Slots.{slot-part, ok-part}
-use Rattle.meaning.proofs.Header.{sheet-same, sheet-legal-same, season-same}
+use Rattle.meaning.proofs.Agree.{agree-n, agree-numbers, agree-own, agree-down}
+use Rattle.meaning.proofs.Header.{same-header, same-sheet-legal}
 use Rattle.meaning.proofs.Entries.{entriesIn, look-is}
 use Rattle.meaning.proofs.OneForm.{written}
 
@@ -44,29 +45,34 @@ module _ (b : List ℕ) (h : legal b ≡ true) (bytes : Bytes b) (p : ℕ) (lp :
   other : (i : ℕ) → i ≢ helpedPlace p → getD after i 0 ≡ getD b i 0
   other i d = getD-set-other b (helpedPlace p) i more 0 d
 
-  first : (i : ℕ) → i < 31 → getD after i 0 ≡ getD b i 0
+  first : (i : ℕ) → i < helpedPlace 0 → getD after i 0 ≡ getD b i 0
   first i l = other i (λ e. omega arith)
 
+  before : (i : ℕ) → i < limitPlace → getD after i 0 ≡ getD b i 0
+  before i l = first i (omega arith)
+
   here : getD after (helpedPlace p) 0 ≡ more
-  here = getD-set-same b (helpedPlace p) more 0 (omega (arith, header-within b facts))
+  here = getD-set-same b (helpedPlace p) more 0 (omega (arith, helped-within (nOf b) p lp, header-within b facts))
+
+  header-kept : headerOf after ≡ headerOf b
+  header-kept = same-header after b before
 
   n-kept : nOf after ≡ nOf b
-  n-kept = first 0 (omega arith)
+  n-kept = agree-n after b header-kept
 
   numbers-kept : numbersOf after ≡ numbersOf b
-  numbers-kept = first 1 (omega arith)
+  numbers-kept = agree-numbers after b header-kept
 
   own-kept : ownOf after ≡ ownOf b
-  own-kept = first 2 (omega arith)
-
-  down-kept : downOf after ≡ downOf b
-  down-kept = first 29 (omega arith)
+  own-kept = agree-own after b header-kept
 
   limit-kept : limitOf after ≡ limitOf b
-  limit-kept = first 30 (omega arith)
+  limit-kept = first limitPlace (omega arith)
 
-  part-kept : (k : ℕ) → part after (slotPlace (nOf b) k) 21 ≡ part b (slotPlace (nOf b) k) 21
-  part-kept k = part-set b (helpedPlace p) more (slotPlace (nOf b) k) 21 (omega (arith, slot-past-header (nOf b) k))
+  part-kept : (k : ℕ) → part after (slotPlace (nOf b) k) slotLength ≡ part b (slotPlace (nOf b) k) slotLength
+  part-kept k =
+      part-set b (helpedPlace p) more (slotPlace (nOf b) k) slotLength
+      (omega (arith, helped-within (nOf b) p lp, slot-past-header (nOf b) k))
 
   slots-kept : slotOf after ≡ slotOf b
   unfolding slotOf
@@ -95,16 +101,16 @@ module _ (b : List ℕ) (h : legal b ≡ true) (bytes : Bytes b) (p : ℕ) (lp :
         numbers = rw numbers-kept (facts .numbers);
         own = rw (own-kept, n-kept) (facts .own);
         long = rw (n-kept, numbers-kept) (length-set b (helpedPlace p) more ∙ facts .long);
-        sheet = sheet-legal-same after b (λ i l. first i (omega arith)) ∙ facts .sheet;
-        down = rw (n-kept, down-kept) (facts .down);
+        sheet = same-sheet-legal after b before ∙ facts .sheet;
+        down = rw (n-kept, agree-down after b header-kept) (facts .down);
         limit = rw limit-kept (facts .limit);
         helped = helped-kept;
         slots = rw (n-kept, numbers-kept) (slots-all after (nOf b) (slotCount (nOf b) (numbersOf b)) ok-kept);
       })
 
-  care-after : careOf after ≡ moreCare (careOf b) p
-  unfolding careOf helpedOf
-  care-after = λ i. record { down = down-kept i; limit = limit-kept i; helped = helped i }
+  help-after : helpOf after ≡ moreHelp (helpOf b) p
+  unfolding helpOf helpedOf
+  help-after = λ i. record { limit = limit-kept i; helped = helped i }
     where
       was : ℕ → ℕ
       was q = cond (ltb q (nOf b)) (getD b (helpedPlace q) 0) 0
@@ -117,24 +123,13 @@ module _ (b : List ℕ) (h : legal b ≡ true) (bytes : Bytes b) (p : ℕ) (lp :
       helped : (λ (q : ℕ). cond (ltb q (nOf after)) (getD after (helpedPlace q) 0) 0) ≡ upd was p (suc (was p))
       helped = fun-ext (λ q. ap (λ (x : ℕ). cond (ltb q x) (getD after (helpedPlace q) 0) 0) n-kept ∙ go q (eqb q p) refl)
 
-  pub help-meant : meant (countHelp b p) ≡ withCare (meant b) (moreCare (careOf b) p)
+  pub help-meant : meant (countHelp b p) ≡ withHelp (meant b) (moreHelp (helpOf b) p)
   unfolding meant countHelp
   help-meant =
-      let season = season-same after b (λ i l. first i (omega arith)) in
-      let sheet = sheet-same after b (λ i l. first i (omega arith)) in
       let entries =
       look-is after ∙ (λ i. entriesIn (n-kept i) (numbers-kept i) (own-kept i) (slots-kept i)) ∙ sym (look-is b)
       in
-      λ i.
-      record {
-        n = n-kept i;
-        numbers = numbers-kept i;
-        own = own-kept i;
-        season = season i;
-        sheet = sheet i;
-        care = care-after i;
-        entries = entries i;
-      }
+      λ i. record { header = header-kept i; help = help-after i; entries = entries i }
 
   pub help-bytes : Bytes (countHelp b p)
   unfolding countHelp mostLimit
@@ -145,5 +140,5 @@ module _ (b : List ℕ) (h : legal b ≡ true) (bytes : Bytes b) (p : ℕ) (lp :
       go (no d) = omega (arith, other i d, bytes i)
 
   -- one byte form: these are the bytes of that meaning
-  pub help-written : countHelp b p ≡ write (withCare (meant b) (moreCare (careOf b) p))
+  pub help-written : countHelp b p ≡ write (withHelp (meant b) (moreHelp (helpOf b) p))
   help-written = sym (written (countHelp b p) help-legal help-bytes) ∙ ap write help-meant

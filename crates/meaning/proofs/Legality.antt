@@ -11,9 +11,10 @@ use borrow.Author.Tests.{eqb-true, eq-eqb, ltb-true, lt-ltb, leb-true, le-leb}
 use Rattle.card.specs.Card.{houses, downOk}
 use Rattle.sheet.specs.Kept.{sheetLegalAt}
 use Rattle.meaning.specs.Slot.{slotOk}
-use Rattle.meaning.specs.Layout.{numbersOk, mostLimit, helpedPlace, slotCount, lengthOf, slotPlace}
-use Rattle.meaning.specs.Book.{nOf, numbersOf, ownOf, downOf, limitOf, sheetPlace}
-use Rattle.meaning.specs.Legal.{slotsOk, helpsOk, careOk, legal, Legal}
+use Rattle.meaning.specs.Layout.{numbersOk, mostLimit, helpedPlace, headLength, slotCount, lengthOf, slotPlace, slotLength}
+use Rattle.meaning.specs.Layout.{sheetPlace}
+use Rattle.meaning.specs.Book.{nOf, numbersOf, ownOf, downOf, limitOf}
+use Rattle.meaning.specs.Legal.{slotsOk, helpsOk, helpOk, legal, Legal}
 use Rattle.meaning.proofs.Places.{length-header, slot-within}
 
 module _ (b : List ℕ) where
@@ -21,11 +22,14 @@ module _ (b : List ℕ) where
   abbrev slots : Bool
   slots = slotsOk b (nOf b) (slotCount (nOf b) (numbersOf b))
 
-  abbrev care : Bool
-  care = careOk b && slots
+  abbrev help : Bool
+  help = helpOk b && slots
+
+  abbrev down : Bool
+  down = downOk (nOf b) (downOf b) && help
 
   abbrev sheet : Bool
-  sheet = sheetLegalAt b sheetPlace && care
+  sheet = sheetLegalAt b sheetPlace && down
 
   abbrev long : Bool
   long = eqb (length b) (lengthOf (nOf b) (numbersOf b)) && sheet
@@ -48,20 +52,18 @@ module _ (b : List ℕ) where
   helps-all d zero f = refl
   helps-all d (suc m) f = rw (helps-all d m (λ p l. f p (omega arith)), le-leb (getD b (helpedPlace m) 0) d (f m (omega arith)))
 
-  abbrev Cared : Type 0
-  Cared =
-      (downOk (nOf b) (downOf b) ≡ true) × (limitOf b ≤ mostLimit) × ((p : ℕ) → p < nOf b → getD b (helpedPlace p) 0 ≤ limitOf b)
+  abbrev Helps : Type 0
+  Helps = (limitOf b ≤ mostLimit) × ((p : ℕ) → p < nOf b → getD b (helpedPlace p) 0 ≤ limitOf b)
 
-  pub care-facts : careOk b ≡ true → Cared
-  unfolding careOk
-  care-facts h =
-      let p = and-eq-true-iff (downOk (nOf b) (downOf b)) (leb (limitOf b) mostLimit && helpsOk b (limitOf b) (nOf b)) .0 h in
-      let q = and-eq-true-iff (leb (limitOf b) mostLimit) (helpsOk b (limitOf b) (nOf b)) .0 (p .1) in
-      (p .0, leb-true (limitOf b) mostLimit (q .0), helps-at (limitOf b) (nOf b) (q .1))
+  help-facts : helpOk b ≡ true → Helps
+  unfolding helpOk
+  help-facts h =
+      let q = and-eq-true-iff (leb (limitOf b) mostLimit) (helpsOk b (limitOf b) (nOf b)) .0 h in
+      (leb-true (limitOf b) mostLimit (q .0), helps-at (limitOf b) (nOf b) (q .1))
 
-  pub facts-care : Cared → careOk b ≡ true
-  unfolding careOk
-  facts-care f = rw (f .0, le-leb (limitOf b) mostLimit (f .1), helps-all (limitOf b) (nOf b) (f .2))
+  facts-help : Helps → helpOk b ≡ true
+  unfolding helpOk
+  facts-help f = rw (le-leb (limitOf b) mostLimit (f .0), helps-all (limitOf b) (nOf b) (f .1))
 
   pub legal-facts : legal b ≡ true → Legal b
   unfolding legal
@@ -70,19 +72,20 @@ module _ (b : List ℕ) where
       let q = and-eq-true-iff (numbersOk (numbersOf b)) own .0 (p .1) in
       let r = and-eq-true-iff (ltb (ownOf b) (nOf b)) long .0 (q .1) in
       let s = and-eq-true-iff (eqb (length b) (lengthOf (nOf b) (numbersOf b))) sheet .0 (r .1) in
-      let t = and-eq-true-iff (sheetLegalAt b sheetPlace) care .0 (s .1) in
-      let u = and-eq-true-iff (careOk b) slots .0 (t .1) in
-      let v = care-facts (u .0) in
+      let t = and-eq-true-iff (sheetLegalAt b sheetPlace) down .0 (s .1) in
+      let u = and-eq-true-iff (downOk (nOf b) (downOf b)) help .0 (t .1) in
+      let v = and-eq-true-iff (helpOk b) slots .0 (u .1) in
+      let w = help-facts (v .0) in
       record {
         n = p .0;
         numbers = q .0;
         own = ltb-true (ownOf b) (nOf b) (r .0);
         long = eqb-true (length b) (lengthOf (nOf b) (numbersOf b)) (s .0);
         sheet = t .0;
-        down = v .0;
-        limit = v .1;
-        helped = v .2;
-        slots = u .1;
+        down = u .0;
+        limit = w .0;
+        helped = w .1;
+        slots = v .1;
       }
 
   pub facts-legal : Legal b → legal b ≡ true
@@ -90,7 +93,7 @@ module _ (b : List ℕ) where
   facts-legal l =
       let own = lt-ltb (ownOf b) (nOf b) (l .own) in
       let long = eq-eqb (length b) (lengthOf (nOf b) (numbersOf b)) (l .long) in
-      rw (l .n, l .numbers, own, long, l .sheet, facts-care (l .down, l .limit, l .helped), l .slots)
+      rw (l .n, l .numbers, own, long, l .sheet, l .down, facts-help (l .limit, l .helped), l .slots)
 
   pub not-legal : (Legal b → ⊥) → false ≡ legal b
   not-legal f = go (legal b) refl
@@ -114,8 +117,8 @@ module _ (b : List ℕ) where
 
   -- the header and each slot lie within a legal book
   module _ (l : Legal b) where
-    pub header-within : 31 + nOf b ≤ length b
+    pub header-within : headLength (nOf b) ≤ length b
     header-within = omega (arith, length-header (nOf b) (numbersOf b), l .long)
 
-    pub slot-within-book : (k : ℕ) → k < slotCount (nOf b) (numbersOf b) → slotPlace (nOf b) k + 21 ≤ length b
+    pub slot-within-book : (k : ℕ) → k < slotCount (nOf b) (numbersOf b) → slotPlace (nOf b) k + slotLength ≤ length b
     slot-within-book k h = omega (arith, slot-within (nOf b) (numbersOf b) k h, l .long)

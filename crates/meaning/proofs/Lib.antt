@@ -2,6 +2,7 @@ pub mod Parts
 pub mod Places
 pub mod Legality
 pub mod Slots
+pub mod Agree
 pub mod Header
 pub mod Entries
 pub mod Stores

@@ -1,5 +1,5 @@
 -- A legal book means what a book may mean: each slot none or 20 bytes, and nothing outside the book.
-use Prim.Native.Nat.{ℕ, _≤_, _<_}
+use Prim.Native.Nat.{ℕ, _+_, _≤_, _<_}
 use mathlib.Core.Path.{_≡_, refl}
 use mathlib.Core.Bool.{Bool, true, false, cond, _&&_}
 use mathlib.Core.List.{List}
@@ -14,11 +14,12 @@ use Rattle.sheet.specs.Kept.{keptAt, sheetAt}
 use Rattle.sheet.proofs.OneForm.{gate-fits}
 use Rattle.entry.specs.Entry.{Decl, fresh}
 use Rattle.meaning.specs.Layout.{helpedPlace, perEntry, slotCount, slotPlace, entrySlot, sendSlot, echoSlot, readySlot, readySentSlot}
-use Rattle.meaning.specs.Layout.{deliveredSlot}
-use Rattle.meaning.specs.Book.{nOf, numbersOf, ownOf, limitOf, helpedOf, careOf, slotOf, forHouses, meant}
-use Rattle.meaning.specs.Legal.{legal, IsSlot, IsEntry, IsBook}
+use Rattle.meaning.specs.Layout.{deliveredSlot, seasonPlace, sheetPlace}
+use Rattle.meaning.specs.Book.{nOf, numbersOf, ownOf, limitOf, helpedOf, headerOf, helpOf, slotOf, forHouses, look, meant}
+use Rattle.meaning.specs.Legal.{legal, IsSlot, IsEntry, IsHeader, IsHelp, AreEntries, IsBook}
 use Rattle.meaning.proofs.Legality.{legal-facts, header-within, slot-within-book}
-use Rattle.meaning.proofs.Places.{entry-slot-below, published-slot-below}
+use Rattle.meaning.proofs.Places.{send-below, echo-below, ready-below, ready-sent-below, delivered-below, entry-slot-below}
+use Rattle.meaning.proofs.Places.{published-slot-below}
 use Rattle.meaning.proofs.Slots.{slot-is-slot}
 use Rattle.meaning.proofs.Header.{header-sheet-legal}
 use Rattle.meaning.proofs.Entries.{rowIn, entryIn, entriesIn}
@@ -56,14 +57,13 @@ module _ (n s own : ℕ) (slot : ℕ → Option Decl) (ok : (k : ℕ) → k < sl
     published-slot false = tt
 
     entry-is-entry : IsEntry n (entryIn n s own slot j c)
-    unfolding perEntry
     entry-is-entry =
         record {
-          send = row-slot sendSlot (omega arith);
-          echo = houses-slots (λ p. rowIn n s slot j c (echoSlot p)) (λ p l. row-slot (echoSlot p) (omega arith));
-          ready = houses-slots (λ p. rowIn n s slot j c (readySlot n p)) (λ p l. row-slot (readySlot n p) (omega arith));
-          readySent = row-slot (readySentSlot n) (omega arith);
-          delivered = row-slot (deliveredSlot n) (omega arith);
+          send = row-slot sendSlot (send-below n);
+          echo = houses-slots (λ p. rowIn n s slot j c (echoSlot p)) (λ p l. row-slot (echoSlot p) (echo-below n p l));
+          ready = houses-slots (λ p. rowIn n s slot j c (readySlot n p)) (λ p l. row-slot (readySlot n p) (ready-below n p l));
+          readySent = row-slot (readySentSlot n) (ready-sent-below n);
+          delivered = row-slot (deliveredSlot n) (delivered-below n);
           published = published-slot (eqb j own);
           echo-past = past-houses (λ p. rowIn n s slot j c (echoSlot p));
           ready-past = past-houses (λ p. rowIn n s slot j c (readySlot n p));
@@ -109,25 +109,36 @@ module _ (b : List ℕ) (h : legal b ≡ true) (bytes : Bytes b) where
       go true e = legal-facts b h .helped p (ltb-true p (nOf b) e)
       go false e = omega arith
 
-  pub meant-is-book : IsBook (meant b)
-  unfolding meant sheetAt careOf helpedOf
-  meant-is-book =
+  header-is : IsHeader (headerOf b)
+  unfolding headerOf sheetAt
+  header-is =
       let f = legal-facts b h in
       record {
         n = f .n;
         numbers = f .numbers;
         own = f .own;
-        season = wordAt-small b bytes 3;
-        cap = wordAt-small b bytes 7;
-        moisture = gate-fits (keptAt b 11);
-        conductivity = gate-fits (keptAt b 20);
+        season = wordAt-small b bytes seasonPlace;
+        cap = wordAt-small b bytes sheetPlace;
+        moisture = gate-fits (keptAt b (sheetPlace + 4));
+        conductivity = gate-fits (keptAt b (sheetPlace + 13));
         sheet = header-sheet-legal b (header-within b f) bytes (f .sheet);
         down = f .down;
-        limit = f .limit;
-        helped = helped-most;
-        helped-past = λ p l. rw (le-ltb p (nOf b) l);
-        entries = entries-are-entries (nOf b) (numbersOf b) (ownOf b) (slotOf b) slots-are-slots;
+      }
+
+  help-is : IsHelp (nOf b) (helpOf b)
+  unfolding helpOf helpedOf
+  help-is = record { limit = legal-facts b h .limit; most = helped-most; past = λ p l. rw (le-ltb p (nOf b) l) }
+
+  entries-are : AreEntries (headerOf b) (look b)
+  unfolding headerOf look
+  entries-are =
+      record {
+        each = entries-are-entries (nOf b) (numbersOf b) (ownOf b) (slotOf b) slots-are-slots;
         others = others-published (nOf b) (numbersOf b) (ownOf b) (slotOf b);
         past-sender = past-sender-fresh (nOf b) (numbersOf b) (ownOf b) (slotOf b);
         past-number = past-number-fresh (nOf b) (numbersOf b) (ownOf b) (slotOf b);
       }
+
+  pub meant-is-book : IsBook (meant b)
+  unfolding meant
+  meant-is-book = record { header = header-is; help = help-is; entries = entries-are }

@@ -5,11 +5,10 @@ use mathlib.Core.Bool.{true}
 use mathlib.Core.List.{List, _++_}
 use native.Mathlib.Omega.{arith}
 use Rattle.words.specs.Words.{Bytes}
-use Rattle.sheet.specs.Kept.{sheetAt}
 use Rattle.entry.specs.Entry.{Entry, place}
 use Rattle.meaning.specs.Slot.{slotBytes, part}
-use Rattle.meaning.specs.Layout.{headLength, slotCount, lengthOf, slotPlace}
-use Rattle.meaning.specs.Book.{nOf, numbersOf, ownOf, seasonOf, sheetPlace, careOf, slotOf, look, meant, rows, write}
+use Rattle.meaning.specs.Layout.{headLength, slotCount, lengthOf, slotPlace, slotLength}
+use Rattle.meaning.specs.Book.{nOf, numbersOf, headerOf, helpOf, slotOf, look, meant, rows, write}
 use Rattle.meaning.specs.Legal.{legal, Legal}
 use Rattle.meaning.proofs.Parts.{part-all, part-add}
 use Rattle.meaning.proofs.Legality.{legal-facts, slots-at, header-within, slot-within-book}
@@ -26,25 +25,25 @@ module _ (b : List ℕ) (h : legal b ≡ true) (bytes : Bytes b) where
   facts = legal-facts b h
 
   slots-part : rows (slotCount (nOf b) (numbersOf b)) (λ k. slotBytes (slotOf b k))
-      ≡ part b (31 + nOf b) (slotCount (nOf b) (numbersOf b) * 21)
+      ≡ part b (headLength (nOf b)) (slotCount (nOf b) (numbersOf b) * slotLength)
   unfolding slotOf slotPlace headLength
   slots-part =
-      rows-parts 21 b (31 + nOf b) (slotCount (nOf b) (numbersOf b)) (λ k. slotBytes (slotOf b k))
+      rows-parts slotLength b (headLength (nOf b)) (slotCount (nOf b) (numbersOf b)) (λ k. slotBytes (slotOf b k))
       (λ k l.
-      let e : 31 + nOf b + 21 * k ≡ 31 + nOf b + k * 21 = omega arith in
+      let e : headLength (nOf b) + slotLength * k ≡ headLength (nOf b) + k * slotLength = omega arith in
       ok-bytes b (slotPlace (nOf b) k) (slot-within-book b facts k l)
       (slots-at b (nOf b) (slotCount (nOf b) (numbersOf b)) (facts .slots) k l)
-      ∙ ap (λ (at : ℕ). part b at 21) e)
+      ∙ ap (λ (at : ℕ). part b at slotLength) e)
 
   pub written : write (meant b) ≡ b
   unfolding meant lengthOf headLength
   written =
-      let e : 31 + nOf b ≡ 0 + (31 + nOf b) = omega arith in
-      write-slots (nOf b) (numbersOf b) (ownOf b) (seasonOf b) (sheetAt b sheetPlace) (careOf b) (slotOf b) (facts .own)
+      let e : headLength (nOf b) ≡ 0 + (headLength (nOf b)) = omega arith in
+      write-slots (headerOf b) (helpOf b) (slotOf b) (facts .own)
       ∙ ap₂ _++_ (header-bytes b (header-within b facts) bytes (facts .sheet)) slots-part
-      ∙ ap (λ (k : ℕ). part b 0 (31 + nOf b) ++ part b k (slotCount (nOf b) (numbersOf b) * 21)) e
-      ∙ sym (part-add b 0 (31 + nOf b) (slotCount (nOf b) (numbersOf b) * 21))
-      ∙ part-all b (31 + nOf b + slotCount (nOf b) (numbersOf b) * 21) (omega (arith, facts .long))
+      ∙ ap (λ (k : ℕ). part b 0 (headLength (nOf b)) ++ part b k (slotCount (nOf b) (numbersOf b) * slotLength)) e
+      ∙ sym (part-add b 0 (headLength (nOf b)) (slotCount (nOf b) (numbersOf b) * slotLength))
+      ∙ part-all b (headLength (nOf b) + slotCount (nOf b) (numbersOf b) * slotLength) (omega (arith, facts .long))
 
 -- one byte form per meaning
 pub same-bytes : (b c : List ℕ) → legal b ≡ true → legal c ≡ true → Bytes b → Bytes c → meant b ≡ meant c → b ≡ c
@@ -55,17 +54,7 @@ same-bytes b c h k p q e = sym (written b h p) ∙ ap write e ∙ written c k q
 module _ (b a : List ℕ) (j c : ℕ) (e : Entry) (s : Stored b a j c e) where
   pub stored-meant : meant a ≡ withEntries (meant b) (place (look b) j c e)
   unfolding meant
-  stored-meant =
-      λ i.
-      record {
-        n = s .n i;
-        numbers = s .numbers i;
-        own = s .own i;
-        season = s .season i;
-        sheet = s .sheet i;
-        care = s .care i;
-        entries = s .entries i;
-      }
+  stored-meant = λ i. record { header = s .header i; help = s .help i; entries = s .entries i }
 
   pub stored-bytes : a ≡ write (withEntries (meant b) (place (look b) j c e))
   stored-bytes = sym (written a (s .legal) (s .bytes)) ∙ ap write stored-meant

@@ -12,16 +12,15 @@ use borrow.Author.Tests.{eqb-true, ltb-true, leb-true}
 use Rattle.card.specs.Card.{houses, downOk}
 use Rattle.words.specs.Words.{Bytes, be32}
 use Rattle.words.proofs.Laws.{wordAt-small}
-use Rattle.sheet.specs.declared.Sheet.{Sheet}
 use Rattle.sheet.specs.Kept.{keptAt, sheetAt, isSheet}
 use Rattle.sheet.proofs.Gates.{sheet-legal}
 use Rattle.sheet.proofs.OneForm.{gate-fits, bytes-of-sheet}
 use Rattle.entry.specs.Entry.{Decl, fresh}
 use Rattle.meaning.specs.Slot.{slotBytes}
 use Rattle.meaning.specs.Layout.{numbersOk, mostLimit, slotLength, slotCount, lengthOf}
-use Rattle.meaning.specs.Book.{Care, Meaning, meant, careBytes, head, write}
+use Rattle.meaning.specs.Book.{Header, Help, Meaning, meant, helpBytes, head, write}
 use Rattle.meaning.specs.Legal.{legal, IsBook}
-use Rattle.meaning.specs.Opening.{freshCare, freshBook, allowed, Opened, opened}
+use Rattle.meaning.specs.Opening.{headed, freshHelp, freshBook, allowed, Opened, opened}
 use Rattle.meaning.proofs.Entries.{entryIn, entriesIn}
 use Rattle.meaning.proofs.Rows.{rows-zeros}
 use Rattle.meaning.proofs.Written.{write-slots, head-length}
@@ -30,13 +29,22 @@ use Rattle.meaning.proofs.Every.{written-legal, written-meant, written-
 
 -- ---- the header and then zeros
 
-pub head-sheet : (n s own season : ℕ) (sheet : List ℕ) (w : Care) → Bytes sheet → isSheet sheet ≡ true
-    → head n s own season (sheetAt sheet 0) w ≡ n ∷ s ∷ own ∷ be32 season ++ (sheet ++ careBytes n w)
+pub head-sheet : (n s own f season : ℕ) (sheet : List ℕ) (w : Help) → Bytes sheet → isSheet sheet ≡ true
+    → head (headed n s own f season (sheetAt sheet 0)) w ≡ n ∷ s ∷ own ∷ be32 season ++ (sheet ++ (f ∷ helpBytes n w))
 unfolding head
-head-sheet n s own season sheet w bytes h =
-    ap (λ (l : List ℕ). n ∷ s ∷ own ∷ be32 season ++ (l ++ careBytes n w)) (bytes-of-sheet sheet bytes h)
+head-sheet n s own f season sheet w bytes h =
+    ap (λ (l : List ℕ). n ∷ s ∷ own ∷ be32 season ++ (l ++ (f ∷ helpBytes n w))) (bytes-of-sheet sheet bytes h)
 
-module _ (n s own f d season : ℕ) (sheet : Sheet) (h : own < n) where
+module _ (h : Header) (d : ℕ) (below : h .own < h .n) where
+  abbrev n : ℕ
+  n = h .n
+
+  abbrev s : ℕ
+  s = h .numbers
+
+  abbrev own : ℕ
+  own = h .own
+
   none-fresh : (λ (j c : ℕ). fresh) ≡ entriesIn n s own (λ k. none)
   none-fresh = fun-ext (λ j. fun-ext (λ c. go j c (ltb j n && ltb c s)))
     where
@@ -60,21 +68,20 @@ module _ (n s own f d season : ℕ) (sheet : Sheet) (h : own < n) where
       go j c true = entry-none j c
       go j c false = refl
 
-  pub fresh-written : write (freshBook n s own f d season sheet)
-      ≡ head n s own season sheet (freshCare f d) ++ replicate (slotLength * slotCount n s) 0
+  pub fresh-written : write (freshBook h d) ≡ head h (freshHelp d) ++ replicate (slotLength * slotCount n s) 0
   unfolding slotBytes
   fresh-written =
-      (λ i. write (record { n = n; numbers = s; own = own; season = season; sheet = sheet; care = freshCare f d; entries = none-fresh i }))
-      ∙ write-slots n s own season sheet (freshCare f d) (λ k. none) h
-      ∙ ap (λ (l : List ℕ). head n s own season sheet (freshCare f d) ++ l)
-      (rows-zeros (slotCount n s) 21 ∙ ap (λ (m : ℕ). replicate m 0) (mul-comm (slotCount n s) 21))
+      (λ i. write (record { header = h; help = freshHelp d; entries = none-fresh i }))
+      ∙ write-slots h (freshHelp d) (λ k. none) below
+      ∙ ap (λ (l : List ℕ). head h (freshHelp d) ++ l)
+      (rows-zeros (slotCount n s) slotLength ∙ ap (λ (m : ℕ). replicate m 0) (mul-comm (slotCount n s) slotLength))
 
-  pub fresh-length : length (write (freshBook n s own f d season sheet)) ≡ lengthOf n s
+  pub fresh-length : length (write (freshBook h d)) ≡ lengthOf n s
   unfolding lengthOf
   fresh-length =
       ap length fresh-written
-      ∙ length-append (head n s own season sheet (freshCare f d)) (replicate (slotLength * slotCount n s) 0)
-      ∙ (λ i. head-length n s own season sheet (freshCare f d) i + length-replicate {A = ℕ} (slotLength * slotCount n s) 0 i)
+      ∙ length-append (head h (freshHelp d)) (replicate (slotLength * slotCount n s) 0)
+      ∙ (λ i. head-length h (freshHelp d) i + length-replicate {A = ℕ} (slotLength * slotCount n s) 0 i)
 
 -- ---- legal, and nothing in it
 
@@ -90,27 +97,32 @@ allowed-facts n s own f d h =
 
 module _ (n s own f d season : ℕ) (sheet : List ℕ) (ok : allowed n s own f d ≡ true)
     (small : season < 2 ^ 32) (bytes : Bytes sheet) (h : isSheet sheet ≡ true) where
-  pub fresh-is-book : IsBook (freshBook n s own f d season (sheetAt sheet 0))
+  abbrev header : Header
+  header = headed n s own f season (sheetAt sheet 0)
+
+  pub fresh-is-book : IsBook (freshBook header d)
   unfolding sheetAt
   fresh-is-book =
       let a = allowed-facts n s own f d ok in
       record {
-        n = a .0;
-        numbers = a .1;
-        own = a .2;
-        season = small;
-        cap = wordAt-small sheet bytes 0;
-        moisture = gate-fits (keptAt sheet 4);
-        conductivity = gate-fits (keptAt sheet 13);
-        sheet = sheet-legal sheet h;
-        down = a .3;
-        limit = a .4;
-        helped = λ p. omega arith;
-        helped-past = λ p l. refl;
-        entries = λ j c. fresh-is-entry n;
-        others = λ j c d. refl;
-        past-sender = λ j c l. refl;
-        past-number = λ j c l. refl;
+        header = record {
+          n = a .0;
+          numbers = a .1;
+          own = a .2;
+          season = small;
+          cap = wordAt-small sheet bytes 0;
+          moisture = gate-fits (keptAt sheet 4);
+          conductivity = gate-fits (keptAt sheet 13);
+          sheet = sheet-legal sheet h;
+          down = a .3;
+        };
+        help = record { limit = a .4; most = λ p. omega arith; past = λ p l. refl };
+        entries = record {
+          each = λ j c. fresh-is-entry n;
+          others = λ j c d. refl;
+          past-sender = λ j c l. refl;
+          past-number = λ j c l. refl;
+        };
       }
 
 -- ---- opening
@@ -121,9 +133,12 @@ pub record Opens (b : List ℕ) (n s own f d : ℕ) (bytes : List ℕ) : Type 0 
   pub long : length b ≡ lengthOf n s
 
 module _ (b : List ℕ) (n s own f d season : ℕ) (sheet : List ℕ) where
+  abbrev B : Meaning
+  B = freshBook (headed n s own f season (sheetAt sheet 0)) d
+
   abbrev outcome : Bool → Bool → Bool → Opened
   outcome t u w =
-      cond t (cond u (cond w (record { answer = 0; book = write (freshBook n s own f d season (sheetAt sheet 0)) })
+      cond t (cond u (cond w (record { answer = 0; book = write B })
       (record { answer = 11; book = b })) (record { answer = 10; book = b })) (record { answer = 9; book = b })
 
   -- what answer 0 says
@@ -139,11 +154,11 @@ module _ (b : List ℕ) (n s own f d season : ℕ) (sheet : List ℕ) where
       go false u w p q r e = absurd (omega arith)
 
   pub opened-book : opened b n s own f d season sheet .answer ≡ 0
-      → opened b n s own f d season sheet .book ≡ write (freshBook n s own f d season (sheetAt sheet 0))
+      → opened b n s own f d season sheet .book ≡ write B
   unfolding opened
   opened-book e = go (allowed n s own f d) (isSheet sheet) (eqb (length b) (lengthOf n s)) e
     where
-      go : (t u w : Bool) → outcome t u w .answer ≡ 0 → outcome t u w .book ≡ write (freshBook n s own f d season (sheetAt sheet 0))
+      go : (t u w : Bool) → outcome t u w .answer ≡ 0 → outcome t u w .book ≡ write B
       go true true true e = refl
       go true true false e = absurd (omega arith)
       go true false w e = absurd (omega arith)
@@ -162,9 +177,6 @@ module _ (b : List ℕ) (n s own f d season : ℕ) (sheet : List ℕ) where
 
   -- opening with answer 0 gives a legal book that means a fresh one
   module _ (small : season < 2 ^ 32) (bytes : Bytes sheet) (e : opened b n s own f d season sheet .answer ≡ 0) where
-    abbrev B : Meaning
-    B = freshBook n s own f d season (sheetAt sheet 0)
-
     is-book : IsBook B
     is-book = let o = opened-facts e in fresh-is-book n s own f d season sheet (o .allowed) small bytes (o .sheet)
 
@@ -180,4 +192,5 @@ module _ (b : List ℕ) (n s own f d season : ℕ) (sheet : List ℕ) where
     pub opened-length : length (opened b n s own f d season sheet .book) ≡ length b
     opened-length =
         let o = opened-facts e in
-        rw (opened-book e) (fresh-length n s own f d season (sheetAt sheet 0) (allowed-facts n s own f d (o .allowed) .2) ∙ sym (o .long))
+        let below = allowed-facts n s own f d (o .allowed) .2 in
+        rw (opened-book e) (fresh-length (headed n s own f season (sheetAt sheet 0)) d below ∙ sym (o .long))

@@ -8,7 +8,8 @@ use native.Mathlib.Nat.{mul-le-mul, mul-le-mul-left, mul-le-mul-right}
 use native.Mathlib.Omega.{arith}
 use lib.Dec.{leb}
 use borrow.Author.Tests.{leb-true}
-use Rattle.meaning.specs.Layout.{mostNumbers, numbersOk, headLength, slotLength, perEntry, slotCount, lengthOf, slotPlace, entrySlot}
+use Rattle.meaning.specs.Layout.{mostNumbers, numbersOk, helpedPlace, headLength, slotLength, perEntry, slotCount, lengthOf}
+use Rattle.meaning.specs.Layout.{slotPlace, entrySlot, sendSlot, echoSlot, readySlot, readySentSlot, deliveredSlot}
 
 -- ---- S, and the length
 
@@ -41,18 +42,23 @@ pub length-most : lengthOf 16 4 ≤ 49152
 unfolding lengthOf headLength slotCount perEntry
 length-most = omega arith
 
-pub length-header : (n s : ℕ) → 31 + n ≤ lengthOf n s
-unfolding lengthOf headLength
+-- how often each asker was helped is the last of the header
+pub helped-within : (n p : ℕ) → p < n → helpedPlace p < headLength n
+unfolding headLength
+helped-within n p l = omega arith
+
+pub length-header : (n s : ℕ) → headLength n ≤ lengthOf n s
+unfolding lengthOf
 length-header n s = omega arith
 
 -- ---- a slot within the book, and two slots
 
 pub slot-within : (n s k : ℕ) → k < slotCount n s → slotPlace n k + slotLength ≤ lengthOf n s
 unfolding lengthOf slotPlace headLength
-slot-within n s k h = let l = mul-le-mul-left 21 h in omega arith
+slot-within n s k h = let l = mul-le-mul-left slotLength h in omega arith
 
-pub slot-past-header : (n k : ℕ) → 31 + n ≤ slotPlace n k
-unfolding slotPlace headLength
+pub slot-past-header : (n k : ℕ) → headLength n ≤ slotPlace n k
+unfolding slotPlace
 slot-past-header n k = omega arith
 
 pub slots-apart : (n k m : ℕ) → (k ≡ m → ⊥)
@@ -85,6 +91,27 @@ same-row m r r₂ i i₂ l l₂ e =
     let q : r ≡ r₂ = omega arith in
     let h : r₂ * m + i ≡ r₂ * m + i₂ = rw q at e in
     (q, omega arith)
+
+-- the slots of an entry that have a name
+pub send-below : (n : ℕ) → sendSlot < perEntry n
+unfolding perEntry
+send-below n = omega arith
+
+pub echo-below : (n p : ℕ) → p < n → echoSlot p < perEntry n
+unfolding perEntry
+echo-below n p l = omega arith
+
+pub ready-below : (n p : ℕ) → p < n → readySlot n p < perEntry n
+unfolding perEntry
+ready-below n p l = omega arith
+
+pub ready-sent-below : (n : ℕ) → readySentSlot n < perEntry n
+unfolding perEntry
+ready-sent-below n = omega arith
+
+pub delivered-below : (n : ℕ) → deliveredSlot n < perEntry n
+unfolding perEntry
+delivered-below n = omega arith
 
 pub entry-slot-below : (n s c j i : ℕ) → c < s → j < n → i < perEntry n → entrySlot n s c j i < slotCount n s
 unfolding entrySlot slotCount

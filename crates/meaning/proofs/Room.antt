@@ -1,33 +1,36 @@
 -- A legal book has room for its header, and for each of its entries.
-use Prim.Native.Nat.{ℕ, _+_, _*_, _-_, _<_, _≤_}
+use Prim.Native.Nat.{ℕ, _+_, _-_, _<_, _≤_}
 use mathlib.Core.Path.{_≡_}
 use mathlib.Core.Bool.{true}
 use mathlib.Core.List.{List}
 use native.Mathlib.Omega.{arith}
 use lib.ListN.{length}
-use Rattle.meaning.specs.Layout.{perEntry, slotPlace, entrySlot}
+use Rattle.meaning.specs.Layout.{helpedPlace, headLength, perEntry, slotPlace, entrySlot, slotLength, deliveredSlot, placeFrom}
+use Rattle.meaning.specs.Layout.{sendSlot}
 use Rattle.meaning.specs.Book.{nOf, numbersOf, ownOf, placeIn}
 use Rattle.meaning.specs.Legal.{legal, Has}
 use Rattle.meaning.proofs.Legality.{legal-facts}
-use Rattle.meaning.proofs.Places.{numbers-byte, length-header, slot-within, entry-slot-below, published-slot-below}
+use Rattle.meaning.proofs.Places.{numbers-byte, length-header, slot-within, delivered-below, entry-slot-below, published-slot-below}
 
-pub header-room : (b : List ℕ) → legal b ≡ true → 31 + nOf b ≤ length b
+-- past how often the last house was helped
+pub header-room : (b : List ℕ) → legal b ≡ true → helpedPlace (nOf b) ≤ length b
+unfolding headLength
 header-room b h = omega (arith, legal-facts b h .long, length-header (nOf b) (numbersOf b))
 
 pub own-below : (b : List ℕ) → legal b ≡ true → ownOf b < nOf b
 own-below b h = legal-facts b h .own
 
 -- the whole entry lies within the book
-pub entry-room : (b : List ℕ) (j c : ℕ) → Has b j c → placeIn b j c 0 + 21 * perEntry (nOf b) ≤ length b
+pub entry-room : (b : List ℕ) (j c : ℕ) → Has b j c → placeFrom (placeIn b j c sendSlot) (perEntry (nOf b)) ≤ length b
 unfolding perEntry slotPlace entrySlot
 entry-room b j c has =
     let n = nOf b in
     let s = numbersOf b in
-    let below = entry-slot-below n s c j (2 * n + 2) (has .number) (has .sender) (omega arith) in
-    omega (arith, slot-within n s (entrySlot n s c j (2 * n + 2)) below, legal-facts b (has .is-legal) .long)
+    let below = entry-slot-below n s c j (deliveredSlot n) (has .number) (has .sender) (delivered-below n) in
+    omega (arith, slot-within n s (entrySlot n s c j (deliveredSlot n)) below, legal-facts b (has .is-legal) .long)
 
 -- the slot of the own number c lies within the book
-pub published-room : (b : List ℕ) (c : ℕ) → legal b ≡ true → c < numbersOf b → slotPlace (nOf b) c + 21 ≤ length b
+pub published-room : (b : List ℕ) (c : ℕ) → legal b ≡ true → c < numbersOf b → slotPlace (nOf b) c + slotLength ≤ length b
 published-room b c h l =
     omega (arith, slot-within (nOf b) (numbersOf b) c (published-slot-below (nOf b) (numbersOf b) c l), legal-facts b h .long)
 

@@ -10,18 +10,18 @@ use lib.Dec.{eqb}
 use lib.ListN.{length, getD}
 use borrow.Author.Tests.{eqb-true, eqb-false, eq-eqb}
 use Rattle.words.specs.Words.{Bytes}
-use Rattle.sheet.specs.Kept.{sheetAt}
 use Rattle.entry.specs.Entry.{Decl, Kind, SEND, ECHO, READY, Entry, upd, recorded, marked, PerEntry, sameEntry, place, announced}
 use Rattle.meaning.specs.Slot.{slotAt, slotOk, putSlot}
-use Rattle.meaning.specs.Layout.{helpedPlace, perEntry, slotCount, slotPlace, entrySlot, sendSlot, echoSlot, readySlot, readySentSlot}
-use Rattle.meaning.specs.Layout.{deliveredSlot, heardSlot}
-use Rattle.meaning.specs.Book.{nOf, numbersOf, ownOf, seasonOf, sheetPlace, limitOf, careOf, slotOf, look}
+use Rattle.meaning.specs.Layout.{helpedPlace, headLength, perEntry, slotCount, slotPlace, entrySlot, sendSlot, echoSlot, readySlot}
+use Rattle.meaning.specs.Layout.{readySentSlot, deliveredSlot, heardSlot, slotLength}
+use Rattle.meaning.specs.Book.{nOf, numbersOf, ownOf, limitOf, headerOf, helpOf, slotOf, look}
 use Rattle.meaning.specs.Legal.{legal, Legal, IsDecl}
 use Rattle.meaning.proofs.Legality.{legal-facts, facts-legal, slots-at, slots-all, slot-within-book}
-use Rattle.meaning.proofs.Places.{slot-past-header, slots-apart, entry-slot-below, published-slot-below}
+use Rattle.meaning.proofs.Places.{slot-past-header, slots-apart, send-below, echo-below, ready-below, ready-sent-below}
+use Rattle.meaning.proofs.Places.{delivered-below, entry-slot-below, published-slot-below}
 use Rattle.meaning.proofs.Slots.{put-length, slot-put, ok-put, put-bytes, getD-elsewhere, slot-elsewhere, ok-elsewhere}
-use Rattle.meaning.proofs.Header.{same-n, same-numbers, same-own, same-season, same-sheet, same-sheet-legal, same-down, same-limit}
-use Rattle.meaning.proofs.Header.{same-helped, same-care}
+use Rattle.meaning.proofs.Agree.{agree-n, agree-numbers, agree-own, agree-down}
+use Rattle.meaning.proofs.Header.{same-header, same-sheet-legal, same-first, same-limit, same-helped, same-help}
 use Rattle.meaning.proofs.Entries.{entryFrom, rowIn, publishedIn, entriesIn, look-is, same-entry, entries-in, entries-put}
 use Rattle.meaning.proofs.Entries.{entries-published, send-filled, echo-filled, ready-filled, ready-sent-filled, delivered-filled}
 
@@ -29,12 +29,8 @@ use Rattle.meaning.proofs.Entries.{entries-published, send-filled, echo
 pub record Stored (b a : List ℕ) (j c : ℕ) (e : Entry) : Type 0 where
   pub legal : legal a ≡ true
   pub bytes : Bytes a
-  pub n : nOf a ≡ nOf b
-  pub numbers : numbersOf a ≡ numbersOf b
-  pub own : ownOf a ≡ ownOf b
-  pub season : seasonOf a ≡ seasonOf b
-  pub sheet : sheetAt a sheetPlace ≡ sheetAt b sheetPlace
-  pub care : careOf a ≡ careOf b
+  pub header : headerOf a ≡ headerOf b
+  pub help : helpOf a ≡ helpOf b
   pub entries : look a ≡ place (look b) j c e
 
 -- ---- one store after another
@@ -66,12 +62,8 @@ module _ (b : List ℕ) (j c : ℕ) where
       record {
         legal = h;
         bytes = bytes;
-        n = refl;
-        numbers = refl;
-        own = refl;
-        season = refl;
-        sheet = refl;
-        care = refl;
+        header = refl;
+        help = refl;
         entries = place-same (look b) j c;
       }
 
@@ -82,12 +74,8 @@ module _ (b : List ℕ) (j c : ℕ) where
       record {
         legal = t .legal;
         bytes = t .bytes;
-        n = t .n ∙ s .n;
-        numbers = t .numbers ∙ s .numbers;
-        own = t .own ∙ s .own;
-        season = t .season ∙ s .season;
-        sheet = t .sheet ∙ s .sheet;
-        care = t .care ∙ s .care;
+        header = t .header ∙ s .header;
+        help = t .help ∙ s .help;
         entries = t .entries ∙ rw (stored-entry a e s, s .entries) (place-place (look b) j c e (f e));
       }
 
@@ -105,20 +93,23 @@ module _ (b : List ℕ) (h : legal b ≡ true) (bytes : Bytes b) (v : Decl) (d :
     abbrev after : List ℕ
     after = putSlot b at v
 
-    fits : at + 21 ≤ length b
+    fits : at + slotLength ≤ length b
     fits = slot-within-book b facts k hk
 
-    header : (i : ℕ) → i < 31 + nOf b → getD after i 0 ≡ getD b i 0
-    header i l = getD-elsewhere b at v fits (d .long) i (inl (omega (arith, slot-past-header (nOf b) k)))
+    before : (i : ℕ) → i < headLength (nOf b) → getD after i 0 ≡ getD b i 0
+    before i l = getD-elsewhere b at v fits (d .long) i (inl (omega (arith, slot-past-header (nOf b) k)))
+
+    header-kept : headerOf after ≡ headerOf b
+    header-kept = same-header after b (same-first after b before)
 
     n-kept : nOf after ≡ nOf b
-    n-kept = same-n after b header
+    n-kept = agree-n after b header-kept
 
     numbers-kept : numbersOf after ≡ numbersOf b
-    numbers-kept = same-numbers after b header
+    numbers-kept = agree-numbers after b header-kept
 
     own-kept : ownOf after ≡ ownOf b
-    own-kept = same-own after b header
+    own-kept = agree-own after b header-kept
 
     pub slots-after : slotOf after ≡ upd (slotOf b) k (some v)
     unfolding slotOf
@@ -140,7 +131,7 @@ module _ (b : List ℕ) (h : legal b ≡ true) (bytes : Bytes b) (v : Decl) (d :
     helped-after : (p : ℕ) → p < nOf after → getD after (helpedPlace p) 0 ≤ limitOf after
     helped-after p l =
         let q : p < nOf b = omega (arith, n-kept) in
-        omega (arith, same-helped after b header p q, same-limit after b header, facts .helped p q)
+        omega (arith, same-helped after b before p q, same-limit after b before, facts .helped p q)
 
     legal-after : legal after ≡ true
     legal-after =
@@ -150,9 +141,9 @@ module _ (b : List ℕ) (h : legal b ≡ true) (bytes : Bytes b) (v : Decl) (d :
           numbers = rw numbers-kept (facts .numbers);
           own = rw (own-kept, n-kept) (facts .own);
           long = rw (n-kept, numbers-kept) (put-length b at v fits (d .long) ∙ facts .long);
-          sheet = same-sheet-legal after b header ∙ facts .sheet;
-          down = rw (n-kept, same-down after b header) (facts .down);
-          limit = rw (same-limit after b header) (facts .limit);
+          sheet = same-sheet-legal after b (same-first after b before) ∙ facts .sheet;
+          down = rw (n-kept, agree-down after b header-kept) (facts .down);
+          limit = rw (same-limit after b before) (facts .limit);
           helped = helped-after;
           slots = rw (n-kept, numbers-kept) (slots-all after (nOf b) (slotCount (nOf b) (numbersOf b)) ok-after);
         })
@@ -164,12 +155,8 @@ module _ (b : List ℕ) (h : legal b ≡ true) (bytes : Bytes b) (v : Decl) (d :
         record {
           legal = legal-after;
           bytes = put-bytes b at v fits (d .long) bytes (d .bytes);
-          n = n-kept;
-          numbers = numbers-kept;
-          own = own-kept;
-          season = same-season after b header;
-          sheet = same-sheet after b header;
-          care = same-care after b header;
+          header = header-kept;
+          help = same-help after b before;
           entries = look-is after ∙ (λ i. entriesIn (n-kept i) (numbers-kept i) (own-kept i) (slots-after i)) ∙ q;
         }
 
@@ -219,22 +206,19 @@ module _ (b : List ℕ) (h : legal b ≡ true) (bytes : Bytes b) (v : Decl) (d :
       -- a message of the kind recorded
       pub stored-heard : (k : Kind) (p : ℕ) → p < n
           → Stored b (putSlot b (slotPlace n (entrySlot n s c j (heardSlot n k p))) v) j c (recorded k p v (look b j c))
-      unfolding perEntry
-      stored-heard SEND p h = stored-in sendSlot (recorded SEND p v) (omega arith) (λ row o. send-filled n row o v p)
-      stored-heard ECHO p h = stored-in (echoSlot p) (recorded ECHO p v) (omega arith) (λ row o. echo-filled n row o v p h)
-      stored-heard READY p h = stored-in (readySlot n p) (recorded READY p v) (omega arith) (λ row o. ready-filled n row o v p h)
+      stored-heard SEND p h = stored-in sendSlot (recorded SEND p v) (send-below n) (λ row o. send-filled n row o v p)
+      stored-heard ECHO p h = stored-in (echoSlot p) (recorded ECHO p v) (echo-below n p h) (λ row o. echo-filled n row o v p h)
+      stored-heard READY p h = stored-in (readySlot n p) (recorded READY p v) (ready-below n p h) (λ row o. ready-filled n row o v p h)
 
       -- the READY sent marked, where r says so; the delivered, where r says so
       pub stored-ready-sent : (r : Bool)
           → Stored b (cond r (putSlot b (slotPlace n (entrySlot n s c j (readySentSlot n))) v) b) j c (marked r false v (look b j c))
-      unfolding perEntry
-      stored-ready-sent true = stored-in (readySentSlot n) (marked true false v) (omega arith) (λ row o. ready-sent-filled n row o v)
+      stored-ready-sent true = stored-in (readySentSlot n) (marked true false v) (ready-sent-below n) (λ row o. ready-sent-filled n row o v)
       stored-ready-sent false = stored-none b j c h bytes
 
       pub stored-delivered : (r : Bool)
           → Stored b (cond r (putSlot b (slotPlace n (entrySlot n s c j (deliveredSlot n))) v) b) j c (marked false r v (look b j c))
-      unfolding perEntry
-      stored-delivered true = stored-in (deliveredSlot n) (marked false true v) (omega arith) (λ row o. delivered-filled n row o v)
+      stored-delivered true = stored-in (deliveredSlot n) (marked false true v) (delivered-below n) (λ row o. delivered-filled n row o v)
       stored-delivered false = stored-none b j c h bytes
 
 -- ---- a message's stores: recorded, the READY sent marked or not, the delivered marked or not
@@ -253,7 +237,11 @@ module _ (b : List ℕ) (h : legal b ≡ true) (bytes : Bytes b) (v : Decl) (d :
   pub stored-taken : Stored b b₃ j c (marked r t v (recorded k p v (look b j c)))
   stored-taken =
       let one = stored-heard b h bytes v d n s en es j c hj hc k p hp in
-      let two = stored-ready-sent b₁ (one .legal) (one .bytes) v d n s (one .n ∙ en) (one .numbers ∙ es) j c hj hc r in
+      let n₁ = agree-n b₁ b (one .header) ∙ en in
+      let s₁ = agree-numbers b₁ b (one .header) ∙ es in
+      let two = stored-ready-sent b₁ (one .legal) (one .bytes) v d n s n₁ s₁ j c hj hc r in
       let both = stored-then b j c (marked r false v) b₁ b₂ (recorded k p v (look b j c)) one two in
-      let three = stored-delivered b₂ (both .legal) (both .bytes) v d n s (both .n ∙ en) (both .numbers ∙ es) j c hj hc t in
+      let n₂ = agree-n b₂ b (both .header) ∙ en in
+      let s₂ = agree-numbers b₂ b (both .header) ∙ es in
+      let three = stored-delivered b₂ (both .legal) (both .bytes) v d n s n₂ s₂ j c hj hc t in
       stored-then b j c (marked false t v) b₂ b₃ (marked r false v (recorded k p v (look b j c))) both three

@@ -8,26 +8,16 @@ use mathlib.Core.Option.{Option}
 use native.Mathlib.Nat.{add-assoc}
 use native.Mathlib.Omega.{arith}
 use borrow.Author.Tests.{eq-eqb, lt-ltb}
-use Rattle.sheet.specs.declared.Sheet.{Sheet}
 use Rattle.entry.specs.Entry.{Decl, Entry, PerEntry}
 use Rattle.meaning.specs.Slot.{slotBytes}
-use Rattle.meaning.specs.Layout.{headLength, perEntry, slotCount, entrySlot, echoSlot, readySlot}
-use Rattle.meaning.specs.Book.{Care, Meaning, forHouses, careBytes, head, rows, entryBytes, write}
+use Rattle.meaning.specs.Layout.{headLength, perEntry, slotCount, entrySlot, echoSlot, readySlot, readySentSlot, deliveredSlot}
+use Rattle.meaning.specs.Book.{Header, Help, Meaning, forHouses, helpBytes, head, rows, entryBytes, write}
 use Rattle.meaning.proofs.Rows.{rows-same, rows-add, rows-flat, rows-length}
 use Rattle.meaning.proofs.Entries.{entryFrom, rowIn, publishedIn, entriesIn, entries-in}
 
 -- the same book with other entries
 abbrev pub withEntries : Meaning → PerEntry Entry → Meaning
-withEntries B entries =
-    record {
-      n = B .n;
-      numbers = B .numbers;
-      own = B .own;
-      season = B .season;
-      sheet = B .sheet;
-      care = B .care;
-      entries = entries;
-    }
+withEntries B entries = record { header = B .header; help = B .help; entries = entries }
 
 in-houses : (n : ℕ) (f : ℕ → Option Decl) (p : ℕ) → p < n → f p ≡ forHouses n f p
 in-houses n f p l = rw (lt-ltb p n l)
@@ -37,14 +27,14 @@ entry-rows : (n : ℕ) (row : ℕ → Option Decl) (o : Option Decl)
     → entryBytes n (entryFrom n row o) ≡ rows (perEntry n) (λ i. slotBytes (row i))
 unfolding entryBytes perEntry rows
 entry-rows n row o =
-    let count : 2 * n + 3 ≡ 1 + (n + (n + 2)) = omega arith in
+    let count : perEntry n ≡ 1 + (n + (n + 2)) = omega arith in
     let echo = rows-same n (λ p. f (1 + p)) (λ p. slotBytes (forHouses n echoes p)) (λ p l. ap slotBytes (in-houses n echoes p l)) in
     let ready =
     rows-same n (λ p. f (1 + (n + p))) (λ p. slotBytes (forHouses n readies p))
-    (λ p l. let e : 1 + (n + p) ≡ 1 + n + p = omega arith in ap f e ∙ ap slotBytes (in-houses n readies p l))
+    (λ p l. let e : 1 + (n + p) ≡ readySlot n p = omega arith in ap f e ∙ ap slotBytes (in-houses n readies p l))
     in
-    let sent : 1 + (n + (n + 0)) ≡ 1 + 2 * n = omega arith in
-    let delivered : 1 + (n + (n + 1)) ≡ 2 + 2 * n = omega arith in
+    let sent : 1 + (n + (n + 0)) ≡ readySentSlot n = omega arith in
+    let delivered : 1 + (n + (n + 1)) ≡ deliveredSlot n = omega arith in
     sym
     (ap (λ (x : ℕ). rows x f) count
     ∙ rows-add 1 (n + (n + 2)) f
@@ -61,7 +51,16 @@ entry-rows n row o =
     readies : ℕ → Option Decl
     readies p = row (readySlot n p)
 
-module _ (n s own season : ℕ) (sheet : Sheet) (w : Care) (slot : ℕ → Option Decl) (h : own < n) where
+module _ (h : Header) (w : Help) (slot : ℕ → Option Decl) (below : h .own < h .n) where
+  abbrev n : ℕ
+  n = h .n
+
+  abbrev s : ℕ
+  s = h .numbers
+
+  abbrev own : ℕ
+  own = h .own
+
   -- the slots after the published ones, and those of one entry
   abbrev past : ℕ → List ℕ
   past k = slotBytes (slot (s + k))
@@ -72,7 +71,7 @@ module _ (n s own season : ℕ) (sheet : Sheet) (w : Care) (slot : ℕ → Optio
   published-written : rows s (λ c. slotBytes (entriesIn n s own slot own c .published)) ≡ rows s (λ c. slotBytes (slot c))
   published-written =
       rows-same s (λ c. slotBytes (entriesIn n s own slot own c .published)) (λ c. slotBytes (slot c))
-      (λ c l. ap (λ (e : Entry). slotBytes (e .published)) (entries-in n s own slot own c h l) ∙ rw (eq-eqb own own refl))
+      (λ c l. ap (λ (e : Entry). slotBytes (e .published)) (entries-in n s own slot own c below l) ∙ rw (eq-eqb own own refl))
 
   entry-written : (c j : ℕ) → c < s → j < n → entryBytes n (entriesIn n s own slot j c) ≡ oneRow (c * n + j)
   unfolding entrySlot
@@ -90,14 +89,14 @@ module _ (n s own season : ℕ) (sheet : Sheet) (w : Care) (slot : ℕ → Optio
       ∙ rows-flat (s * n) (perEntry n) past
 
   abbrev pub meaningOf : Meaning
-  meaningOf = record { n = n; numbers = s; own = own; season = season; sheet = sheet; care = w; entries = entriesIn n s own slot }
+  meaningOf = record { header = h; help = w; entries = entriesIn n s own slot }
 
-  pub write-slots : write meaningOf ≡ head n s own season sheet w ++ rows (slotCount n s) (λ k. slotBytes (slot k))
+  pub write-slots : write meaningOf ≡ head h w ++ rows (slotCount n s) (λ k. slotBytes (slot k))
   unfolding write slotCount
   write-slots =
-      (λ i. head n s own season sheet w ++ (published-written i ++ entries-written i))
-      ∙ ap (λ (l : List ℕ). head n s own season sheet w ++ l) (sym (rows-add s (s * n * perEntry n) (λ k. slotBytes (slot k))))
+      (λ i. head h w ++ (published-written i ++ entries-written i))
+      ∙ ap (λ (l : List ℕ). head h w ++ l) (sym (rows-add s (s * n * perEntry n) (λ k. slotBytes (slot k))))
 
-pub head-length : (n s own season : ℕ) (sheet : Sheet) (w : Care) → length (head n s own season sheet w) ≡ headLength n
-unfolding head sheetBytes careBytes headLength
-head-length n s own season sheet w = omega (arith, rows-length 1 n (λ p. w .helped p ∷ []) (λ p l. refl))
+pub head-length : (h : Header) (w : Help) → length (head h w) ≡ headLength (h .n)
+unfolding head sheetBytes helpBytes headLength
+head-length h w = omega (arith, rows-length 1 (h .n) (λ p. w .helped p ∷ []) (λ p l. refl))

@@ -10,41 +10,45 @@ use Rattle.sheet.specs.declared.Sheet.{Sheet}
 use Rattle.sheet.specs.Kept.{sheetBytes, sheetAt}
 use Rattle.entry.specs.Entry.{Decl, Entry, fresh, upd, PerEntry}
 use Rattle.meaning.specs.Slot.{slotBytes, slotAt}
-use Rattle.meaning.specs.Layout.{downPlace, limitPlace, helpedPlace, slotPlace, entrySlot, sendSlot, echoSlot, readySlot}
-use Rattle.meaning.specs.Layout.{readySentSlot, deliveredSlot}
+use Rattle.meaning.specs.Layout.{nPlace, numbersPlace, ownPlace, seasonPlace, sheetPlace, downPlace, limitPlace, helpedPlace}
+use Rattle.meaning.specs.Layout.{slotPlace, publishedSlot, entrySlot, sendSlot, echoSlot, readySlot, readySentSlot, deliveredSlot}
 
--- f, d, and how often each asker was helped
-pub record Care : Type 0 where
-  pub down : ℕ
-  pub limit : ℕ
-  pub helped : ℕ → ℕ
-
--- n, S, own number, season, sheet; f, d and the help given; and an entry for each sender and number
-pub record Meaning : Type 0 where
+-- n, S, own number, season, sheet and f: all that publishing, and receiving a message, read beside the entry
+pub record Header : Type 0 where
   pub n : ℕ
   pub numbers : ℕ
   pub own : ℕ
   pub season : ℕ
   pub sheet : Sheet
-  pub care : Care
+  pub down : ℕ
+
+-- d, and how often each asker was helped, which requests alone read; so the rule between entries asks nothing of it
+pub record Help : Type 0 where
+  pub limit : ℕ
+  pub helped : ℕ → ℕ
+
+-- a header, the help given, and an entry for each sender and number
+pub record Meaning : Type 0 where
+  pub header : Header
+  pub help : Help
   pub entries : PerEntry Entry
 
 -- ---- from bytes to their meaning
 
 abbrev pub nOf : List ℕ → ℕ
-nOf b = getD b 0 0
+nOf b = getD b nPlace 0
 
 abbrev pub numbersOf : List ℕ → ℕ
-numbersOf b = getD b 1 0
+numbersOf b = getD b numbersPlace 0
 
 abbrev pub ownOf : List ℕ → ℕ
-ownOf b = getD b 2 0
+ownOf b = getD b ownPlace 0
 
 abbrev pub seasonOf : List ℕ → ℕ
-seasonOf b = wordAt b 3
+seasonOf b = wordAt b seasonPlace
 
-abbrev pub sheetPlace : ℕ
-sheetPlace = 7
+abbrev pub sheetOf : List ℕ → Sheet
+sheetOf b = sheetAt b sheetPlace
 
 abbrev pub downOf : List ℕ → ℕ
 downOf b = getD b downPlace 0
@@ -56,26 +60,28 @@ limitOf b = getD b limitPlace 0
 unfoldable pub helpedOf : List ℕ → ℕ → ℕ
 helpedOf b p = cond (ltb p (nOf b)) (getD b (helpedPlace p) 0) 0
 
-unfoldable pub careOf : List ℕ → Care
+unfoldable pub headerOf : List ℕ → Header
+headerOf b =
+    record {
+      n = nOf b;
+      numbers = numbersOf b;
+      own = ownOf b;
+      season = seasonOf b;
+      sheet = sheetOf b;
+      down = downOf b;
+    }
+
+unfoldable pub helpOf : List ℕ → Help
 unfolding helpedOf
-careOf b = record { down = downOf b; limit = limitOf b; helped = helpedOf b }
+helpOf b = record { limit = limitOf b; helped = helpedOf b }
 
 -- one more help for asker p
-abbrev pub moreCare : Care → ℕ → Care
-moreCare w p = record { down = w .down; limit = w .limit; helped = upd (w .helped) p (suc (w .helped p)) }
+abbrev pub moreHelp : Help → ℕ → Help
+moreHelp w p = record { limit = w .limit; helped = upd (w .helped) p (suc (w .helped p)) }
 
--- what it means with other care
-abbrev pub withCare : Meaning → Care → Meaning
-withCare B w =
-    record {
-      n = B .n;
-      numbers = B .numbers;
-      own = B .own;
-      season = B .season;
-      sheet = B .sheet;
-      care = w;
-      entries = B .entries;
-    }
+-- what it means with other help
+abbrev pub withHelp : Meaning → Help → Meaning
+withHelp B w = record { header = B .header; help = w; entries = B .entries }
 
 -- the bytes with one more help for asker p counted
 unfoldable pub countHelp : List ℕ → ℕ → List ℕ
@@ -108,7 +114,7 @@ entryOf b j c =
       ready = forHouses (nOf b) (λ p. slotIn b j c (readySlot (nOf b) p));
       readySent = slotIn b j c (readySentSlot (nOf b));
       delivered = slotIn b j c (deliveredSlot (nOf b));
-      published = cond (eqb j (ownOf b)) (slotOf b c) none;
+      published = cond (eqb j (ownOf b)) (slotOf b (publishedSlot c)) none;
     }
 
 -- every entry in the book, and nothing outside
@@ -117,17 +123,8 @@ unfolding entryOf
 look b j c = cond (ltb j (nOf b) && ltb c (numbersOf b)) (entryOf b j c) fresh
 
 unfoldable pub meant : List ℕ → Meaning
-unfolding look careOf
-meant b =
-    record {
-      n = nOf b;
-      numbers = numbersOf b;
-      own = ownOf b;
-      season = seasonOf b;
-      sheet = sheetAt b sheetPlace;
-      care = careOf b;
-      entries = look b;
-    }
+unfolding headerOf helpOf look
+meant b = record { header = headerOf b; help = helpOf b; entries = look b }
 
 -- ---- from a meaning to its bytes
 
@@ -136,15 +133,15 @@ unfoldable pub rows : ℕ → (ℕ → List ℕ) → List ℕ
 rows zero f = []
 rows (suc n) f = rows n f ++ f n
 
--- f, d and a byte for each house
-unfoldable pub careBytes : ℕ → Care → List ℕ
+-- d, and a byte for each house
+unfoldable pub helpBytes : ℕ → Help → List ℕ
 unfolding rows
-careBytes n w = w .down ∷ w .limit ∷ rows n (λ p. w .helped p ∷ [])
+helpBytes n w = w .limit ∷ rows n (λ p. w .helped p ∷ [])
 
--- the header's 31 + n bytes
-unfoldable pub head : (n numbers own season : ℕ) → Sheet → Care → List ℕ
-unfolding careBytes
-head n s own season sheet w = n ∷ s ∷ own ∷ be32 season ++ (sheetBytes sheet ++ careBytes n w)
+-- the bytes before the slots
+unfoldable pub head : Header → Help → List ℕ
+unfolding helpBytes
+head h w = h .n ∷ h .numbers ∷ h .own ∷ be32 (h .season) ++ (sheetBytes (h .sheet) ++ (h .down ∷ helpBytes (h .n) w))
 
 -- a row of slots: SEND, an ECHO from each house, a READY from each house, READY sent, delivered
 unfoldable pub entryBytes : ℕ → Entry → List ℕ
@@ -157,6 +154,7 @@ entryBytes n e =
 unfoldable pub write : Meaning → List ℕ
 unfolding head rows slotBytes entryBytes
 write B =
-    head (B .n) (B .numbers) (B .own) (B .season) (B .sheet) (B .care)
-    ++ (rows (B .numbers) (λ c. slotBytes (B .entries (B .own) c .published))
-    ++ rows (B .numbers) (λ c. rows (B .n) (λ j. entryBytes (B .n) (B .entries j c))))
+    let h = B .header in
+    head h (B .help)
+    ++ (rows (h .numbers) (λ c. slotBytes (B .entries (h .own) c .published))
+    ++ rows (h .numbers) (λ c. rows (h .n) (λ j. entryBytes (h .n) (B .entries j c))))

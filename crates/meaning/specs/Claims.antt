@@ -8,9 +8,9 @@ use lib.ListN.{length}
 use Rattle.words.specs.Words.{Bytes}
 use Rattle.sheet.specs.Kept.{sheetAt}
 use Rattle.meaning.specs.Layout.{lengthOf}
-use Rattle.meaning.specs.Book.{Meaning, nOf, numbersOf, limitOf, helpedOf, careOf, moreCare, withCare, countHelp, meant, write}
+use Rattle.meaning.specs.Book.{Meaning, nOf, numbersOf, limitOf, helpedOf, helpOf, moreHelp, withHelp, countHelp, meant, write}
 use Rattle.meaning.specs.Legal.{legal, Lent, IsBook}
-use Rattle.meaning.specs.Opening.{freshBook, opened}
+use Rattle.meaning.specs.Opening.{headed, freshBook, opened}
 
 -- a legal book that means B
 pub record Means (b : List ℕ) (B : Meaning) : Type 0 where
@@ -29,10 +29,10 @@ pub record Claims : Type 0 where
   -- Opening writes the whole buffer: nothing heard, sent, delivered or published, nobody helped.
   pub opened-fresh : (b : List ℕ) (n s own f d season : ℕ) (sheet : List ℕ) → season < 2 ^ 32 → Bytes sheet
       → opened b n s own f d season sheet .answer ≡ 0
-      → Means (opened b n s own f d season sheet .book) (freshBook n s own f d season (sheetAt sheet 0))
+      → Means (opened b n s own f d season sheet .book) (freshBook (headed n s own f season (sheetAt sheet 0)) d)
   -- Every refusal of it leaves the lent buffer byte for byte.
   pub opened-refused : (b : List ℕ) (n s own f d season : ℕ) (sheet : List ℕ)
       → (opened b n s own f d season sheet .answer ≡ 0 → ⊥) → opened b n s own f d season sheet .book ≡ b
   -- One more help counted for a house that was helped less than d times: that count and nothing else changes.
   pub helped : (b : List ℕ) → Lent b → (p : ℕ) → p < nOf b → helpedOf b p < limitOf b
-      → Means (countHelp b p) (withCare (meant b) (moreCare (careOf b) p))
+      → Means (countHelp b p) (withHelp (meant b) (moreHelp (helpOf b) p))

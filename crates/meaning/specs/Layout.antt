@@ -1,5 +1,6 @@
 -- Where a book's parts lie: a header; what this house published, a slot for each number; then the entries, number first and then
--- sender, each a row of slots: SEND, an ECHO from each house, a READY from each house, READY sent, delivered.
+-- sender, each a row of slots: SEND, an ECHO from each house, a READY from each house, READY sent, delivered. The numbers stand here and
+-- nowhere else.
 use Prim.Native.Nat.{ℕ, _+_, _*_}
 use mathlib.Core.Bool.{Bool, _&&_}
 use lib.Dec.{leb}
@@ -17,7 +18,22 @@ numbersOk s = leb 1 s && leb s mostNumbers
 unfoldable pub mostLimit : ℕ
 mostLimit = 8
 
--- where f, d and how often asker p was helped stand
+-- where n, S, the own number, the season, the sheet, f, d and how often asker p was helped stand
+abbrev pub nPlace : ℕ
+nPlace = 0
+
+abbrev pub numbersPlace : ℕ
+numbersPlace = 1
+
+abbrev pub ownPlace : ℕ
+ownPlace = 2
+
+abbrev pub seasonPlace : ℕ
+seasonPlace = 3
+
+abbrev pub sheetPlace : ℕ
+sheetPlace = 7
+
 abbrev pub downPlace : ℕ
 downPlace = 29
 
@@ -27,12 +43,21 @@ limitPlace = 30
 abbrev pub helpedPlace : ℕ → ℕ
 helpedPlace p = 31 + p
 
--- the header's bytes: n, S, own number, season (4), sheet (22), f, d, and for each house how often it was helped
-unfoldable pub headLength : ℕ → ℕ
-headLength n = 31 + n
+-- the sheet's bytes
+abbrev pub sheetLength : ℕ
+sheetLength = 22
 
+-- the bytes before the slots
+unfoldable pub headLength : ℕ → ℕ
+headLength n = helpedPlace n
+
+-- a presence byte and a declaration's 20
 abbrev pub slotLength : ℕ
 slotLength = 21
+
+-- where the slot i slots on from the one at `base` begins
+abbrev pub placeFrom : (base i : ℕ) → ℕ
+placeFrom base i = base + slotLength * i
 
 -- the slots of an entry
 unfoldable pub perEntry : ℕ → ℕ
@@ -51,7 +76,11 @@ lengthOf n s = headLength n + slotLength * slotCount n s
 -- where slot k of a book of n houses begins
 unfoldable pub slotPlace : ℕ → ℕ → ℕ
 unfolding headLength
-slotPlace n k = headLength n + slotLength * k
+slotPlace n k = placeFrom (headLength n) k
+
+-- what this house published at number c, counted over the book
+abbrev pub publishedSlot : ℕ → ℕ
+publishedSlot c = c
 
 -- slot i of the entry of number c and sender j, counted over the book
 unfoldable pub entrySlot : (n s c j i : ℕ) → ℕ

@@ -10,10 +10,10 @@ use Rattle.card.specs.Card.{houses, downOk}
 use Rattle.words.specs.Words.{Bytes}
 use Rattle.sheet.specs.Sheet.{GateFits, sheetLegal}
 use Rattle.sheet.specs.Kept.{sheetLegalAt}
-use Rattle.entry.specs.Entry.{Decl, Entry, fresh}
+use Rattle.entry.specs.Entry.{Decl, Entry, fresh, PerEntry}
 use Rattle.meaning.specs.Slot.{slotOk}
-use Rattle.meaning.specs.Layout.{numbersOk, mostLimit, helpedPlace, slotCount, lengthOf, slotPlace}
-use Rattle.meaning.specs.Book.{Meaning, nOf, numbersOf, ownOf, downOf, limitOf, sheetPlace}
+use Rattle.meaning.specs.Layout.{numbersOk, mostLimit, sheetPlace, helpedPlace, slotCount, lengthOf, slotPlace}
+use Rattle.meaning.specs.Book.{Header, Help, Meaning, nOf, numbersOf, ownOf, downOf, limitOf}
 
 -- the first k slots of a book of n houses have one byte form per meaning
 unfoldable pub slotsOk : List ℕ → (n k : ℕ) → Bool
@@ -26,18 +26,19 @@ unfoldable pub helpsOk : List ℕ → (d p : ℕ) → Bool
 helpsOk b d zero = true
 helpsOk b d (suc p) = helpsOk b d p && leb (getD b (helpedPlace p) 0) d
 
--- f and d are allowed, and each asker was helped at most d times
-unfoldable pub careOk : List ℕ → Bool
+-- d is allowed, and each asker was helped at most d times
+unfoldable pub helpOk : List ℕ → Bool
 unfolding helpsOk
-careOk b = downOk (nOf b) (downOf b) && (leb (limitOf b) mostLimit && helpsOk b (limitOf b) (nOf b))
+helpOk b = leb (limitOf b) mostLimit && helpsOk b (limitOf b) (nOf b)
 
 -- A legal book has n, S, sheet, f and d as above, own number below n; nothing more is asked of its entries.
 unfoldable pub legal : List ℕ → Bool
-unfolding slotsOk careOk
+unfolding slotsOk helpOk
 legal b =
     houses (nOf b) && (numbersOk (numbersOf b) && (ltb (ownOf b) (nOf b)
     && (eqb (length b) (lengthOf (nOf b) (numbersOf b))
-    && (sheetLegalAt b sheetPlace && (careOk b && slotsOk b (nOf b) (slotCount (nOf b) (numbersOf b)))))))
+    && (sheetLegalAt b sheetPlace && (downOk (nOf b) (downOf b)
+    && (helpOk b && slotsOk b (nOf b) (slotCount (nOf b) (numbersOf b))))))))
 
 -- the same, as facts
 pub record Legal (b : List ℕ) : Type 0 where
@@ -82,22 +83,34 @@ pub record IsEntry (n : ℕ) (e : Entry) : Type 0 where
   pub echo-past : (p : ℕ) → n ≤ p → e .echo p ≡ none
   pub ready-past : (p : ℕ) → n ≤ p → e .ready p ≡ none
 
+-- what the header of a legal book may be
+pub record IsHeader (h : Header) : Type 0 where
+  pub n : houses (h .n) ≡ true
+  pub numbers : numbersOk (h .numbers) ≡ true
+  pub own : h .own < h .n
+  pub season : h .season < 2 ^ 32
+  pub cap : h .sheet .cap < 2 ^ 32
+  pub moisture : GateFits (h .sheet .moisture)
+  pub conductivity : GateFits (h .sheet .conductivity)
+  pub sheet : sheetLegal (h .sheet) ≡ true
+  pub down : downOk (h .n) (h .down) ≡ true
+
+-- the help that may have been given in a book of n houses
+pub record IsHelp (n : ℕ) (w : Help) : Type 0 where
+  pub limit : w .limit ≤ mostLimit
+  pub most : (p : ℕ) → w .helped p ≤ w .limit
+  pub past : (p : ℕ) → n ≤ p → w .helped p ≡ 0
+
+-- the entries of a book with that header
+pub record AreEntries (h : Header) (entries : PerEntry Entry) : Type 0 where
+  pub each : (j c : ℕ) → IsEntry (h .n) (entries j c)
+  -- what was published stands at the own sender alone, and nothing stands outside the book
+  pub others : (j c : ℕ) → (j ≡ h .own → ⊥) → entries j c .published ≡ none
+  pub past-sender : (j c : ℕ) → h .n ≤ j → entries j c ≡ fresh
+  pub past-number : (j c : ℕ) → h .numbers ≤ c → entries j c ≡ fresh
+
 -- what a legal book may mean
 pub record IsBook (B : Meaning) : Type 0 where
-  pub n : houses (B .n) ≡ true
-  pub numbers : numbersOk (B .numbers) ≡ true
-  pub own : B .own < B .n
-  pub season : B .season < 2 ^ 32
-  pub cap : B .sheet .cap < 2 ^ 32
-  pub moisture : GateFits (B .sheet .moisture)
-  pub conductivity : GateFits (B .sheet .conductivity)
-  pub sheet : sheetLegal (B .sheet) ≡ true
-  pub down : downOk (B .n) (B .care .down) ≡ true
-  pub limit : B .care .limit ≤ mostLimit
-  pub helped : (p : ℕ) → B .care .helped p ≤ B .care .limit
-  pub helped-past : (p : ℕ) → B .n ≤ p → B .care .helped p ≡ 0
-  pub entries : (j c : ℕ) → IsEntry (B .n) (B .entries j c)
-  -- what was published stands at the own sender alone, and nothing stands outside the book
-  pub others : (j c : ℕ) → (j ≡ B .own → ⊥) → B .entries j c .published ≡ none
-  pub past-sender : (j c : ℕ) → B .n ≤ j → B .entries j c ≡ fresh
-  pub past-number : (j c : ℕ) → B .numbers ≤ c → B .entries j c ≡ fresh
+  pub header : IsHeader (B .header)
+  pub help : IsHelp (B .header .n) (B .help)
+  pub entries : AreEntries (B .header) (B .entries)

@@ -9,16 +9,19 @@ use Rattle.sheet.specs.declared.Sheet.{Sheet}
 use Rattle.sheet.specs.Kept.{isSheet, sheetAt}
 use Rattle.entry.specs.Entry.{fresh}
 use Rattle.meaning.specs.Layout.{numbersOk, mostLimit, lengthOf}
-use Rattle.meaning.specs.Book.{Care, Meaning, write}
+use Rattle.meaning.specs.Book.{Header, Help, Meaning, write}
+
+-- the header that opening writes
+abbrev pub headed : (n numbers own f season : ℕ) → Sheet → Header
+headed n s own f season sheet = record { n = n; numbers = s; own = own; season = season; sheet = sheet; down = f }
 
 -- nobody helped yet
-abbrev pub freshCare : (f d : ℕ) → Care
-freshCare f d = record { down = f; limit = d; helped = λ p. 0 }
+abbrev pub freshHelp : (d : ℕ) → Help
+freshHelp d = record { limit = d; helped = λ p. 0 }
 
 -- nothing heard, sent, delivered or published
-abbrev pub freshBook : (n numbers own f d season : ℕ) → Sheet → Meaning
-freshBook n s own f d season sheet =
-    record { n = n; numbers = s; own = own; season = season; sheet = sheet; care = freshCare f d; entries = λ j c. fresh }
+abbrev pub freshBook : Header → (d : ℕ) → Meaning
+freshBook h d = record { header = h; help = freshHelp d; entries = λ j c. fresh }
 
 -- an answer, and the bytes of the lent buffer afterwards
 pub record Opened : Type 0 where
@@ -36,7 +39,7 @@ opened b n s own f d season sheet =
     cond (allowed n s own f d)
     (cond (isSheet sheet)
     (cond (eqb (length b) (lengthOf n s))
-    (record { answer = 0; book = write (freshBook n s own f d season (sheetAt sheet 0)) })
+    (record { answer = 0; book = write (freshBook (headed n s own f season (sheetAt sheet 0)) d) })
     (record { answer = 11; book = b }))
     (record { answer = 10; book = b }))
     (record { answer = 9; book = b })

@@ -6,10 +6,11 @@ use mathlib.Core.Option.{Option, none, some}
 use lib.Dec.{eqb}
 use lib.ListN.{getD, take, drop, replicate}
 use Rattle.entry.specs.Entry.{Decl, same}
+use Rattle.meaning.specs.Layout.{slotLength}
 
--- the 21 bytes of a slot: none, or a declaration's 20 bytes
+-- the bytes of a slot: none, or a declaration's 20 bytes
 unfoldable pub slotBytes : Option Decl → List ℕ
-slotBytes none = replicate 21 0
+slotBytes none = replicate slotLength 0
 slotBytes (some v) = 1 ∷ v
 
 -- so many bytes of b from `at` on
@@ -27,4 +28,4 @@ slotOk b at = cond (eqb (getD b at 0) 1) true (eqb (getD b at 0) 0 && same (part
 
 -- the bytes with v in the slot at `at`
 unfoldable pub putSlot : List ℕ → ℕ → Decl → List ℕ
-putSlot b at v = take at b ++ ((1 ∷ v) ++ drop (at + 21) b)
+putSlot b at v = take at b ++ ((1 ∷ v) ++ drop (at + slotLength) b)

@@ -11,8 +11,9 @@ use borrow.Author.Tests.{eqb-true, eq-eqb, ne-eqb, lt-ltb}
 use Rattle.card.specs.Card.{fitting}
 use Rattle.words.specs.Words.{Bytes}
 use Rattle.sheet.specs.Kept.{sheetAt}
-use Rattle.meaning.specs.Book.{Care, Meaning, nOf, numbersOf, ownOf, seasonOf, sheetPlace, downOf, limitOf, helpedOf, careOf, countHelp}
-use Rattle.meaning.specs.Book.{look, meant}
+use Rattle.meaning.specs.Book.{Header, Help, Meaning, nOf, numbersOf, ownOf, seasonOf, limitOf, helpedOf, headerOf, helpOf, countHelp, look}
+use Rattle.meaning.specs.Book.{meant}
+use Rattle.meaning.specs.Opening.{headed}
 use Rattle.meaning.specs.Legal.{legal, IsDecl, IsSlot, IsEntry}
 use Rattle.meaning.proofs.Meant.{meant-is-book}
 use Rattle.meaning.proofs.Stores.{Stored}
@@ -73,18 +74,34 @@ abbrev pub wall : Houses → Wall
 wall H =
     wallOf (H .n) (fitting (H .n) (H .down)) (H .down) (H .limit) (H .numbers) (okBy (sheetAt (H .sheet) 0)) (H .honest)
 
+-- the header that house r opens its book with
+abbrev pub header : Houses → ℕ → Header
+header H r = headed (H .n) (H .numbers) r (H .down) (H .season) (sheetAt (H .sheet) 0)
+
 module _ (H : Houses) where
   -- a legal book of house r
   pub record IsOf (r : ℕ) (b : List ℕ) : Type 0 where
     pub legal : legal b ≡ true
     pub bytes : Bytes b
-    pub n : nOf b ≡ H .n
-    pub numbers : numbersOf b ≡ H .numbers
-    pub own : ownOf b ≡ r
-    pub season : seasonOf b ≡ H .season
-    pub sheet : sheetAt b sheetPlace ≡ sheetAt (H .sheet) 0
-    pub down : downOf b ≡ H .down
+    pub header : headerOf b ≡ header H r
     pub limit : limitOf b ≡ H .limit
+
+  module _ (r : ℕ) (b : List ℕ) (K : IsOf r b) where
+    n-is : nOf b ≡ H .n
+    unfolding headerOf
+    n-is = ap (λ (h : Header). h .n) (K .header)
+
+    numbers-is : numbersOf b ≡ H .numbers
+    unfolding headerOf
+    numbers-is = ap (λ (h : Header). h .numbers) (K .header)
+
+    own-is : ownOf b ≡ r
+    unfolding headerOf
+    own-is = ap (λ (h : Header). h .own) (K .header)
+
+    pub season-is : seasonOf b ≡ H .season
+    unfolding headerOf
+    season-is = ap (λ (h : Header). h .season) (K .header)
 
   -- and so is what a call leaves of it
   is-kept : (r : ℕ) (b a : List ℕ) → IsOf r b → Kept b a → IsOf r a
@@ -92,12 +109,7 @@ module _ (H : Houses) where
       record {
         legal = k .legal;
         bytes = k .bytes;
-        n = k .header .n ∙ K .n;
-        numbers = k .header .numbers ∙ K .numbers;
-        own = k .header .own ∙ K .own;
-        season = k .header .season ∙ K .season;
-        sheet = k .header .sheet ∙ K .sheet;
-        down = k .header .down ∙ K .down;
+        header = k .header ∙ K .header;
         limit = k .limit ∙ K .limit;
       }
 
@@ -161,11 +173,10 @@ module _ (H : Houses) where
       o = outcome (wall H .rules) (wall H .numbers) r a (y .books r)
 
       step-is : stepOf b a ≡ o
-      unfolding stepOf meant careOf rulesBy wallOf
+      unfolding stepOf meant rulesBy wallOf
       step-is =
           λ i.
-          outcome (rulesOf (K .n i) (fitting (K .n i) (K .down i)) (K .down i) (okBy (K .sheet i))) (K .numbers i) (K .own i) a
-          (sym (G .entries r honest) i)
+          let h : Header = K .header i in outcome (rulesBy h) (h .numbers) (h .own) a (sym (G .entries r honest) i)
 
       stored : Stored b (called b a .book) (senderOf (ownOf b) a) c (stepOf b a .entry)
       stored = called-stored b (K .legal) (K .bytes) a
@@ -174,18 +185,20 @@ module _ (H : Houses) where
       book-is = is-kept r b (called b a .book) K (called-keeps b (K .legal) (K .bytes) a)
 
       helped-is : helpedOf b ≡ helpedOf (called b a .book)
-      unfolding careOf
-      helped-is = sym (ap (λ (w : Care). w .helped) (stored .care))
+      unfolding helpOf
+      helped-is = sym (ap (λ (w : Help). w .helped) (stored .help))
 
       entries-are : after (wall H .rules) (wall H .numbers) r a (y .books r) ≡ look (called b a .book)
       unfolding after
       entries-are =
-          (λ i. place (G .entries r honest i) (senderOf (sym (K .own) i) a) c (sym step-is i .entry)) ∙ sym (stored .entries)
+          (λ i. place (G .entries r honest i) (senderOf (sym (own-is r b K) i) a) c (sym step-is i .entry)) ∙ sym (stored .entries)
 
       given-is : called b a .given ≡ giving (o .answer) (letters (H .season) j c (o .message)) (o .delivery)
       given-is =
           called-given b (K .legal) (K .bytes) a
-          ∙ (λ i. giving (step-is i .answer) (letters (K .season i) (senderOf (K .own i) a) c (step-is i .message)) (step-is i .delivery))
+          ∙ (λ i.
+          giving (step-is i .answer) (letters (season-is r b K i) (senderOf (own-is r b K i) a) c (step-is i .message))
+          (step-is i .delivery))
 
       pub answer-is : called b a .given .answer ≡ o .answer
       answer-is = ap (λ (x : Outcome). x .answer) given-is
@@ -262,10 +275,10 @@ module _ (H : Houses) where
           → sentOf d (kindNumber k) j c ≡ sending 0 (letters (H .season) j c (saidOf k (own k (look d j c))))
       unfolding sentOf sentOn
       sent-is k j c lj lc =
-          let in-senders = lt-ltb j (nOf d) (omega (arith, D .n)) in
-          let in-numbers = lt-ltb c (numbersOf d) (omega (arith, D .numbers)) in
+          let in-senders = lt-ltb j (nOf d) (omega (arith, n-is r d D)) in
+          let in-numbers = lt-ltb c (numbersOf d) (omega (arith, numbers-is r d D)) in
           rw (D .legal, kind-is k, in-senders, in-numbers)
-          (ap (λ (x : ℕ). sending 0 (letters x j c (saidOf k (own k (look d j c))))) (D .season))
+          (ap (λ (x : ℕ). sending 0 (letters x j c (saidOf k (own k (look d j c))))) (season-is r d D))
 
       slot-again : (k : Kind) (j c : ℕ) (x : Option Decl) → IsSlot x
           → Mails (Says (H .season)) (sentAgain Q r (H .n) (sending 0 (letters (H .season) j c (saidOf k x))))
@@ -284,7 +297,7 @@ module _ (H : Houses) where
       kind-again k j c lj lc =
           rw (sent-is k j c lj lc)
           (slot-again k j c (own k (look d j c))
-          (own-slot (nOf d) k (look d j c) (meant-is-book d (D .legal) (D .bytes) .entries j c)))
+          (own-slot (nOf d) k (look d j c) (meant-is-book d (D .legal) (D .bytes) .entries .each j c)))
 
       entry-again : (j c : ℕ) → j < H .n → c < H .numbers
           → Mails (Says (H .season)) (againOn Q r (H .n) d j c) (protocol.againOn Q r (H .n) j c (look d j c))
@@ -309,8 +322,8 @@ module _ (H : Houses) where
       answer-same : requestAnswer b p (H .season) ≡ protocol.helpAnswer (protocol.n (wall H)) (wall H .limit) p (z .power .helped r p)
       unfolding requestAnswer wallOf rulesOf
       answer-same =
-          rw (eq-eqb (H .season) (seasonOf b) (sym (K .season)))
-          (λ i. protocol.helpAnswer (K .n i) (K .limit i) p (sym (G .helped r honest) i p))
+          rw (eq-eqb (H .season) (seasonOf b) (sym (season-is r b K)))
+          (λ i. protocol.helpAnswer (n-is r b K i) (K .limit i) p (sym (G .helped r honest) i p))
 
       pub asked-answer : requested b p (H .season) .given .answer ≡ protocol.helpAnswer (H .n) (H .limit) p (z .power .helped r p)
       unfolding wallOf rulesOf
@@ -329,13 +342,13 @@ module _ (H : Houses) where
               requests = z .power .requests;
             };
           })
-      unfolding ended meant careOf
+      unfolding ended meant helpOf
       accepted-means e =
           let d = countHelp b p in
           let B = helped-meant b (K .legal) (K .bytes) p (H .season) e in
           let D = is-kept r b d K (helped-keeps b (K .legal) (K .bytes) p (H .season) e) in
           let same : look b ≡ look d = sym (ap (λ (B : Meaning). B .entries) B) in
-          let more = (λ i. upd (G .helped r honest i) p (suc (G .helped r honest i p))) ∙ sym (ap (λ (B : Meaning). B .care .helped) B) in
+          let more = (λ i. upd (G .helped r honest i) p (suc (G .helped r honest i p))) ∙ sym (ap (λ (B : Meaning). B .help .helped) B) in
           record {
             gave = record {
               books = books-after d D;
@@ -385,4 +398,4 @@ module _ (H : Houses) where
           → Means (ended r nothing (requested b p season) none s (s .mail ++ sends H r p (requested b p season))) z
       unfolding requested requestAnswer
       other-means season f =
-          rw (ne-eqb season (seasonOf b) (λ e. f (e ∙ K .season))) (refusal-means nothing 3)
+          rw (ne-eqb season (seasonOf b) (λ e. f (e ∙ season-is r b K))) (refusal-means nothing 3)

@@ -11,10 +11,9 @@ use borrow.Author.Tests.{eq-eqb}
 use Rattle.lot.specs.Declaration.{bytesOf}
 use Rattle.message.specs.Message.{Five, readOf, requestOf}
 use Rattle.message.proofs.Request.{request-of-wire, request-unread, message-unasked}
-use Rattle.meaning.specs.Book.{Meaning, seasonOf, helpedOf, careOf, look, meant}
+use Rattle.meaning.specs.Book.{Meaning, seasonOf, helpedOf, helpOf, look, meant}
 use Rattle.meaning.specs.Legal.{legal}
 use Rattle.meaning.specs.Opening.{freshBook}
-use Rattle.sheet.specs.Kept.{sheetAt}
 use Rattle.meaning.proofs.Opening.{opened-legal, opened-bytes, opened-meant}
 use Rattle.entry.specs.Entry.{Decl, fresh, upd, Kind}
 use Rattle.protocol.specs.Book.{Call, publishing, receiving, senderOf, numberOf, publication}
@@ -32,8 +31,8 @@ use Rattle.season.specs.Run.{consumeAt, consumes, goesDown, toAll, again
 use Rattle.season.specs.Claims.{consumption}
 use Rattle.season.proofs.Mail.{asked-is, Says, says-consumed, Asks, asks-consumed, Mails, Both, mails-at, mails-append}
 use Rattle.season.proofs.Mail.{mails-changed, mails-requests}
-use Rattle.season.proofs.Calls.{publication-of, wall, IsOf, Means, call-means, sends-is, refusal-means, again-means, request-means}
-use Rattle.season.proofs.Calls.{other-means}
+use Rattle.season.proofs.Calls.{publication-of, wall, header, IsOf, season-is, Means, call-means, sends-is, refusal-means}
+use Rattle.season.proofs.Calls.{again-means, request-means, other-means}
 
 module _ (H : Houses) where
   -- where both runs test the same
@@ -57,7 +56,7 @@ module _ (H : Houses) where
       → received b p (m .message) ≡ called b (receiving p (x .kind) (x .sender) (x .number) (x .decl))
   copy-called r p b K m x S =
       heard r p b (m .message) K
-      ∙ rw (message-unasked (m .message) _ (S .read), S .read, eq-eqb (H .season) (seasonOf b) (sym (K .season)))
+      ∙ rw (message-unasked (m .message) _ (S .read), S .read, eq-eqb (H .season) (seasonOf b) (sym (season-is H r b K)))
       (ap (answering b) (asked-is p (H .season) (x .sender) (x .number) (x .kind) (x .decl) (S .decl)))
 
   module _ (r : ℕ) (s : State) (z : protocol.State) (M : Means H s z) (honest : T (isHonest H r)) where
@@ -138,7 +137,7 @@ module _ (H : Houses) where
 
   request-is : (r : ℕ) (b : List ℕ) → IsOf H r b → requestOf (returned b .request) ≡ some (H .season)
   unfolding returned
-  request-is r b K = rw (K .legal) (request-of-wire (seasonOf b) ∙ ap some (K .season))
+  request-is r b K = rw (K .legal) (request-of-wire (seasonOf b) ∙ ap some (season-is H r b K))
 
   -- ---- the steps
 
@@ -315,12 +314,12 @@ module _ (H : Houses) where
 
   module _ (O : Open H) where
     module _ (r : ℕ) (t : T (isHonest H r)) where
-      fresh-meant : meant (opens H r .book) ≡ freshBook (H .n) (H .numbers) r (H .down) (H .limit) (H .season) (sheetAt (H .sheet) 0)
+      fresh-meant : meant (opens H r .book) ≡ freshBook (header H r) (H .limit)
       fresh-meant =
           opened-meant (H .lent r) (H .n) (H .numbers) r (H .down) (H .limit) (H .season) (H .sheet) (O .season) (O .sheet) (O .answer r t)
 
       opened-is : IsOf H r (opens H r .book)
-      unfolding meant careOf
+      unfolding meant helpOf
       opened-is =
           let M = fresh-meant in
           record {
@@ -328,13 +327,8 @@ module _ (H : Houses) where
                 (O .answer r t);
             bytes = opened-bytes (H .lent r) (H .n) (H .numbers) r (H .down) (H .limit) (H .season) (H .sheet) (O .season) (O .sheet)
                 (O .answer r t);
-            n = ap (λ (B : Meaning). B .n) M;
-            numbers = ap (λ (B : Meaning). B .numbers) M;
-            own = ap (λ (B : Meaning). B .own) M;
-            season = ap (λ (B : Meaning). B .season) M;
-            sheet = ap (λ (B : Meaning). B .sheet) M;
-            down = ap (λ (B : Meaning). B .care .down) M;
-            limit = ap (λ (B : Meaning). B .care .limit) M;
+            header = ap (λ (B : Meaning). B .header) M;
+            limit = ap (λ (B : Meaning). B .help .limit) M;
           }
 
       opened-fresh : (λ (j c : ℕ). fresh) ≡ look (opens H r .book)
@@ -342,8 +336,8 @@ module _ (H : Houses) where
       opened-fresh = sym (ap (λ (B : Meaning). B .entries) fresh-meant)
 
       opened-helped : (λ (p : ℕ). 0) ≡ helpedOf (opens H r .book)
-      unfolding meant careOf
-      opened-helped = sym (ap (λ (B : Meaning). B .care .helped) fresh-meant)
+      unfolding meant helpOf
+      opened-helped = sym (ap (λ (B : Meaning). B .help .helped) fresh-meant)
 
     start-means : Means H (start H) protocol.start
     start-means =

@@ -12,6 +12,7 @@ use lib.Seq.{paste, take-suc-set, drop-set-lt, take-all, append-snoc}
 use borrow.Author.Tests.{eq-eqb, ne-eqb}
 use Rattle.card.specs.Count.{count}
 use Rattle.entry.specs.Entry.{same, isSome, holds}
+use Rattle.meaning.specs.Layout.{slotLength}
 use Rattle.meaning.specs.Slot.{part, slotAt, slotOk, putSlot}
 
 -- a slot, by its presence byte
@@ -53,13 +54,13 @@ module _ (P : ℕ → Bool) (p : ℕ) (r : Bool) (m : ℕ) (e : r ≡ P p) (h : 
   count-miss k t q = rw (add-one p, ← e, t) (omega arith)
 
 -- the presence byte is stored, and then the 20 bytes after it
-pub put-done : (b : List ℕ) (at : ℕ) (d : List ℕ) → at + 21 ≤ length b → length d ≡ 20
+pub put-done : (b : List ℕ) (at : ℕ) (d : List ℕ) → at + slotLength ≤ length b → length d ≡ 20
     → paste (set b at 1) (at + 1) d (length d) ≡ putSlot b at d
 unfolding putSlot
 put-done b at d h n =
-    let e : at + 1 + 20 ≡ at + 21 = omega arith in
+    let e : at + 1 + 20 ≡ at + slotLength = omega arith in
     let l : at < length b = omega arith in
-    let l′ : at < at + 21 = omega arith in
+    let l′ : at < at + slotLength = omega arith in
     let n′ : length d ≤ 20 = omega arith in
-    rw (n, e, add-one at, take-suc-set b at 1 l, drop-set-lt (at + 21) b at 1 l′, take-all 20 d n′, append-snoc (take at b) 1 d)
-    (append-assoc (take at b) (1 ∷ d) (drop (at + 21) b))
+    rw (n, e, add-one at, take-suc-set b at 1 l, drop-set-lt (at + slotLength) b at 1 l′, take-all 20 d n′, append-snoc (take at b) 1 d)
+    (append-assoc (take at b) (1 ∷ d) (drop (at + slotLength) b))

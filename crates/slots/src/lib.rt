@@ -1,12 +1,16 @@
 // One slot on the bytes: what it holds, whether it has its one form, filling it.
 ghost use mathlib.Core.Path.{_≡_};
-ghost use Prim.Native.Nat.{_+_, _*_, _<_, _≤_};
+ghost use Prim.Native.Nat.{_+_, _<_, _≤_};
 ghost use lib.ListN.{length, replicate};
 ghost use lib.Seq.{paste};
 ghost use Rattle.card.specs.Count.{count};
 ghost use Rattle.entry.specs.Entry.{same, isSome, holds};
+ghost use Rattle.meaning.specs.Layout.{slotLength, placeFrom};
 ghost use Rattle.meaning.specs.Slot.{part, slotAt, slotOk, putSlot};
 ghost use Rattle.slots.specs.Parts.{twoWordsAt};
+
+// The bytes of a slot.
+pub const LENGTH: usize = 21;
 
 // The number whose eight bytes stand at i: two words, which compile to one load.
 fn two_words_at(s: &[u8], i: usize) -> u64
@@ -52,7 +56,7 @@ pub fn is_full(b: &[u8], at: usize) -> bool
 
 // Whether the slot at `at` holds d.
 fn holds_at(b: &[u8], at: usize, d: [u8; 20]) -> bool
-    requires { ⌜ at + 21 ≤ length (now b) ⌝ }
+    requires { ⌜ at + slotLength ≤ length (now b) ⌝ }
     ensures { λ r. ⌜ r ≡ holds (slotAt (now (b .entry)) at) d ⌝ }
 {
     if b[at] == 1 {
@@ -63,12 +67,12 @@ fn holds_at(b: &[u8], at: usize, d: [u8; 20]) -> bool
 
 // How many of the n slots from `at` on hold d.
 pub fn count_same(b: &[u8], at: usize, n: usize, d: [u8; 20]) -> usize
-    requires { ⌜ at + 21 * n ≤ length (now b) ⌝ }
-    ensures { λ r. ⌜ (r ≡ count (λ p. holds (slotAt (now (b .entry)) (at + 21 * p)) d) n) × (r ≤ n) ⌝ }
+    requires { ⌜ placeFrom at n ≤ length (now b) ⌝ }
+    ensures { λ r. ⌜ (r ≡ count (λ p. holds (slotAt (now (b .entry)) (placeFrom at p)) d) n) × (r ≤ n) ⌝ }
 {
     let mut found: usize = 0;
     for p in 0..n {
-        if holds_at(b, at + 21 * p, d) {
+        if holds_at(b, at + LENGTH * p, d) {
             found += 1;
         }
     }
@@ -77,7 +81,7 @@ pub fn count_same(b: &[u8], at: usize, n: usize, d: [u8; 20]) -> usize
 
 // Whether the slot at `at` has the one byte form of its meaning.
 pub fn is_slot_ok(b: &[u8], at: usize) -> bool
-    requires { ⌜ at + 21 ≤ length (now b) ⌝ }
+    requires { ⌜ at + slotLength ≤ length (now b) ⌝ }
     ensures { λ r. ⌜ r ≡ slotOk (now (b .entry)) at ⌝ }
 {
     let p = b[at];
@@ -102,7 +106,7 @@ pub fn lay_at(b: &mut [u8], at: usize, bytes: &[u8])
 
 // Fills the slot at `at` with d.
 pub fn put_slot(b: &mut [u8], at: usize, d: [u8; 20])
-    requires { ⌜ at + 21 ≤ length (now b) ⌝ }
+    requires { ⌜ at + slotLength ≤ length (now b) ⌝ }
     ensures { λ _. ⌜ now (b .exit) ≡ putSlot (now (b .entry)) at d ⌝ }
 {
     b[at] = 1;

@@ -9,7 +9,7 @@ use Rattle.lot.specs.Declaration.{declarationAt}
 use Rattle.entry.specs.Entry.{Decl, Kind, SEND, ECHO, READY, heard}
 use Rattle.protocol.specs.Steps.{given, takesSend, recording}
 use Rattle.meaning.specs.Slot.{slotAt, putSlot}
-use Rattle.meaning.specs.Layout.{heardSlot, entrySlot, echoSlot, readySlot, readySentSlot, deliveredSlot, sendSlot}
+use Rattle.meaning.specs.Layout.{heardSlot, entrySlot, echoSlot, readySlot, readySentSlot, deliveredSlot, sendSlot, placeFrom}
 use Rattle.meaning.specs.Book.{nOf, numbersOf, seasonOf, look, placeIn}
 use Rattle.meaning.specs.Legal.{legal, IsDecl, Has}
 use Rattle.meaning.proofs.Stores.{stored-heard, stored-taken}
@@ -17,7 +17,7 @@ use Rattle.meaning.proofs.Seen.{from-base, heard-seen}
 use Rattle.calls.specs.declared.Outcome.{Outcome}
 use Rattle.calls.specs.Entered.{result, giving, wired, entered, taken}
 use Rattle.calls.proofs.Entered.{letter-wired, entered-is}
-use Rattle.layout.specs.Places.{placeFrom, Within, Begins}
+use Rattle.layout.specs.Places.{Within, Begins}
 use Rattle.layout.proofs.Begins.{begins}
 use Rattle.step.specs.declared.Marks.{Marks}
 use Rattle.step.specs.Marks.{echoMark, readyMarks}

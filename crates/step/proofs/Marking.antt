@@ -9,9 +9,8 @@ use Rattle.card.specs.Card.{countsOf}
 use Rattle.card.specs.Count.{count}
 use Rattle.entry.specs.Entry.{Decl, isNone, holds}
 use Rattle.meaning.specs.Slot.{slotAt}
-use Rattle.meaning.specs.Layout.{slotLength, echoSlot, readySlot, readySentSlot, deliveredSlot}
+use Rattle.meaning.specs.Layout.{slotLength, echoSlot, readySlot, readySentSlot, deliveredSlot, placeFrom}
 use Rattle.meaning.specs.Book.{nOf, downOf}
-use Rattle.layout.specs.Places.{placeFrom}
 use Rattle.step.specs.Marks.{echoMark, readyMarks}
 
 -- what the code has found: n, f, the counts, where the row begins, and how many slots of it hold v

@@ -13,7 +13,7 @@ use Rattle.protocol.specs.Steps.{Rules, Out, say, given, reached, takesEcho, ta
 use Rattle.protocol.specs.Thresholds.{rulesOf}
 use Rattle.meaning.specs.Slot.{slotAt, putSlot}
 use Rattle.meaning.specs.Layout.{slotLength, heardSlot, slotPlace, entrySlot, echoSlot, readySlot, readySentSlot, deliveredSlot}
-use Rattle.meaning.specs.Book.{Care, downOf, careOf, nOf, numbersOf, look, meant, placeIn}
+use Rattle.meaning.specs.Book.{headerOf, downOf, nOf, numbersOf, look, placeIn}
 use Rattle.meaning.specs.Legal.{legal, IsDecl, Has}
 use Rattle.meaning.proofs.Stores.{Stored, stored-entry, stored-heard}
 use Rattle.step.specs.declared.Marks.{Marks}
@@ -21,6 +21,7 @@ use Rattle.calls.specs.Entered.{rulesBy}
 use Rattle.layout.specs.Places.{slotFrom}
 use Rattle.step.specs.Marks.{votesFrom, echoMark, readyMarks}
 use Rattle.meaning.proofs.Seen.{from-base, sent-seen, delivered-seen, echoes-seen, readies-seen}
+use Rattle.meaning.proofs.Agree.{agree-n, agree-numbers, agree-down}
 
 -- ---- in a book that has the entry, slots from its first one on are the entry's
 
@@ -58,7 +59,7 @@ module _ (b : List ℕ) (j c : ℕ) (has : Has b j c) (base : ℕ) (at : base �
 
 module _ (b : List ℕ) (h : legal b ≡ true) (bytes : Bytes b) (j c p : ℕ) (has : Has b j c) (hp : p < nOf b) (v : Decl) (dv : IsDecl v) where
   abbrev R : Rules
-  R = rulesBy (meant b)
+  R = rulesBy (headerOf b)
 
   abbrev pub heard-in : Kind → List ℕ
   heard-in k = putSlot b (placeIn b j c (heardSlot (nOf b) k p)) v
@@ -66,16 +67,25 @@ module _ (b : List ℕ) (h : legal b ≡ true) (bytes : Bytes b) (j c p : ℕ) (
   one : (k : Kind) → Stored b (heard-in k) j c (recorded k p v (look b j c))
   one k = stored-heard b h bytes v dv (nOf b) (numbersOf b) refl refl j c (has .sender) (has .number) k p hp
 
+  n-one : (k : Kind) → nOf (heard-in k) ≡ nOf b
+  n-one k = agree-n (heard-in k) b (one k .header)
+
+  numbers-one : (k : Kind) → numbersOf (heard-in k) ≡ numbersOf b
+  numbers-one k = agree-numbers (heard-in k) b (one k .header)
+
+  down-one : (k : Kind) → downOf (heard-in k) ≡ downOf b
+  down-one k = agree-down (heard-in k) b (one k .header)
+
   pub has-one : (k : Kind) → Has (heard-in k) j c
   has-one k =
       record {
         is-legal = one k .legal;
-        sender = omega (arith, one k .n, has .sender);
-        number = omega (arith, one k .numbers, has .number);
+        sender = omega (arith, n-one k, has .sender);
+        number = omega (arith, numbers-one k, has .number);
       }
 
   pub base-one : (k : Kind) → placeIn b j c 0 ≡ placeIn (heard-in k) j c 0
-  base-one k = sym (λ i. slotPlace (one k .n i) (entrySlot (one k .n i) (one k .numbers i) c j 0))
+  base-one k = sym (λ i. slotPlace (n-one k i) (entrySlot (n-one k i) (numbers-one k i) c j 0))
 
   -- the step of a voucher, by its marks
   abbrev pub taking : Kind → (gives delivers : Bool) → Out
@@ -88,22 +98,22 @@ module _ (b : List ℕ) (h : legal b ≡ true) (bytes : Bytes b) (j c p : ℕ) (
       }
 
   pub echo-taken : taking ECHO (echoMark (heard-in ECHO) (placeIn b j c 0) v) false ≡ takes R ECHO p v (look b j c)
-  unfolding takesEcho rulesBy rulesOf countsOf meant careOf
+  unfolding takesEcho rulesBy rulesOf countsOf headerOf
   echo-taken =
       let e = stored-entry b j c (heard-in ECHO) (recorded ECHO p v (look b j c)) (one ECHO) in
-      let n = one ECHO .n in
-      let f = ap (λ (w : Care). w .down) (one ECHO .care) in
+      let n = n-one ECHO in
+      let f = down-one ECHO in
       ap (λ (g : Bool). taking ECHO g false)
       (mark-echo (heard-in ECHO) j c (has-one ECHO) (placeIn b j c 0) (base-one ECHO) v
       ∙ (λ i. reached (countsOf (n i) (f i) .quorum) (e i .readySent) (e i .echo) v (n i)))
 
   pub ready-taken : (m : Marks) → m ≡ readyMarks (heard-in READY) (placeIn b j c 0) v
       → taking READY (m .gives) (m .delivers) ≡ takes R READY p v (look b j c)
-  unfolding takesReady rulesBy rulesOf countsOf meant careOf
+  unfolding takesReady rulesBy rulesOf countsOf headerOf
   ready-taken m em =
       let e = stored-entry b j c (heard-in READY) (recorded READY p v (look b j c)) (one READY) in
-      let n = one READY .n in
-      let f = ap (λ (w : Care). w .down) (one READY .care) in
+      let n = n-one READY in
+      let f = down-one READY in
       ap (λ (m : Marks). taking READY (m .gives) (m .delivers))
       (em
       ∙ marks-ready (heard-in READY) j c (has-one READY) (placeIn b j c 0) (base-one READY) v

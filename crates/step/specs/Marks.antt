@@ -6,20 +6,19 @@ use mathlib.Core.List.{List}
 use lib.Dec.{leb}
 use Rattle.card.specs.Card.{countsOf}
 use Rattle.card.specs.Count.{count}
-use Rattle.sheet.specs.Kept.{sheetAt}
 use Rattle.entry.specs.Entry.{Decl, isNone, holds}
 use Rattle.meaning.specs.Slot.{slotAt}
-use Rattle.meaning.specs.Layout.{slotLength, echoSlot, readySlot, readySentSlot, deliveredSlot}
-use Rattle.meaning.specs.Book.{nOf, downOf, sheetPlace}
+use Rattle.meaning.specs.Layout.{slotLength, echoSlot, readySlot, readySentSlot, deliveredSlot, placeFrom}
+use Rattle.meaning.specs.Book.{nOf, downOf, sheetOf}
 use Rattle.meaning.specs.Legal.{IsDecl}
 use Rattle.calls.specs.Entered.{okBy}
-use Rattle.layout.specs.Places.{placeFrom, slotFrom}
+use Rattle.layout.specs.Places.{slotFrom}
 use Rattle.step.specs.declared.Marks.{Marks}
 
 -- 20 bytes, plausible by the book's sheet
 pub record Plausible (b : List ℕ) (v : Decl) : Type 0 where
   pub decl : IsDecl v
-  pub ok : okBy (sheetAt b sheetPlace) v ≡ true
+  pub ok : okBy (sheetOf b) v ≡ true
 
 -- how many houses vouch for v in the row that begins with slot i
 abbrev pub votesFrom : List ℕ → (base i : ℕ) → Decl → ℕ

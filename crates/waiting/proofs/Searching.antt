@@ -1,5 +1,5 @@
 -- The turns of the waiting search: what each shows of the entries passed, and of the one it stops at.
-use Prim.Native.Nat.{ℕ, _+_, _*_, _<_, _≤_}
+use Prim.Native.Nat.{ℕ, _+_, _<_, _≤_}
 use mathlib.Core.Path.{_≡_, refl, sym, ap, _∙_}
 use mathlib.Core.Bool.{Bool, true, false, cond, not, true≢false}
 use mathlib.Core.List.{List}
@@ -8,7 +8,7 @@ use native.Mathlib.Numerals.{add-one}
 use native.Mathlib.Omega.{arith}
 use Rattle.entry.specs.Entry.{Decl, SEND, isNone, isSome}
 use Rattle.meaning.specs.Slot.{slotAt}
-use Rattle.meaning.specs.Layout.{deliveredSlot}
+use Rattle.meaning.specs.Layout.{placeFrom, sendSlot, deliveredSlot}
 use Rattle.meaning.specs.Book.{nOf, numbersOf, look}
 use Rattle.meaning.specs.Legal.{legal, Has}
 use Rattle.meaning.proofs.Legality.{legal-facts}
@@ -28,14 +28,19 @@ not-some none = refl
 not-some (some v) = refl
 
 -- one entry
-module _ (b : List ℕ) (j c : ℕ) (has : Has b j c) (base : ℕ) (at : Begins b j c base) (r : Bool) (er : r ≡ isSome (slotAt b base)) where
+module _ (b : List ℕ) (j c : ℕ) (has : Has b j c) (base : ℕ) (at : Begins b j c base) (send : ℕ) (es : send ≡ placeFrom base sendSlot)
+    (r : Bool) (er : r ≡ isSome (slotAt b send)) where
   heard : r ≡ isSome (look b j c .send)
-  heard = er ∙ ap (λ (x : ℕ). isSome (slotAt b x)) (at .is) ∙ ap isSome (sym (heard-seen b j c has SEND j (has .sender)))
+  heard =
+      let place = es ∙ from-base b j c has base (at .is) sendSlot in
+      er ∙ ap (λ (x : ℕ). isSome (slotAt b x)) place ∙ ap isSome (sym (heard-seen b j c has SEND j (has .sender)))
 
-  pub waits-heard : (n : ℕ) (q : Bool) → r ≡ true → n ≡ nOf b → q ≡ isSome (slotAt b (base + 21 * (2 + 2 * n))) → not q ≡ waits b j c
+  pub waits-heard : (n delivered : ℕ) (q : Bool) → r ≡ true → n ≡ nOf b → delivered ≡ placeFrom base (deliveredSlot n)
+      → q ≡ isSome (slotAt b delivered) → not q ≡ waits b j c
   unfolding waits
-  waits-heard n q t en eq =
-      let place = ap (λ (x : ℕ). base + 21 * (2 + 2 * x)) en ∙ from-base b j c has base (at .is) (deliveredSlot (nOf b)) in
+  waits-heard n delivered q t en ed eq =
+      let from = ap (λ (x : ℕ). placeFrom base (deliveredSlot x)) en in
+      let place = ed ∙ from ∙ from-base b j c has base (at .is) (deliveredSlot (nOf b)) in
       let done = eq ∙ ap (λ (x : ℕ). isSome (slotAt b x)) place ∙ ap isSome (sym (delivered-seen b j c has)) in
       rw (← heard, t) (ap not done ∙ not-some (look b j c .delivered))
 

@@ -19,8 +19,8 @@ fn waits_at(book: &[u8], sender: usize, number: usize) -> bool
     ensures { λ r. ⌜ r ≡ waits (now (book .entry)) sender number ⌝ }
 {
     let base = layout::entry_at(book, sender, number);
-    if slots::is_full(book, base) {
-        return !slots::is_full(book, base + 21 * (2 + 2 * layout::n_of(book)));
+    if slots::is_full(book, layout::send_at(base)) {
+        return !slots::is_full(book, layout::delivered_at(base, layout::n_of(book)));
     }
     false
 }

@@ -2,8 +2,6 @@
 use Rattle.calls.proofs.Published.{number-refused, lot-refused}
 use Rattle.calls.proofs.Declarations.{plausible-ok}
 use Rattle.calls.proofs.Checking.{book-sheet}
-use Rattle.meaning.specs.Book.{sheetPlace}
-use Rattle.sheet.specs.Kept.{sheetAt}
 use Rattle.meaning.proofs.Room.{header-room}
 use denote.Ref.{now}
 use native.Mathlib.Omega.{arith}
@@ -11,6 +9,7 @@ use mathlib.Core.Path.{sym, _∙_}
 use borrow.Author.Needs.{needs}
 use Rattle.counter.proofs.publish_legal.Statement.{statement}
 use Rattle.counter.proofs.publish_legal.Tie as tie
+use Rattle.meaning.specs.Book.{sheetOf}
 
 numbers-of-requires : tie.Need-numbers-of-requires
 numbers-of-requires c κs =
@@ -37,7 +36,7 @@ enter-publication-requires c κs =
     (
       start .pre .0,
       omega (arith, c .before .before .before .before .before .before .before .before .numbers-of .ensures .0, c .before .before .before .before .before .before .before .if1 .taken),
-      record { decl = start .pre .1; ok = sym (plausible-ok _ (sheetAt (now (a .book)) sheetPlace) (a .t3) _ _ (start .pre .1) (c .before .before .before .before .before .sheet-of .ensures) (c .before .before .before .declaration-at .ensures) (c .before .before .is-plausible .ensures)) ∙ c .before .if2 .taken },
+      record { decl = start .pre .1; ok = sym (plausible-ok _ (sheetOf (now (a .book))) (a .t3) _ _ (start .pre .1) (c .before .before .before .before .before .sheet-of .ensures) (c .before .before .before .declaration-at .ensures) (c .before .before .is-plausible .ensures)) ∙ c .before .if2 .taken },
     )
 
 same-length : tie.Need-same-length
@@ -56,7 +55,7 @@ returns-2 : tie.Need-returns-2
 returns-2 c =
     let start = c .before .before .before .before .before .before .before .before .before .before .before in
     let a = start .args in
-    lot-refused (now (a .book)) (start .pre .0) (a .number) (a .t3) (omega (arith, c .before .before .before .before .before .before .before .before .numbers-of .ensures .0, c .before .before .before .before .before .before .before .if1 .taken)) (sym (plausible-ok _ (sheetAt (now (a .book)) sheetPlace) (a .t3) _ _ (start .pre .1) (c .before .before .before .before .before .sheet-of .ensures) (c .before .before .before .declaration-at .ensures) (c .before .before .is-plausible .ensures)) ∙ c .before .if2 .left) _ (c .refuse .ensures)
+    lot-refused (now (a .book)) (start .pre .0) (a .number) (a .t3) (omega (arith, c .before .before .before .before .before .before .before .before .numbers-of .ensures .0, c .before .before .before .before .before .before .before .if1 .taken)) (sym (plausible-ok _ (sheetOf (now (a .book))) (a .t3) _ _ (start .pre .1) (c .before .before .before .before .before .sheet-of .ensures) (c .before .before .before .declaration-at .ensures) (c .before .before .is-plausible .ensures)) ∙ c .before .if2 .left) _ (c .refuse .ensures)
 
 refuse-requires-2 : tie.Need-refuse-requires-2
 refuse-requires-2 c κs = search needs

@@ -2,13 +2,12 @@
 use Rattle.counter.proofs.Heard.{implausible-heard}
 use Rattle.calls.proofs.Declarations.{plausible-ok}
 use Rattle.calls.proofs.Checking.{book-sheet}
-use Rattle.meaning.specs.Book.{sheetPlace}
-use Rattle.sheet.specs.Kept.{sheetAt}
 use denote.Ref.{now}
 use mathlib.Core.Path.{sym, _∙_}
 use borrow.Author.Needs.{needs}
 use Rattle.counter.proofs.weigh.Statement.{statement}
 use Rattle.counter.proofs.weigh.Tie as tie
+use Rattle.meaning.specs.Book.{sheetOf}
 
 entry-at-requires : tie.Need-entry-at-requires
 entry-at-requires c κs = search needs
@@ -33,7 +32,7 @@ take-requires c κs =
     (
       start .pre .0,
       c .before .before .before .before .before .before .before .entry-at .ensures,
-      record { decl = start .pre .1; ok = sym (plausible-ok _ (sheetAt (now (a .book)) sheetPlace) (a .t6) _ _ (start .pre .1) (c .before .before .before .before .before .sheet-of .ensures) (c .before .before .before .declaration-at .ensures) (c .before .before .is-plausible .ensures)) ∙ c .before .if1 .taken },
+      record { decl = start .pre .1; ok = sym (plausible-ok _ (sheetOf (now (a .book))) (a .t6) _ _ (start .pre .1) (c .before .before .before .before .before .sheet-of .ensures) (c .before .before .before .declaration-at .ensures) (c .before .before .is-plausible .ensures)) ∙ c .before .if1 .taken },
       start .pre .2,
       start .pre .3,
     )
@@ -55,7 +54,7 @@ returns-2 c =
     let start = c .before .before .before .before .before .before .before .before .before .before in
     let a = start .args in
     implausible-heard (now (a .book)) (a .house) (a .kind) (a .sender) (a .number) (a .t6) (start .pre .3) (start .pre .0) (start .pre .2)
-    (sym (plausible-ok _ (sheetAt (now (a .book)) sheetPlace) (a .t6) _ _ (start .pre .1) (c .before .before .before .before .before .sheet-of .ensures) (c .before .before .before .declaration-at .ensures) (c .before .before .is-plausible .ensures)) ∙ c .before .if1 .left) _ (c .refuse .ensures)
+    (sym (plausible-ok _ (sheetOf (now (a .book))) (a .t6) _ _ (start .pre .1) (c .before .before .before .before .before .sheet-of .ensures) (c .before .before .before .declaration-at .ensures) (c .before .before .is-plausible .ensures)) ∙ c .before .if1 .left) _ (c .refuse .ensures)
 
 pub weigh-spec : {M : Type 1} → statement M
 weigh-spec =

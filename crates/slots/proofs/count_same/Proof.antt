@@ -1,10 +1,11 @@
--- `book::count_same` meets its contract.
-use Prim.Native.Nat.{_≤_, _+_, _-_, _*_}
+-- `slots::count_same` meets its contract.
+use Prim.Native.Nat.{_≤_, _-_}
 use mathlib.Core.Path.{_≡_, refl}
 use mathlib.Core.Logic.{⊎-elim}
 use native.Mathlib.Omega.{arith}
 use Rattle.card.specs.Count.{count}
 use Rattle.entry.specs.Entry.{holds}
+use Rattle.meaning.specs.Layout.{placeFrom}
 use Rattle.meaning.specs.Slot.{slotAt}
 use Rattle.slots.proofs.Slots.{count-hit, count-miss}
 use borrow.Author.Needs.{needs}
@@ -12,7 +13,7 @@ use Rattle.slots.proofs.count_same.Statement.{statement}
 use Rattle.slots.proofs.count_same.Tie as tie
 
 abbrev Inv-loop : tie.InvT-loop
-Inv-loop b at n d found₀ p₀ found p = (p ≤ n) × ((found ≡ count (λ i. holds (slotAt b (at + 21 * i)) d) p) × (found ≤ p))
+Inv-loop b at n d found₀ p₀ found p = (p ≤ n) × ((found ≡ count (λ i. holds (slotAt b (placeFrom at i)) d) p) × (found ≤ p))
 
 abbrev μ-loop : tie.MeasureT-loop
 μ-loop b at n d found₀ p₀ found p = n - p

@@ -3,7 +3,7 @@ use Rattle.step.proofs.Marking.{echo-found}
 use Rattle.meaning.specs.Book.{nOf}
 use Rattle.card.specs.Card.{houses, downOk}
 use mathlib.Core.Path.{ap₂, ap, _∙_}
-use Rattle.layout.proofs.Begins.{slot-within, ready-sent-below, row-within, echoes-below}
+use Rattle.layout.proofs.Begins.{slot-room, ready-sent-below, row-within, echoes-below}
 use denote.Ref.{now}
 use native.Mathlib.Omega.{arith}
 use borrow.Author.Needs.{needs}
@@ -36,7 +36,7 @@ ready-sent-at-requires c κs = search needs
 is-reached-requires : tie.Need-is-reached-requires
 is-reached-requires c κs =
     let n = c .before .before .before .before .before .n-of .ensures .0 in
-    omega (arith, slot-within _ _ _ (c .before .before .before .before .before .before .before .pre) (ready-sent-below (nOf (now (c .before .before .before .before .before .before .before .args .book)))), c .ready-sent-at .ensures, n)
+    omega (arith, slot-room _ _ _ (c .before .before .before .before .before .before .before .pre) (ready-sent-below (nOf (now (c .before .before .before .before .before .before .before .args .book)))), c .ready-sent-at .ensures, n)
 
 returns : tie.Need-returns
 returns c =

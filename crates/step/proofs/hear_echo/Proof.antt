@@ -3,7 +3,7 @@ use Rattle.step.proofs.Entered.{slot-checked, heard-within, echo-entere
 use Rattle.calls.proofs.Checking.{recorded-refused, message-taken}
 use Rattle.entry.specs.Entry.{ECHO}
 use Rattle.meaning.specs.Book.{nOf}
-use Rattle.layout.proofs.Begins.{slot-within, echo-below, ready-sent-below}
+use Rattle.layout.proofs.Begins.{slot-room, echo-below, ready-sent-below}
 use denote.Ref.{now}
 use native.Mathlib.Omega.{arith}
 use mathlib.Core.Path.{refl, sym, _∙_}
@@ -21,7 +21,7 @@ record-answer-requires : tie.Need-record-answer-requires
 record-answer-requires c κs =
     let start = c .before .before .before .before .before in
     let n = c .before .before .n-of .ensures .0 in
-    omega (arith, slot-within _ _ _ (start .pre .1 .within) (echo-below (nOf (now (start .args .book))) (start .args .house) (start .pre .3)), c .before .echo-at .ensures, n)
+    omega (arith, slot-room _ _ _ (start .pre .1 .within) (echo-below (nOf (now (start .args .book))) (start .args .house) (start .pre .3)), c .before .echo-at .ensures, n)
 
 season-of-requires : tie.Need-season-of-requires
 season-of-requires c κs = search needs
@@ -30,7 +30,7 @@ put-slot-requires : tie.Need-put-slot-requires
 put-slot-requires c κs =
     let start = c .before .before .before .before .before .before .before .before .before .before in
     let n = c .before .before .before .before .before .before .before .n-of .ensures .0 in
-    omega (arith, slot-within _ _ _ (start .pre .1 .within) (echo-below (nOf (now (start .args .book))) (start .args .house) (start .pre .3)), c .before .before .before .before .before .before .echo-at .ensures, n)
+    omega (arith, slot-room _ _ _ (start .pre .1 .within) (echo-below (nOf (now (start .args .book))) (start .args .house) (start .pre .3)), c .before .before .before .before .before .before .echo-at .ensures, n)
 
 echo-mark-requires : tie.Need-echo-mark-requires
 echo-mark-requires c κs =
@@ -47,7 +47,7 @@ mark-requires : tie.Need-mark-requires
 mark-requires c κs =
     let start = c .before .before .before .before .before .before .before .before .before .before .before .before .before .before .before .before .before in
     let n = c .before .before .before .before .before .before .before .before .before .before .before .before .before .before .n-of .ensures .0 in
-    omega (arith, slot-within _ _ _ (start .pre .1 .within) (ready-sent-below (nOf (now (start .args .book)))), c .ready-sent-at .ensures, n)
+    omega (arith, slot-room _ _ _ (start .pre .1 .within) (ready-sent-below (nOf (now (start .args .book)))), c .ready-sent-at .ensures, n)
 
 accept-requires : tie.Need-accept-requires
 accept-requires c κs = search needs

@@ -1,11 +1,10 @@
 -- `step::hear_ready` meets its contract.
-use Rattle.meaning.specs.Layout.{readySlot}
-use Rattle.layout.specs.Places.{placeFrom}
+use Rattle.meaning.specs.Layout.{readySlot, placeFrom}
 use Rattle.step.proofs.Entered.{slot-checked, heard-within, ready-entered}
 use Rattle.calls.proofs.Checking.{recorded-refused, message-taken}
 use Rattle.entry.specs.Entry.{READY}
 use Rattle.meaning.specs.Book.{nOf}
-use Rattle.layout.proofs.Begins.{slot-within, ready-below, ready-sent-below, delivered-below}
+use Rattle.layout.proofs.Begins.{slot-room, ready-below, ready-sent-below, delivered-below}
 use denote.Ref.{now}
 use native.Mathlib.Omega.{arith}
 use mathlib.Core.Path.{refl, sym, ap, _∙_}
@@ -23,7 +22,7 @@ record-answer-requires : tie.Need-record-answer-requires
 record-answer-requires c κs =
     let start = c .before .before .before .before .before in
     let n = c .before .before .n-of .ensures .0 in
-    omega (arith, slot-within _ _ _ (start .pre .1 .within) (ready-below (nOf (now (start .args .book))) (start .args .house) (start .pre .3)), c .before .ready-at .ensures, n)
+    omega (arith, slot-room _ _ _ (start .pre .1 .within) (ready-below (nOf (now (start .args .book))) (start .args .house) (start .pre .3)), c .before .ready-at .ensures, n)
 
 season-of-requires : tie.Need-season-of-requires
 season-of-requires c κs = search needs
@@ -32,7 +31,7 @@ put-slot-requires : tie.Need-put-slot-requires
 put-slot-requires c κs =
     let start = c .before .before .before .before .before .before .before .before .before .before in
     let n = c .before .before .before .before .before .before .before .n-of .ensures .0 in
-    omega (arith, slot-within _ _ _ (start .pre .1 .within) (ready-below (nOf (now (start .args .book))) (start .args .house) (start .pre .3)), c .before .before .before .before .before .before .ready-at .ensures, n)
+    omega (arith, slot-room _ _ _ (start .pre .1 .within) (ready-below (nOf (now (start .args .book))) (start .args .house) (start .pre .3)), c .before .before .before .before .before .before .ready-at .ensures, n)
 
 ready-marks-requires : tie.Need-ready-marks-requires
 ready-marks-requires c κs =
@@ -49,7 +48,7 @@ mark-requires : tie.Need-mark-requires
 mark-requires c κs =
     let start = c .before .before .before .before .before .before .before .before .before .before .before .before .before .before .before .before .before in
     let n = c .before .before .before .before .before .before .before .before .before .before .before .before .before .before .n-of .ensures .0 in
-    omega (arith, slot-within _ _ _ (start .pre .1 .within) (ready-sent-below (nOf (now (start .args .book)))), c .ready-sent-at .ensures, n)
+    omega (arith, slot-room _ _ _ (start .pre .1 .within) (ready-sent-below (nOf (now (start .args .book)))), c .ready-sent-at .ensures, n)
 
 delivered-at-requires : tie.Need-delivered-at-requires
 delivered-at-requires c κs = search needs
@@ -58,7 +57,7 @@ mark-requires-2 : tie.Need-mark-requires-2
 mark-requires-2 c κs =
     let start = c .before .before .before .before .before .before .before .before .before .before .before .before .before .before .before .before .before .before .before .before .before .before in
     let n = c .before .before .before .before .before .before .before .before .before .before .before .before .before .before .before .before .before .before .before .n-of .ensures .0 in
-    omega (arith, slot-within _ _ _ (start .pre .1 .within) (delivered-below (nOf (now (start .args .book)))), c .delivered-at .ensures, n)
+    omega (arith, slot-room _ _ _ (start .pre .1 .within) (delivered-below (nOf (now (start .args .book)))), c .delivered-at .ensures, n)
 
 accept-requires : tie.Need-accept-requires
 accept-requires c κs =

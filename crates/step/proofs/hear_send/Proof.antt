@@ -4,7 +4,7 @@ use Rattle.calls.proofs.Checking.{recorded-refused, message-taken}
 use borrow.Author.Tests.{eq-eqb}
 use Rattle.entry.specs.Entry.{SEND}
 use Rattle.meaning.specs.Book.{nOf}
-use Rattle.layout.proofs.Begins.{slot-within, send-below}
+use Rattle.layout.proofs.Begins.{slot-room, send-below}
 use denote.Ref.{now}
 use native.Mathlib.Omega.{arith}
 use mathlib.Core.Path.{refl, sym, _∙_}
@@ -15,7 +15,7 @@ use Rattle.step.proofs.hear_send.Tie as tie
 record-answer-requires : tie.Need-record-answer-requires
 record-answer-requires c κs =
     let W = c .before .before .pre .1 .within in
-    omega (arith, slot-within _ _ _ W (send-below (nOf (now (c .before .before .args .book)))))
+    omega (arith, slot-room _ _ _ W (send-below (nOf (now (c .before .before .args .book)))))
 
 season-of-requires : tie.Need-season-of-requires
 season-of-requires c κs = search needs
@@ -23,7 +23,7 @@ season-of-requires c κs = search needs
 put-slot-requires : tie.Need-put-slot-requires
 put-slot-requires c κs =
     let W = c .before .before .before .before .before .before .before .pre .1 .within in
-    omega (arith, slot-within _ _ _ W (send-below (nOf (now (c .before .before .before .before .before .before .before .args .book)))))
+    omega (arith, slot-room _ _ _ W (send-below (nOf (now (c .before .before .before .before .before .before .before .args .book)))))
 
 accept-requires : tie.Need-accept-requires
 accept-requires c κs = search needs
