@@ -1,16 +1,15 @@
 // A house that returns: the request that it asks all with, and what it sent, to send again.
 ghost use mathlib.Core.Path.{_≡_};
-ghost use mathlib.Core.Bool.{true};
 ghost use mathlib.Core.Option.{none};
 ghost use Prim.Native.Nat.{_+_, _≤_};
 ghost use lib.ListN.{length};
-ghost use Rattle.message.specs.Message.{isKind};
 ghost use Rattle.meaning.specs.Layout.{sheetPlace, slotLength};
 ghost use Rattle.meaning.specs.Slot.{slotAt};
 ghost use Rattle.meaning.specs.Book.{seasonOf};
 ghost use Rattle.meaning.specs.Legal.{Has};
-ghost use Rattle.calls.specs.Entered.{kindOf, letters};
-ghost use Rattle.calls.specs.Again.{returned, sending, saidOf, sentOn, sentOf};
+ghost use Rattle.calls.specs.Entered.{kindOf};
+ghost use Rattle.calls.specs.Again.{returned, sending, sentAs, sentOf};
+ghost use Rattle.again.specs.Letter.{letterOf};
 use calls::Returned;
 use calls::Sent;
 
@@ -41,15 +40,12 @@ fn send_nothing(answer: u8) -> Sent
 
 // The message of the kind with the declaration in the slot at `at`, or none.
 fn sent_in(book: &[u8], at: usize, kind: u8, sender: u8, number: u8) -> Sent
-    requires { ⌜ (at + slotLength ≤ length (now book)) × (sheetPlace ≤ length (now book)) × (isKind kind ≡ true) ⌝ }
-    ensures { λ r. ⌜ r ≡ sending 0 (letters (seasonOf (now (book .entry))) sender number
-        (saidOf (kindOf kind) (slotAt (now (book .entry)) at))) ⌝ }
+    requires { ⌜ (at + slotLength ≤ length (now book)) × (sheetPlace ≤ length (now book)) ⌝ }
+    ensures { λ r. ⌜ r ≡ sending 0 (letterOf kind (seasonOf (now (book .entry))) sender number (slotAt (now (book .entry)) at)) ⌝ }
 {
     if slots::is_full(book, at) {
-        let d = octets::declaration_at(book, at + 1);
-        let season = layout::season_of(book);
-        let written = codec::write_message(kind, season, sender, number, d);
-        let message = written.message;
+        let d = octets::bytes_of(octets::declaration_at(book, at + 1));
+        let message = codec::lay_message(kind, layout::season_of(book), sender, number, d);
         return Sent {
             answer: 0,
             gives: true,
@@ -61,27 +57,23 @@ fn sent_in(book: &[u8], at: usize, kind: u8, sender: u8, number: u8) -> Sent
 
 // What this house sent of the kind on an entry of the book. An ECHO sent is of the SEND recorded, so it is read there.
 fn sent_entry(book: &[u8], kind: u8, sender: u8, number: u8) -> Sent
-    requires { ⌜ Has (now book) sender number × (isKind kind ≡ true) ⌝ }
-    ensures { λ r. ⌜ r ≡ sending 0 (sentOn (now (book .entry)) (kindOf kind) sender number) ⌝ }
+    requires { ⌜ Has (now book) sender number ⌝ }
+    ensures { λ r. ⌜ r ≡ sentAs (now (book .entry)) (kindOf kind) sender number ⌝ }
 {
     let n = layout::n_of(book);
-    if kind == 1 {
-        if (sender as usize) == layout::own_of(book) {
-            return sent_in(
-                book,
-                layout::published_at(n, number as usize),
-                kind,
-                sender,
-                number,
-            );
-        }
-        return send_nothing(0);
-    }
     let base = layout::entry_at(book, sender as usize, number as usize);
-    if kind == 2 {
-        return sent_in(book, layout::send_at(base), kind, sender, number);
+    match kind {
+        1 => {
+            if (sender as usize) == layout::own_of(book) {
+                let at = layout::published_at(n, number as usize);
+                return sent_in(book, at, kind, sender, number);
+            }
+            send_nothing(0)
+        }
+        2 => sent_in(book, layout::send_at(base), kind, sender, number),
+        3 => sent_in(book, layout::ready_sent_at(base, n), kind, sender, number),
+        _ => send_nothing(2),
     }
-    sent_in(book, layout::ready_sent_at(base, n), kind, sender, number)
 }
 
 // What was sent: 1, 2 for a kind not 1 to 3, 4; else the message, or a plain none.

@@ -10,6 +10,8 @@ use borrow.Author.Tests.{ne-eqb, leb-true}
 use Rattle.message.specs.Message.{isKind}
 use Rattle.entry.specs.Entry.{Kind, SEND, ECHO, READY}
 use Rattle.calls.specs.Entered.{kindNumber, kindOf}
+use mathlib.Core.Bool.{true≢false}
+use mathlib.Core.Bool.{false}
 
 pub kind-is : (k : Kind) → kindOf (kindNumber k) ≡ some k
 kind-is SEND = refl
@@ -48,6 +50,11 @@ kind-known n h = go (ℕ-discrete n 1) (ℕ-discrete n 2)
     go (yes e) d = (SEND, kind-send n e, sym e)
     go (no f) (yes e) = (ECHO, kind-echo n e, sym e)
     go (no f) (no g) = let three : n ≡ 3 = omega (arith, in-three n h .0, in-three n h .1) in (READY, kind-ready n three, sym three)
+
+pub kind-unknown : (n : ℕ) → isKind n ≡ false → kindOf n ≡ none
+unfolding isKind
+kind-unknown n h =
+    no-kind n (λ e. true≢false (sym (ap isKind e) ∙ h)) (λ e. true≢false (sym (ap isKind e) ∙ h)) (λ e. true≢false (sym (ap isKind e) ∙ h))
 
 -- and the other way round
 pub number-of-kind : (n : ℕ) (k : Kind) → kindOf n ≡ some k → n ≡ kindNumber k

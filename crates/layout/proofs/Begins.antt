@@ -1,17 +1,15 @@
 -- An entry of a legal book begins where its first slot stands, and lies within the book, slot by slot.
-use Prim.Native.Nat.{ℕ, _+_, _-_, _<_, _≤_}
+use Prim.Native.Nat.{ℕ, _+_, _-_, _<_, _≤_, _*_}
 use mathlib.Core.Path.{_≡_, _∙_}
 use mathlib.Core.List.{List}
 use native.Mathlib.Omega.{arith}
 use lib.ListN.{length}
-use Rattle.meaning.specs.Layout.{perEntry, slotLength, placeFrom, slotPlace, entrySlot}
+use Rattle.meaning.specs.Layout.{perEntry, slotLength, placeFrom, slotPlace, entrySlot, echoSlot, readySlot}
 use Rattle.meaning.specs.Book.{nOf, numbersOf, placeIn}
 use Rattle.meaning.specs.Legal.{Has}
 use Rattle.meaning.proofs.Legality.{legal-facts}
 use Rattle.layout.specs.Places.{Within, Begins}
 use Rattle.meaning.proofs.Room.{header-room, entry-room}
-use Rattle.meaning.specs.Layout.{sendSlot, echoSlot, readySlot, readySentSlot, deliveredSlot}
-use Prim.Native.Nat.{_*_}
 
 pub begins : (b : List ℕ) (j c n s k r : ℕ) → Has b j c → n ≡ nOf b → s ≡ numbersOf b → k ≡ entrySlot n s c j 0
     → r ≡ slotPlace n k → r < 4294967296 → Begins b j c r
@@ -30,26 +28,6 @@ begins b j c n s k r has en es ek er small =
 
 pub slot-room : (b : List ℕ) (base i : ℕ) → Within b base → i < perEntry (nOf b) → placeFrom base i + slotLength ≤ length b
 slot-room b base i w l = omega (arith, w .room)
-
-pub echo-below : (n p : ℕ) → p < n → echoSlot p < perEntry n
-unfolding perEntry
-echo-below n p l = omega arith
-
-pub ready-below : (n p : ℕ) → p < n → readySlot n p < perEntry n
-unfolding perEntry
-ready-below n p l = omega arith
-
-pub ready-sent-below : (n : ℕ) → readySentSlot n < perEntry n
-unfolding perEntry
-ready-sent-below n = omega arith
-
-pub delivered-below : (n : ℕ) → deliveredSlot n < perEntry n
-unfolding perEntry
-delivered-below n = omega arith
-
-pub send-below : (n : ℕ) → sendSlot < perEntry n
-unfolding perEntry
-send-below n = omega arith
 
 -- a row of n slots from slot i on
 pub row-within : (b : List ℕ) (base i : ℕ) → Within b base → i + nOf b ≤ perEntry (nOf b) → placeFrom base i + slotLength * nOf b ≤ length b

@@ -1,4 +1,4 @@
--- `counter::sent_in` meets its contract.
+-- `again::sent_in` meets its contract.
 use Rattle.again.proofs.Sent.{sent-full, sent-empty}
 use denote.Ref.{now}
 use borrow.Author.Needs.{needs}
@@ -14,34 +14,30 @@ add-declaration-at c = search needs
 declaration-at-requires : tie.Need-declaration-at-requires
 declaration-at-requires c κs = search needs
 
+bytes-of-requires : tie.Need-bytes-of-requires
+bytes-of-requires c κs = search needs
+
 season-of-requires : tie.Need-season-of-requires
 season-of-requires c κs = search needs
 
-write-message-requires : tie.Need-write-message-requires
-write-message-requires c κs = search needs
+lay-message-requires : tie.Need-lay-message-requires
+lay-message-requires c κs = search needs
 
 returns : tie.Need-returns
 returns c =
-    let w = c .before in
-    let s = w .before in
-    let d = s .before in
-    let f = d .before .before in
-    let start = f .before .before in
+    let start = c .before .before .before .before .before .before .before in
     let a = start .args in
-    sent-full (now (a .book)) (a .at) (a .kind) (a .sender) (a .number) (start .pre .0) (start .pre .2) (f .is-full .result)
-    (f .is-full .ensures) (d .before .if1 .taken) (d .declaration-at .result) (d .declaration-at .ensures) (s .season-of .result)
-    (s .season-of .ensures) (w .write-message .result) (w .write-message .ensures)
+    sent-full (now (a .book)) (a .at) (a .kind) (a .sender) (a .number) (start .pre .0) _ (c .before .before .before .before .before .is-full .ensures) (c .before .before .before .before .if1 .taken) _
+    (c .before .before .before .declaration-at .ensures) _ (c .before .before .bytes-of .ensures) _ (c .before .season-of .ensures) _ (c .lay-message .ensures)
 
 send-nothing-requires : tie.Need-send-nothing-requires
 send-nothing-requires c κs = search needs
 
 returns-2 : tie.Need-returns-2
 returns-2 c =
-    let f = c .before .before in
-    let start = f .before .before in
+    let start = c .before .before .before .before in
     let a = start .args in
-    sent-empty (now (a .book)) (a .at) (a .kind) (a .sender) (a .number) (start .pre .0) (start .pre .2) (f .is-full .result)
-    (f .is-full .ensures) (c .before .if1 .left) _ (c .send-nothing .ensures)
+    sent-empty (now (a .book)) (a .at) (a .kind) (a .sender) (a .number) (start .pre .0) _ (c .before .before .is-full .ensures) (c .before .if1 .left) _ (c .send-nothing .ensures)
 
 pub sent-in-spec : {M : Type 1} → statement M
 sent-in-spec =
@@ -50,8 +46,9 @@ sent-in-spec =
     is-full-requires
     add-declaration-at
     declaration-at-requires
+    bytes-of-requires
     season-of-requires
-    write-message-requires
+    lay-message-requires
     returns
     send-nothing-requires
     returns-2)

@@ -32,8 +32,7 @@ is-plausible-requires c κs =
 enter-publication-requires : tie.Need-enter-publication-requires
 enter-publication-requires c κs =
     let start = c .before .before .before .before .before .before .before .before .before .before .before in
-    let a = start .args in
-    (
+    let a = start .args in (
       start .pre .0,
       omega (arith, c .before .before .before .before .before .before .before .before .numbers-of .ensures .0, c .before .before .before .before .before .before .before .if1 .taken),
       record { decl = start .pre .1; ok = sym (plausible-ok _ (sheetOf (now (a .book))) (a .t3) _ _ (start .pre .1) (c .before .before .before .before .before .sheet-of .ensures) (c .before .before .before .declaration-at .ensures) (c .before .before .is-plausible .ensures)) ∙ c .before .if2 .taken },

@@ -18,11 +18,10 @@ bytes-of-requires : tie.Need-bytes-of-requires
 bytes-of-requires c κs = search needs
 
 publish-legal-requires : tie.Need-publish-legal-requires
-publish-legal-requires c κs =
-    (
-      sym (c .before .before .before .before .is-legal .ensures) ∙ c .before .before .before .if1 .taken,
-      decl-bytes (now (c .before .before .before .before .before .before .before .before .args .book)) (c .before .before .before .before .before .before .before .before .args .number) (now (c .before .before .before .before .before .before .before .before .args .declaration)) _ (c .before .before .before .before .before .before .before .before .pre) (λ i. omega (arith, c .before .before .before .before .before .before .shared-slice-known .given i)) (c .before .bytes-of .ensures ∙ ap bytesOf (c .before .before .declaration-at .ensures)),
-    )
+publish-legal-requires c κs = (
+  sym (c .before .before .before .before .is-legal .ensures) ∙ c .before .before .before .if1 .taken,
+  decl-bytes (now (c .before .before .before .before .before .before .before .before .args .book)) (c .before .before .before .before .before .before .before .before .args .number) (now (c .before .before .before .before .before .before .before .before .args .declaration)) _ (c .before .before .before .before .before .before .before .before .pre) (λ i. omega (arith, c .before .before .before .before .before .before .shared-slice-known .given i)) (c .before .bytes-of .ensures ∙ ap bytesOf (c .before .before .declaration-at .ensures)),
+)
 
 same-length : tie.Need-same-length
 same-length c = search needs

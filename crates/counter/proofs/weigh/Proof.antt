@@ -28,8 +28,7 @@ is-plausible-requires c κs =
 take-requires : tie.Need-take-requires
 take-requires c κs =
     let start = c .before .before .before .before .before .before .before .before .before .before in
-    let a = start .args in
-    (
+    let a = start .args in (
       start .pre .0,
       c .before .before .before .before .before .before .before .entry-at .ensures,
       record { decl = start .pre .1; ok = sym (plausible-ok _ (sheetOf (now (a .book))) (a .t6) _ _ (start .pre .1) (c .before .before .before .before .before .sheet-of .ensures) (c .before .before .before .declaration-at .ensures) (c .before .before .is-plausible .ensures)) ∙ c .before .if1 .taken },

@@ -3,7 +3,8 @@ use Rattle.step.proofs.Marking.{echo-found}
 use Rattle.meaning.specs.Book.{nOf}
 use Rattle.card.specs.Card.{houses, downOk}
 use mathlib.Core.Path.{ap₂, ap, _∙_}
-use Rattle.layout.proofs.Begins.{slot-room, ready-sent-below, row-within, echoes-below}
+use Rattle.layout.proofs.Begins.{slot-room, row-within, echoes-below}
+use Rattle.meaning.proofs.Places.{ready-sent-below}
 use denote.Ref.{now}
 use native.Mathlib.Omega.{arith}
 use borrow.Author.Needs.{needs}

@@ -3,7 +3,8 @@ use Rattle.step.proofs.Entered.{slot-checked, heard-within, echo-entere
 use Rattle.calls.proofs.Checking.{recorded-refused, message-taken}
 use Rattle.entry.specs.Entry.{ECHO}
 use Rattle.meaning.specs.Book.{nOf}
-use Rattle.layout.proofs.Begins.{slot-room, echo-below, ready-sent-below}
+use Rattle.layout.proofs.Begins.{slot-room}
+use Rattle.meaning.proofs.Places.{echo-below, ready-sent-below}
 use denote.Ref.{now}
 use native.Mathlib.Omega.{arith}
 use mathlib.Core.Path.{refl, sym, _∙_}

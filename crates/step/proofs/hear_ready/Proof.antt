@@ -4,7 +4,8 @@ use Rattle.step.proofs.Entered.{slot-checked, heard-within, ready-enter
 use Rattle.calls.proofs.Checking.{recorded-refused, message-taken}
 use Rattle.entry.specs.Entry.{READY}
 use Rattle.meaning.specs.Book.{nOf}
-use Rattle.layout.proofs.Begins.{slot-room, ready-below, ready-sent-below, delivered-below}
+use Rattle.layout.proofs.Begins.{slot-room}
+use Rattle.meaning.proofs.Places.{ready-below, ready-sent-below, delivered-below}
 use denote.Ref.{now}
 use native.Mathlib.Omega.{arith}
 use mathlib.Core.Path.{refl, sym, ap, _∙_}

@@ -4,7 +4,8 @@ use Rattle.calls.proofs.Checking.{recorded-refused, message-taken}
 use borrow.Author.Tests.{eq-eqb}
 use Rattle.entry.specs.Entry.{SEND}
 use Rattle.meaning.specs.Book.{nOf}
-use Rattle.layout.proofs.Begins.{slot-room, send-below}
+use Rattle.layout.proofs.Begins.{slot-room}
+use Rattle.meaning.proofs.Places.{send-below}
 use denote.Ref.{now}
 use native.Mathlib.Omega.{arith}
 use mathlib.Core.Path.{refl, sym, _∙_}

@@ -3,7 +3,8 @@ use Rattle.step.proofs.Marking.{ready-found}
 use Rattle.meaning.specs.Book.{nOf}
 use Rattle.card.specs.Card.{houses, downOk}
 use mathlib.Core.Path.{ap₂, ap, _∙_}
-use Rattle.layout.proofs.Begins.{slot-room, ready-sent-below, delivered-below, row-within, readies-below}
+use Rattle.layout.proofs.Begins.{slot-room, row-within, readies-below}
+use Rattle.meaning.proofs.Places.{ready-sent-below, delivered-below}
 use denote.Ref.{now}
 use native.Mathlib.Omega.{arith}
 use borrow.Author.Needs.{needs}
