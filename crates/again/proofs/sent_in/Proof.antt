@@ -1,4 +1,4 @@
--- `counter::sent_in` meets its contract.
+-- `again::sent_in` meets its contract.
 use Rattle.again.proofs.Sent.{sent-full, sent-empty}
 use denote.Ref.{now}
 use borrow.Author.Needs.{needs}

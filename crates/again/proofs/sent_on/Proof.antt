@@ -1,4 +1,4 @@
--- `counter::sent_on` meets its contract.
+-- `again::sent_on` meets its contract.
 use Rattle.again.proofs.Sent.{sent-no-book, sent-no-kind, sent-no-sender, sent-no-number, sent-there}
 use Rattle.meaning.proofs.Room.{header-room}
 use native.Mathlib.Omega.{arith}
