@@ -1,7 +1,7 @@
 -- Two books that agree on the header agree on each thing in it.
+use Prim.Native.Nat.{ℕ}
 use mathlib.Core.Path.{_≡_, ap}
 use mathlib.Core.List.{List}
-use Prim.Native.Nat.{ℕ}
 use Rattle.meaning.specs.Book.{Header, headerOf, nOf, numbersOf, ownOf, seasonOf, downOf, sheetOf}
 
 module _ (b c : List ℕ) (same : headerOf b ≡ headerOf c) where

@@ -1,6 +1,6 @@
 -- Where a book's parts lie: a header; what this house published, a slot for each number; then the entries, number first and then
--- sender, each a row of slots: SEND, an ECHO from each house, a READY from each house, READY sent, delivered. The numbers stand here and
--- nowhere else.
+-- sender, each a row of slots: SEND, an ECHO from each house, a READY from each house, READY sent, delivered. Definitions and proofs
+-- take the numbers from here.
 use Prim.Native.Nat.{ℕ, _+_, _*_}
 use mathlib.Core.Bool.{Bool, _&&_}
 use lib.Dec.{leb}

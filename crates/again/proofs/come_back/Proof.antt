@@ -1,4 +1,4 @@
--- `counter::come_back` meets its contract.
+-- `again::come_back` meets its contract.
 use Rattle.again.proofs.Sent.{returned-legal, returned-no-book}
 use Rattle.meaning.proofs.Room.{header-room}
 use native.Mathlib.Omega.{arith}

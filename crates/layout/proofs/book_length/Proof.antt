@@ -1,4 +1,4 @@
--- `book::book_length` meets its contract.
+-- `layout::book_length` meets its contract.
 use Rattle.meaning.specs.Layout.{slotPlace, lengthOf}
 use borrow.Author.Needs.{needs}
 use Rattle.layout.proofs.book_length.Statement.{statement}

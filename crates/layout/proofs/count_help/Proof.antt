@@ -1,4 +1,4 @@
--- `book::count_help` meets its contract.
+-- `layout::count_help` meets its contract.
 use native.Mathlib.Numerals.{add-one}
 use Rattle.meaning.specs.Book.{countHelp}
 use borrow.Author.Needs.{needs}

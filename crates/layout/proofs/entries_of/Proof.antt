@@ -1,4 +1,4 @@
--- `book::entries_of` meets its contract.
+-- `layout::entries_of` meets its contract.
 use Prim.Native.Nat.{_*_, _≤_}
 use native.Mathlib.Omega.{arith}
 use native.Mathlib.Nat.{mul-le-mul}

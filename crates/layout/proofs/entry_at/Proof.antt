@@ -1,4 +1,4 @@
--- `entry::entry_at` meets its contract.
+-- `layout::entry_at` meets its contract.
 use Rattle.meaning.proofs.Room.{header-room}
 use Rattle.layout.proofs.Begins.{begins}
 use native.Mathlib.Omega.{arith}

@@ -1,4 +1,4 @@
--- `book::head_length` meets its contract.
+-- `layout::head_length` meets its contract.
 use Rattle.meaning.specs.Layout.{headLength}
 use borrow.Author.Needs.{needs}
 use Rattle.layout.proofs.head_length.Statement.{statement}

@@ -1,4 +1,4 @@
--- `book::per_entry` meets its contract.
+-- `layout::per_entry` meets its contract.
 use Rattle.meaning.specs.Layout.{perEntry}
 use borrow.Author.Needs.{needs}
 use Rattle.layout.proofs.per_entry.Statement.{statement}

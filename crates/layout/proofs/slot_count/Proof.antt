@@ -1,4 +1,4 @@
--- `book::slot_count` meets its contract.
+-- `layout::slot_count` meets its contract.
 use Rattle.meaning.specs.Layout.{slotCount}
 use borrow.Author.Needs.{needs}
 use Rattle.layout.proofs.slot_count.Statement.{statement}

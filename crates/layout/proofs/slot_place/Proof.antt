@@ -1,4 +1,4 @@
--- `book::slot_place` meets its contract.
+-- `layout::slot_place` meets its contract.
 use Rattle.meaning.specs.Layout.{slotPlace}
 use borrow.Author.Needs.{needs}
 use Rattle.layout.proofs.slot_place.Statement.{statement}

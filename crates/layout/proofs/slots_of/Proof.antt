@@ -1,4 +1,4 @@
--- `book::slots_of` meets its contract.
+-- `layout::slots_of` meets its contract.
 use native.Mathlib.Omega.{arith}
 use mathlib.Core.Path.{ap}
 use Prim.Native.Nat.{_*_, _≤_}

@@ -1,4 +1,4 @@
--- `book::holds_at` meets its contract.
+-- `slots::holds_at` meets its contract.
 use Rattle.slots.proofs.Slots.{holds-full, holds-empty}
 use borrow.Author.Needs.{needs}
 use Rattle.slots.proofs.holds_at.Statement.{statement}

@@ -1,4 +1,4 @@
--- `book::is_full` meets its contract.
+-- `slots::is_full` meets its contract.
 use Rattle.slots.proofs.Slots.{full-is}
 use borrow.Author.Needs.{needs}
 use Rattle.slots.proofs.is_full.Statement.{statement}

@@ -1,4 +1,4 @@
--- `book::is_same_at` meets its contract.
+-- `slots::is_same_at` meets its contract.
 use mathlib.Core.Path.{sym, _∙_}
 use Rattle.slots.proofs.Same.{first-differs, second-differs, third-decides}
 use borrow.Author.Needs.{needs}

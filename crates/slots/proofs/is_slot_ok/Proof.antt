@@ -1,4 +1,4 @@
--- `book::is_slot_ok` meets its contract.
+-- `slots::is_slot_ok` meets its contract.
 use Rattle.slots.proofs.Slots.{ok-full, ok-empty, ok-neither}
 use borrow.Author.Needs.{needs}
 use Rattle.slots.proofs.is_slot_ok.Statement.{statement}

@@ -1,4 +1,4 @@
--- `book::is_zero_at` meets its contract.
+-- `slots::is_zero_at` meets its contract.
 use mathlib.Core.Path.{refl, sym, _∙_}
 use lib.ListN.{replicate}
 use Rattle.slots.proofs.Same.{first-differs, second-differs, third-decides, zero-bytes}

@@ -1,4 +1,4 @@
--- `book::lay_at` meets its contract.
+-- `slots::lay_at` meets its contract.
 use Prim.Native.Nat.{_≤_, _-_}
 use mathlib.Core.Path.{_≡_, refl}
 use native.Mathlib.Omega.{arith}

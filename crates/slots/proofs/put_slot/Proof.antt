@@ -1,4 +1,4 @@
--- `book::put_slot` meets its contract.
+-- `slots::put_slot` meets its contract.
 use Prim.Native.Nat.{_+_}
 use mathlib.Core.Path.{ap, _∙_}
 use native.Mathlib.Omega.{arith}

@@ -1,4 +1,4 @@
--- `counter::earliest_waiting` meets its contract.
+-- `waiting::earliest_waiting` meets its contract.
 use Rattle.waiting.proofs.Searching.{found-small, waiting-found, waiting-no-book}
 use Rattle.meaning.proofs.Room.{header-room}
 use Rattle.waiting.specs.Found.{told}
