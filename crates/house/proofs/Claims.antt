@@ -3,7 +3,7 @@ use mathlib.Core.Path.{sym, _∙_}
 use Rattle.book.proofs.Claims as book
 use Rattle.calls.proofs.Claims as counter
 use Rattle.house.specs.Claims.{Claims}
-use Rattle.house.proofs.Trips.{trips}
+use Rattle.message.proofs.Trips.{trips}
 
 pub claims : Claims
 claims =
