@@ -11,7 +11,7 @@ use borrow.Author.Tests.{lt-ltb, le-ltb}
 use Rattle.lot.specs.declared.Declaration.{Declaration}
 use Rattle.lot.specs.Declaration.{declarationAt, bytesOf}
 use Rattle.message.specs.Message.{isKind, requestWire, fields, wire}
-use Rattle.entry.specs.Entry.{Decl, Kind, SEND, ECHO, READY, Entry, own, isSome, PerEntry}
+use Rattle.entry.specs.Entry.{Decl, Kind, SEND, ECHO, READY, Entry, outgoing, isSome, PerEntry}
 use Rattle.meaning.specs.Slot.{part, slotAt}
 use Rattle.meaning.specs.Layout.{slotLength, placeFrom, slotPlace, publishedSlot, sendSlot, readySentSlot}
 use Rattle.meaning.specs.Book.{nOf, numbersOf, ownOf, seasonOf, slotOf, look}
@@ -80,7 +80,7 @@ module _ (b : List ℕ) (kind j c : ℕ) (has : Has b j c) (w : Sent) where
   inside : (k : Kind) → kindOf kind ≡ some k → sending 0 (sentOn b k j c) ≡ sentAs b (kindOf kind) j c
   inside k e = rw (e, lt-ltb _ _ (has .sender), lt-ltb _ _ (has .number))
 
-  from : (k : Kind) → kindOf kind ≡ some k → (o : Option Decl) → o ≡ own k (look b j c)
+  from : (k : Kind) → kindOf kind ≡ some k → (o : Option Decl) → o ≡ outgoing k (look b j c)
       → w ≡ sending 0 (letterOf kind (seasonOf b) j c o) → Is
   unfolding sentOn
   from k e o eo ew =

@@ -9,7 +9,7 @@ use native.Mathlib.Numerals.{add-one}
 use lib.Dec.{eqb, leb, ltb}
 use lib.ListN.{length, getD}
 use borrow.Author.Tests.{eqb-true, ne-eqb, not-true, not-false, le-leb, lt-leb}
-use Rattle.card.specs.Card.{houses, downOk}
+use Rattle.card.specs.Card.{housesOk, downOk}
 use Rattle.sheet.specs.Kept.{sheetLegalAt}
 use Rattle.entry.proofs.Basics.{and-l, and-r, and-mk, and-false}
 use Rattle.entry.proofs.Basics as basics
@@ -140,7 +140,7 @@ module _ (b : List ℕ) where
   legal-is : legal b ≡ sized b && (slots && (helps && sheetLegalAt b sheetPlace))
   unfolding legal sized allowed helpOk
   legal-is =
-      go (houses (nOf b)) (numbersOk (numbersOf b)) (ltb (ownOf b) (nOf b)) (eqb (length b) (lengthOf (nOf b) (numbersOf b)))
+      go (housesOk (nOf b)) (numbersOk (numbersOf b)) (ltb (ownOf b) (nOf b)) (eqb (length b) (lengthOf (nOf b) (numbersOf b)))
       (sheetLegalAt b sheetPlace) (downOk (nOf b) (downOf b)) (leb (limitOf b) mostLimit) helps slots
     where
       last : (x y a l e z : Bool) → (x && (y && (a && ((l && e) && z)))) ≡ ((a && l) && x) && (z && (e && y))

@@ -4,7 +4,7 @@ ghost use mathlib.Core.Bool.{_&&_};
 ghost use mathlib.Core.List.{_∷_};
 ghost use Prim.Native.Nat.{_<_, _≤_};
 ghost use lib.ListN.{length, replicate};
-ghost use Rattle.card.specs.Card.{houses};
+ghost use Rattle.card.specs.Card.{housesOk};
 ghost use Rattle.words.specs.Words.{be32};
 ghost use Rattle.meaning.specs.Layout.{numbersOk, limitPlace, helpedPlace, sheetLength, slotPlace};
 ghost use Rattle.meaning.specs.Legal.{slotsOk, helpsOk, legal};
@@ -26,7 +26,7 @@ fn is_numbers(s: u32) -> bool
 
 // n and S are allowed.
 fn is_size(n: u32, s: u32) -> bool
-    ensures { λ r. ⌜ r ≡ houses n && numbersOk s ⌝ }
+    ensures { λ r. ⌜ r ≡ housesOk n && numbersOk s ⌝ }
 {
     if counts::is_houses(n) {
         return is_numbers(s);

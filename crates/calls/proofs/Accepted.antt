@@ -4,7 +4,7 @@ use mathlib.Core.Path.{_≡_, refl}
 use Rattle.card.specs.Card.{countsOf}
 use Rattle.lot.specs.Declaration.{declarationAt}
 use Rattle.lot.proofs.Declared.{bytes-of-numbers}
-use Rattle.message.specs.Message.{gives, readOf}
+use Rattle.message.specs.Message.{readAs, readOf}
 use Rattle.message.proofs.RoundTrip.{read-of-wire}
 use Rattle.entry.specs.Entry.{Decl, Kind}
 use Rattle.protocol.specs.Steps.{say}
@@ -27,7 +27,7 @@ unfolding rulesBy rulesOf countsOf
 deliver-by h = refl
 
 letter-read : (season sender number : ℕ) (k : Kind) (v : Decl)
-    → readOf (letter season sender number (say k v)) ≡ gives (fiveOf (kindNumber k) season sender number (declarationAt v 0))
+    → readOf (letter season sender number (say k v)) ≡ readAs (fiveOf (kindNumber k) season sender number (declarationAt v 0))
 unfolding letter
 letter-read season j c k v = read-of-wire (fiveOf (kindNumber k) season j c (declarationAt v 0)) (is-known k)
 

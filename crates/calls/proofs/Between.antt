@@ -10,7 +10,7 @@ use Rattle.lot.specs.Declaration.{bytesOf}
 use Rattle.words.specs.Words.{Bytes, wordAt}
 use Rattle.message.specs.Message.{Five, readOf, isRequest, requestOf}
 use Rattle.message.proofs.Request.{request-names, no-request}
-use Rattle.entry.specs.Entry.{Decl, Entry, PerEntry, sameEntry, place, Kind}
+use Rattle.entry.specs.Entry.{Decl, Entry, PerEntry, sameEntry, putAt, Kind}
 use Rattle.protocol.specs.Steps.{Out}
 use Rattle.protocol.specs.Book.{Call, publishing, senderOf, numberOf, outcome, receiving}
 use Rattle.protocol.proofs.Calls.{alone}
@@ -19,12 +19,12 @@ use Rattle.meaning.specs.Legal.{legal}
 use Rattle.meaning.proofs.Agree.{agree-own, agree-season}
 use Rattle.meaning.proofs.Entries.{same-entry}
 use Rattle.meaning.proofs.Stores.{stored-entry}
-use Rattle.calls.specs.Entered.{Result, giving, rulesBy, letters, kindOf}
+use Rattle.calls.specs.Entered.{Result, handed, rulesBy, letters, kindOf}
 use Rattle.calls.specs.Call.{refusal, stepOf, called, published, asked, heardFrom, heardAny, received, answering, askedAs}
 use Rattle.calls.proofs.Keeps.{called-stored, called-given, requested-entries}
 use Rattle.calls.specs.Between.{Other, Alike, Between}
 
-place-other : (f : PerEntry Entry) (j c : ℕ) (x : Entry) (j₂ c₂ : ℕ) → Other j c j₂ c₂ → place f j c x j₂ c₂ ≡ f j₂ c₂
+place-other : (f : PerEntry Entry) (j c : ℕ) (x : Entry) (j₂ c₂ : ℕ) → Other j c j₂ c₂ → putAt f j c x j₂ c₂ ≡ f j₂ c₂
 place-other f j c x j₂ c₂ d = go (sameEntry j c j₂ c₂) refl
   where
     go : (t : Bool) → sameEntry j c j₂ c₂ ≡ t → cond t x (f j₂ c₂) ≡ f j₂ c₂
@@ -122,7 +122,7 @@ module _ (b d : List ℕ) (hb : legal b ≡ true) (hd : legal d ≡ true) (bb : 
       record {
         given =
             called-given b hb bb a
-            ∙ (λ i. giving (o i .answer) (letters (season i) (senderOf (own i) a) c (o i .message)) (o i .delivery))
+            ∙ (λ i. handed (o i .answer) (letters (season i) (senderOf (own i) a) c (o i .message)) (o i .delivery))
             ∙ sym (called-given d hd bd a);
         entry =
             stored-entry b (senderOf (ownOf b) a) c (called b a .book) (stepOf b a .entry) (called-stored b hb bb a)

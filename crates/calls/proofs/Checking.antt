@@ -20,7 +20,7 @@ use Rattle.meaning.specs.Book.{nOf, numbersOf, ownOf, look, meant, headerOf, sh
 use Rattle.meaning.specs.Legal.{legal, Has}
 use Rattle.meaning.proofs.Legality.{legal-facts}
 use Rattle.calls.specs.declared.Outcome.{Outcome}
-use Rattle.calls.specs.Entered.{result, giving, okBy, rulesBy, entered, taken}
+use Rattle.calls.specs.Entered.{result, handed, okBy, rulesBy, entered, taken}
 use Rattle.calls.specs.Call.{stepOf, called}
 use Rattle.meaning.specs.Layout.{sheetPlace}
 
@@ -34,10 +34,10 @@ module _ (b : List ℕ) (a : Call) where
   called-accepted z = rw (eq-eqb _ _ z)
 
   -- the number that the code found, refused
-  pub called-refused : (n : ℕ) (r : Outcome) → n ≡ stepOf b a .answer → (n ≡ 0 → ⊥) → r ≡ giving n none none → result r b ≡ called b a
+  pub called-refused : (n : ℕ) (r : Outcome) → n ≡ stepOf b a .answer → (n ≡ 0 → ⊥) → r ≡ handed n none none → result r b ≡ called b a
   unfolding called
   called-refused n r e f q =
-      rw (ne-eqb (stepOf b a .answer) 0 (λ z. f (e ∙ z))) (ap (λ (x : Outcome). result x b) (q ∙ ap (λ (x : ℕ). giving x none none) e))
+      rw (ne-eqb (stepOf b a .answer) 0 (λ z. f (e ∙ z))) (ap (λ (x : Outcome). result x b) (q ∙ ap (λ (x : ℕ). handed x none none) e))
 
 module _ (b : List ℕ) (j c p : ℕ) (k : Kind) (v : Decl) where
   abbrev a : Call
@@ -51,7 +51,7 @@ module _ (b : List ℕ) (j c p : ℕ) (k : Kind) (v : Decl) where
   missing x = sym (ordered .missing x)
 
   -- 4
-  pub missing-refused : (nOf b ≤ j) ⊎ ((numbersOf b ≤ c) ⊎ (nOf b ≤ p)) → (r : Outcome) → r ≡ giving 4 none none → result r b ≡ called b a
+  pub missing-refused : (nOf b ≤ j) ⊎ ((numbersOf b ≤ c) ⊎ (nOf b ≤ p)) → (r : Outcome) → r ≡ handed 4 none none → result r b ≡ called b a
   missing-refused x r q = called-refused b a 4 r (missing x) (λ z. omega arith) q
 
   module _ (has : Has b j c) (hp : p < nOf b) where
@@ -60,7 +60,7 @@ module _ (b : List ℕ) (j c p : ℕ) (k : Kind) (v : Decl) where
     not-plausible f = sym (ordered .not-plausible (has .sender) (has .number) hp f)
 
     -- 5
-    pub implausible-refused : okBy (sheetOf b) v ≡ false → (r : Outcome) → r ≡ giving 5 none none → result r b ≡ called b a
+    pub implausible-refused : okBy (sheetOf b) v ≡ false → (r : Outcome) → r ≡ handed 5 none none → result r b ≡ called b a
     implausible-refused f r q = called-refused b a 5 r (not-plausible f) (λ z. omega arith) q
 
     module _ (ok : okBy (sheetOf b) v ≡ true) where
@@ -76,7 +76,7 @@ module _ (b : List ℕ) (j c p : ℕ) (k : Kind) (v : Decl) where
             answer-is (rulesBy (headerOf b)) (numbersOf b) (ownOf b) p k j c v (look b) (has .sender) (has .number)
             ∙ rw (lt-ltb _ _ hp, ok, from)
 
-        pub recorded-refused : (n : ℕ) → n ≡ recording (heard k p (look b j c)) v → (n ≡ 0 → ⊥) → (r : Outcome) → r ≡ giving n none none
+        pub recorded-refused : (n : ℕ) → n ≡ recording (heard k p (look b j c)) v → (n ≡ 0 → ⊥) → (r : Outcome) → r ≡ handed n none none
             → result r b ≡ called b a
         recorded-refused n e f r q = called-refused b a n r (e ∙ sym answer-past) f q
 
@@ -92,6 +92,6 @@ module _ (b : List ℕ) (j c p : ℕ) (k : Kind) (v : Decl) where
 
 -- 6
 module _ (b : List ℕ) (j c p : ℕ) (v : Decl) (has : Has b j c) (hp : p < nOf b) (ok : okBy (sheetOf b) v ≡ true) where
-  pub another-refused : (p ≡ j → ⊥) → (r : Outcome) → r ≡ giving 6 none none → result r b ≡ called b (receiving p SEND j c v)
+  pub another-refused : (p ≡ j → ⊥) → (r : Outcome) → r ≡ handed 6 none none → result r b ≡ called b (receiving p SEND j c v)
   another-refused f r q =
       called-refused b (receiving p SEND j c v) 6 r (not-sender b j c p SEND v has hp ok (ne-eqb p j f)) (λ z. omega arith) q

@@ -12,7 +12,7 @@ use Rattle.sheet.specs.declared.Sheet.{Sheet}
 use Rattle.lot.specs.Declaration.{declarationAt, bytesOf}
 use Rattle.sheet.specs.Sheet.{plausible}
 use Rattle.lot.proofs.Declared.{bytes-are-bytes}
-use Rattle.message.specs.Message.{Five, Told, wellFormed, fiveAt, gives, malformed, readOf}
+use Rattle.message.specs.Message.{Five, Told, wellFormed, fiveAt, readAs, malformed, readOf}
 use Rattle.message.proofs.RoundTrip.{fiveOr}
 use Rattle.entry.specs.Entry.{Decl}
 use Rattle.meaning.specs.Legal.{IsDecl}
@@ -38,17 +38,17 @@ unfolding bytesOf
 read-decl s i b = record { long = refl; bytes = bytes-are-bytes s i b }
 
 -- and so have those of a message that was read
-pub message-decl : (s : List ℕ) (m : Five) → Bytes s → readOf s ≡ gives m → IsDecl (bytesOf (m .declaration))
+pub message-decl : (s : List ℕ) (m : Five) → Bytes s → readOf s ≡ readAs m → IsDecl (bytesOf (m .declaration))
 unfolding readOf fiveAt
 message-decl s m b r = go (wellFormed s) refl
   where
     go : (t : Bool) → wellFormed s ≡ t → IsDecl (bytesOf (m .declaration))
     go true h =
-        let q : gives (fiveAt s) ≡ gives m = rw h at r in
+        let q : readAs (fiveAt s) ≡ readAs m = rw h at r in
         let e = ap (λ (x : Told). fiveOr m (x .five)) q in
         subst (λ (x : Five). IsDecl (bytesOf (x .declaration))) e (read-decl s 16 b)
     go false h =
-        let q : malformed ≡ gives m = rw h at r in
+        let q : malformed ≡ readAs m = rw h at r in
         let z : _≡_ {A = ℕ} 2 0 = ap (λ (x : Told). x .answer) q in
         absurd (omega arith)
 

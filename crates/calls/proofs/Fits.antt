@@ -9,7 +9,8 @@ use lib.Dec.{T, eqb, ltb, ltb→lt}
 use lib.ListN.{length}
 use borrow.Author.Tests.{eqb-true, ltb-true}
 use Rattle.words.specs.Words.{Bytes}
-use Rattle.entry.specs.Entry.{Decl, Kind, SEND, ECHO, READY, Entry, upd, mark, recorded, marked}
+use Rattle.entry.specs.Entry.{Decl, Kind, SEND, ECHO, READY, Entry, mark, recorded, marked}
+use Rattle.entry.specs.Lists.{upd}
 use Rattle.protocol.specs.Steps.{Rules, Out, refused, settle, reached, publishes, takesSend, takesEcho, takesReady, takes, receiveAnswer}
 use Rattle.protocol.specs.Steps.{receive, publishAnswer, publish}
 use Rattle.protocol.specs.Book.{Book, Call, publishing, receiving, inBook, senderOf, numberOf, onEntry, outcome}

@@ -13,12 +13,12 @@ use Rattle.meaning.proofs.Agree.{agree-n, agree-numbers}
 use Rattle.meaning.proofs.Written.{withEntries}
 use Rattle.meaning.proofs.Numbered.{slotsOf, slots-stay}
 use Rattle.meaning.proofs.Every.{slot-is}
-use Rattle.calls.specs.Calls.{Calling, answered}
-use Rattle.calls.specs.Kept.{Kept}
+use Rattle.calls.specs.Calls.{BookCall, answered}
+use Rattle.calls.specs.Keeps.{Keeps}
 use Rattle.calls.proofs.Keeps.{answered-keeps}
 
 module _ (b : List ℕ) (h : legal b ≡ true) (bytes : Bytes b) where
-  module _ (a : List ℕ) (kept : Kept b a) where
+  module _ (a : List ℕ) (kept : Keeps b a) where
     -- slots hang on the header and the entries
     slots-after : slotsOf (meant a) ≡ slotsOf (withEntries (meant b) (look a))
     unfolding meant slotsOf
@@ -34,5 +34,5 @@ module _ (b : List ℕ) (h : legal b ≡ true) (bytes : Bytes b) where
         ∙ slots-stay (meant b) (look a) (kept .fills) k v (sym (slot-is b h bytes k l) ∙ e)
 
   -- slot k of the book
-  pub answered-full : (call : Calling) (k : ℕ) → k < slotCount (nOf b) (numbersOf b) → Stays (slotOf b k) (slotOf (answered b call .book) k)
+  pub answered-full : (call : BookCall) (k : ℕ) → k < slotCount (nOf b) (numbersOf b) → Stays (slotOf b k) (slotOf (answered b call .book) k)
   answered-full call = slots-kept (answered b call .book) (answered-keeps b h bytes call)

@@ -15,7 +15,7 @@ use Rattle.sheet.specs.declared.Sheet.{Sheet}
 use Rattle.sheet.specs.Sheet.{plausible}
 use Rattle.lot.specs.Declaration.{declarationAt}
 use Rattle.message.specs.Message.{Five, readOf, requestOf}
-use Rattle.entry.specs.Entry.{Decl, Entry, fresh, PerEntry, sameEntry, place, Filled}
+use Rattle.entry.specs.Entry.{Decl, Entry, fresh, PerEntry, sameEntry, putAt, Filled}
 use Rattle.protocol.specs.Steps.{Out, refused}
 use Rattle.protocol.specs.Book.{Call, publishing, senderOf, numberOf}
 use Rattle.protocol.specs.Thresholds.{rulesOf}
@@ -35,11 +35,11 @@ use Rattle.meaning.proofs.Meant.{meant-is-book}
 use Rattle.meaning.proofs.Helped.{help-legal, help-bytes, help-meant}
 use Rattle.meaning.proofs.Every.{written-legal, written-bytes, written-meant}
 use Rattle.calls.specs.declared.Outcome.{Outcome}
-use Rattle.calls.specs.Entered.{giving, helping, okBy, isDecl, rulesBy, letters, withEntry, entered}
+use Rattle.calls.specs.Entered.{handed, helping, okBy, isDecl, rulesBy, letters, withEntry, entered}
 use Rattle.calls.specs.Call.{refusal, stepOf, called, published, asked, heardFrom, heardAny, requestAnswer, requested, received}
 use Rattle.calls.specs.Call.{answering}
-use Rattle.calls.specs.Kept.{Kept}
-use Rattle.calls.specs.Calls.{Calling, publish, receive, search, comeback, sent, answered}
+use Rattle.calls.specs.Keeps.{Keeps}
+use Rattle.calls.specs.Calls.{BookCall, publish, receive, search, comeback, sent, answered}
 use Rattle.calls.proofs.Requests.{request-from, request-low}
 use Rattle.calls.proofs.Fits.{is-decl, Fits, outcome-fits, outcome-in-book, outcome-refused}
 
@@ -49,7 +49,7 @@ unfolding okBy
 plausible-decl s v t = is-decl v (true-of (isDecl v) (and-l (isDecl v) (plausible s (declarationAt v 0)) t))
 
 place-all : {A : Type 0} (Φ : ℕ → ℕ → A → Type 0) (f : PerEntry A) (j c : ℕ) (x : A) → Φ j c x → ((j₂ c₂ : ℕ) → Φ j₂ c₂ (f j₂ c₂))
-    → (j₂ c₂ : ℕ) → Φ j₂ c₂ (place f j c x j₂ c₂)
+    → (j₂ c₂ : ℕ) → Φ j₂ c₂ (putAt f j c x j₂ c₂)
 place-all Φ f j c x a g j₂ c₂ = go (sameEntry j c j₂ c₂) refl
   where
     go : (t : Bool) → sameEntry j c j₂ c₂ ≡ t → Φ j₂ c₂ (cond t x (f j₂ c₂))
@@ -57,7 +57,7 @@ place-all Φ f j c x a g j₂ c₂ = go (sameEntry j c j₂ c₂) refl
     go false e = g j₂ c₂
 
 module _ (b : List ℕ) (h : legal b ≡ true) (bytes : Bytes b) where
-  pub kept-none : Kept b b
+  pub kept-none : Keeps b b
   kept-none =
       record {
         legal = h;
@@ -68,7 +68,7 @@ module _ (b : List ℕ) (h : legal b ≡ true) (bytes : Bytes b) where
         fills = λ j c. filled-refl (look b j c);
       }
 
-  pub kept-length : (a : List ℕ) → Kept b a → length a ≡ length b
+  pub kept-length : (a : List ℕ) → Keeps b a → length a ≡ length b
   kept-length a k =
       legal-facts a (k .legal) .long
       ∙ ap₂ lengthOf (agree-n a b (k .header)) (agree-numbers a b (k .header))
@@ -142,12 +142,12 @@ module _ (b : List ℕ) (h : legal b ≡ true) (bytes : Bytes b) where
         go false e = rw (refused-is (eqb-false (o .answer) 0 e)) (stored-none b j c h bytes)
 
     -- answer, message and delivery are the step's, a message being the writer's bytes
-    pub called-given : called b a .given ≡ giving (o .answer) (letters (seasonOf b) j c (o .message)) (o .delivery)
+    pub called-given : called b a .given ≡ handed (o .answer) (letters (seasonOf b) j c (o .message)) (o .delivery)
     unfolding called entered
     called-given = go (eqb (o .answer) 0) refl
       where
         gives : Out → Outcome
-        gives x = giving (x .answer) (letters (seasonOf b) j c (x .message)) (x .delivery)
+        gives x = handed (x .answer) (letters (seasonOf b) j c (x .message)) (x .delivery)
 
         go : (t : Bool) → eqb (o .answer) 0 ≡ t → cond t (entered b j c o) (refusal (o .answer) b) .given ≡ gives o
         go true e = refl
@@ -161,7 +161,7 @@ module _ (b : List ℕ) (h : legal b ≡ true) (bytes : Bytes b) where
     unfolding stepOf meant
     step-fills = outcome-done (rulesBy (headerOf b)) (numbersOf b) (ownOf b) a (look b) .moves .filled
 
-    pub called-keeps : Kept b (called b a .book)
+    pub called-keeps : Keeps b (called b a .book)
     unfolding helpOf
     called-keeps =
         let s = called-stored in
@@ -185,7 +185,7 @@ module _ (b : List ℕ) (h : legal b ≡ true) (bytes : Bytes b) where
     pub helped-meant : accepted → meant (countHelp b p) ≡ withHelp (meant b) (moreHelp (helpOf b) p)
     helped-meant z = help-meant b h bytes p (request-from b p season z) (request-low b p season z)
 
-    pub helped-keeps : accepted → Kept b (countHelp b p)
+    pub helped-keeps : accepted → Keeps b (countHelp b p)
     unfolding meant helpOf
     helped-keeps z =
         let M = helped-meant z in
@@ -200,12 +200,12 @@ module _ (b : List ℕ) (h : legal b ≡ true) (bytes : Bytes b) where
               (filled-refl (look b j c));
         }
 
-    pub requested-keeps : Kept b (requested b p season .book)
+    pub requested-keeps : Keeps b (requested b p season .book)
     unfolding requested
     requested-keeps = go (eqb (requestAnswer b p season) 0) refl
       where
         go : (t : Bool) → eqb (requestAnswer b p season) 0 ≡ t
-            → Kept b (cond t (record { given = helping; book = countHelp b p }) (refusal (requestAnswer b p season) b) .book)
+            → Keeps b (cond t (record { given = helping; book = countHelp b p }) (refusal (requestAnswer b p season) b) .book)
         go true e = helped-keeps (eqb-true (requestAnswer b p season) 0 e)
         go false e = kept-none
 
@@ -220,32 +220,32 @@ module _ (b : List ℕ) (h : legal b ≡ true) (bytes : Bytes b) where
         go false e = refl
 
   -- for every number and declaration, every house number and message
-  pub published-keeps : (c : ℕ) (v : Decl) → Kept b (published b c v .book)
+  pub published-keeps : (c : ℕ) (v : Decl) → Keeps b (published b c v .book)
   unfolding published
   published-keeps c v = rw h (called-keeps (publishing c v))
 
-  pub received-keeps : (p : ℕ) (message : List ℕ) → Kept b (received b p message .book)
+  pub received-keeps : (p : ℕ) (message : List ℕ) → Keeps b (received b p message .book)
   unfolding received
   received-keeps p message = rw h (any (requestOf message) (readOf message .five))
     where
-      asking : (x : Option Call) → Kept b (answering b x .book)
+      asking : (x : Option Call) → Keeps b (answering b x .book)
       asking none = kept-none
       asking (some a) = called-keeps a
 
-      in-season : (m : Five) (t : Bool) → Kept b (cond t (answering b (asked p m)) (refusal 3 b) .book)
+      in-season : (m : Five) (t : Bool) → Keeps b (cond t (answering b (asked p m)) (refusal 3 b) .book)
       in-season m true = asking (asked p m)
       in-season m false = kept-none
 
-      go : (x : Option Five) → Kept b (heardFrom b p x .book)
+      go : (x : Option Five) → Keeps b (heardFrom b p x .book)
       go none = kept-none
       go (some m) = in-season m (eqb (m .season) (seasonOf b))
 
-      any : (o : Option ℕ) (x : Option Five) → Kept b (heardAny b p o x .book)
+      any : (o : Option ℕ) (x : Option Five) → Keeps b (heardAny b p o x .book)
       any none x = go x
       any (some season) x = requested-keeps p season
 
   -- every call on a legal book leaves a legal book with the same header
-  pub answered-keeps : (a : Calling) → Kept b (answered b a .book)
+  pub answered-keeps : (a : BookCall) → Keeps b (answered b a .book)
   unfolding answered
   answered-keeps (publish c v) = published-keeps c v
   answered-keeps (receive p message) = received-keeps p message

@@ -1,7 +1,7 @@
 -- A message's kind by its number: each kind has one, what is well formed has a kind, and no other number has.
 use Prim.Native.Nat.{ℕ, _≤_}
 use mathlib.Core.Path.{_≡_, refl, sym, ap, _∙_}
-use mathlib.Core.Bool.{true, and-eq-true-iff}
+use mathlib.Core.Bool.{true, and-eq-true-iff, true≢false, false}
 use mathlib.Core.Option.{none, some}
 use native.Mathlib.Decide.{ℕ-discrete}
 use native.Mathlib.Omega.{arith}
@@ -10,8 +10,6 @@ use borrow.Author.Tests.{ne-eqb, leb-true}
 use Rattle.message.specs.Message.{isKind}
 use Rattle.entry.specs.Entry.{Kind, SEND, ECHO, READY}
 use Rattle.calls.specs.Entered.{kindNumber, kindOf}
-use mathlib.Core.Bool.{true≢false}
-use mathlib.Core.Bool.{false}
 
 pub kind-is : (k : Kind) → kindOf (kindNumber k) ≡ some k
 kind-is SEND = refl

@@ -9,7 +9,7 @@ use lib.Dec.{eqb}
 use lib.ListN.{getD}
 use borrow.Author.Tests.{eqb-true, eq-eqb, ne-eqb, lt-ltb}
 use Rattle.lot.specs.Declaration.{bytesOf}
-use Rattle.message.specs.Message.{Five, Told, gives, malformed, readOf, requestOf}
+use Rattle.message.specs.Message.{Five, Told, readAs, malformed, readOf, requestOf}
 use Rattle.message.proofs.Request.{message-unasked}
 use Rattle.entry.specs.Entry.{Decl, Kind, SEND, ECHO, READY, heard}
 use Rattle.protocol.specs.Steps.{Out, publishes, may, recording}
@@ -76,10 +76,10 @@ module _ (b : List ℕ) where
     unfolding received
     no-message h q r = rw (h, q, r)
 
-    five-of : (m : Five) → readOf message ≡ gives m → readOf message .five ≡ some m
+    five-of : (m : Five) → readOf message ≡ readAs m → readOf message .five ≡ some m
     five-of m r = ap (λ (t : Told). t .five) r
 
-    other-season : legal b ≡ true → (m : Five) → readOf message ≡ gives m → (m .season ≡ seasonOf b → ⊥)
+    other-season : legal b ≡ true → (m : Five) → readOf message ≡ readAs m → (m .season ≡ seasonOf b → ⊥)
         → received b p message .given .answer ≡ 3
     unfolding received
     other-season h m r f = rw (h, message-unasked message m (five-of m r), r, ne-eqb (m .season) (seasonOf b) f)

@@ -14,7 +14,7 @@ use Rattle.meaning.specs.Layout.{slotPlace}
 use Rattle.meaning.specs.Book.{nOf, numbersOf, ownOf, look, meant, headerOf, sheetOf}
 use Rattle.meaning.specs.Legal.{legal, IsDecl}
 use Rattle.calls.specs.declared.Outcome.{Outcome}
-use Rattle.calls.specs.Entered.{Result, result, giving, okBy, rulesBy, entered, publishedAt}
+use Rattle.calls.specs.Entered.{Result, result, handed, okBy, rulesBy, entered, publishedAt}
 use Rattle.calls.specs.Call.{stepOf, called, published}
 use Rattle.protocol.specs.Order.{PublishingOrder}
 use Rattle.protocol.proofs.Order.{publishing-ordered}
@@ -40,7 +40,7 @@ module _ (b : List ℕ) (h : legal b ≡ true) (c : ℕ) (v : Decl) where
   number-missing l = sym (ordered .missing l)
 
   -- 4
-  pub number-refused : numbersOf b ≤ c → (r : Outcome) → r ≡ giving 4 none none → result r b ≡ called b a
+  pub number-refused : numbersOf b ≤ c → (r : Outcome) → r ≡ handed 4 none none → result r b ≡ called b a
   number-refused l r q = called-refused b a 4 r (number-missing l) (λ z. omega arith) q
 
   module _ (l : c < numbersOf b) where
@@ -49,7 +49,7 @@ module _ (b : List ℕ) (h : legal b ≡ true) (c : ℕ) (v : Decl) where
     lot-not-plausible f = sym (ordered .not-plausible l f)
 
     -- 5
-    pub lot-refused : okBy (sheetOf b) v ≡ false → (r : Outcome) → r ≡ giving 5 none none → result r b ≡ called b a
+    pub lot-refused : okBy (sheetOf b) v ≡ false → (r : Outcome) → r ≡ handed 5 none none → result r b ≡ called b a
     lot-refused f r q = called-refused b a 5 r (lot-not-plausible f) (λ z. omega arith) q
 
     module _ (ok : okBy (sheetOf b) v ≡ true) where
@@ -66,7 +66,7 @@ module _ (b : List ℕ) (h : legal b ≡ true) (c : ℕ) (v : Decl) where
 
       module _ (t : Bool) (et : t ≡ isSome (slotAt b (slotPlace (nOf b) c))) where
         -- 8
-        pub already-refused : t ≡ true → (r : Outcome) → r ≡ giving 8 none none → result r b ≡ called b a
+        pub already-refused : t ≡ true → (r : Outcome) → r ≡ handed 8 none none → result r b ≡ called b a
         already-refused e r q =
             let w = full-holds (slotAt b (slotPlace (nOf b) c)) (sym et ∙ e) in
             called-refused b a 8 r (already-there (w .0) (seen ∙ w .1)) (λ z. omega arith) q
@@ -79,7 +79,7 @@ module _ (b : List ℕ) (h : legal b ≡ true) (c : ℕ) (v : Decl) where
 
 -- 1, or past it
 module _ (b : List ℕ) (c : ℕ) (v : List ℕ) where
-  pub published-no-book : legal b ≡ false → (r : Outcome) → r ≡ giving 1 none none → result r b ≡ published b c v
+  pub published-no-book : legal b ≡ false → (r : Outcome) → r ≡ handed 1 none none → result r b ≡ published b c v
   unfolding published
   published-no-book h r q = rw h (ap (λ (x : Outcome). result x b) q)
 

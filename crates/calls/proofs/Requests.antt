@@ -14,7 +14,7 @@ use Rattle.meaning.specs.Book.{nOf, seasonOf, limitOf, helpedOf, countHelp}
 use Rattle.meaning.specs.Legal.{legal}
 use Rattle.meaning.proofs.Legality.{legal-facts}
 use Rattle.calls.specs.declared.Outcome.{Outcome}
-use Rattle.calls.specs.Entered.{result, giving, helping}
+use Rattle.calls.specs.Entered.{result, handed, helping}
 use Rattle.calls.specs.Call.{requestAnswer, requested}
 
 module _ (b : List ℕ) (p season : ℕ) where
@@ -64,20 +64,20 @@ module _ (b : List ℕ) (p season : ℕ) where
 
 -- a request of the book's season, test by test as the code makes them
 module _ (b : List ℕ) (p : ℕ) where
-  refused : (n : ℕ) → n ≡ requestAnswer b p (seasonOf b) → (n ≡ 0 → ⊥) → (r : Outcome) → r ≡ giving n none none
+  refused : (n : ℕ) → n ≡ requestAnswer b p (seasonOf b) → (n ≡ 0 → ⊥) → (r : Outcome) → r ≡ handed n none none
       → result r b ≡ requested b p (seasonOf b)
   unfolding requested
   refused n e f r q =
       rw (ne-eqb (requestAnswer b p (seasonOf b)) 0 (λ z. f (e ∙ z)))
-      (ap (λ (x : Outcome). result x b) (q ∙ ap (λ (x : ℕ). giving x none none) e))
+      (ap (λ (x : Outcome). result x b) (q ∙ ap (λ (x : ℕ). handed x none none) e))
 
   -- 4
-  pub asker-refused : nOf b ≤ p → (r : Outcome) → r ≡ giving 4 none none → result r b ≡ requested b p (seasonOf b)
+  pub asker-refused : nOf b ≤ p → (r : Outcome) → r ≡ handed 4 none none → result r b ≡ requested b p (seasonOf b)
   asker-refused l r q = refused 4 (asker-missing b p (seasonOf b) refl l) (λ z. omega arith) r q
 
   module _ (l : p < nOf b) where
     -- 14
-    pub enough-refused : limitOf b ≤ getD b (helpedPlace p) 0 → (r : Outcome) → r ≡ giving 14 none none
+    pub enough-refused : limitOf b ≤ getD b (helpedPlace p) 0 → (r : Outcome) → r ≡ handed 14 none none
         → result r b ≡ requested b p (seasonOf b)
     enough-refused m r q = refused 14 (helped-enough b p (seasonOf b) refl l m) (λ z. omega arith) r q
 

@@ -4,7 +4,7 @@ use mathlib.Core.Path.{_≡_}
 use Rattle.card.specs.declared.Counts.{Counts}
 use Rattle.card.specs.Card.{countsOf}
 use Rattle.lot.specs.Declaration.{declarationAt, bytesOf}
-use Rattle.message.specs.Message.{gives, readOf}
+use Rattle.message.specs.Message.{readAs, readOf}
 use Rattle.entry.specs.Entry.{Decl, Kind}
 use Rattle.protocol.specs.Steps.{say}
 use Rattle.meaning.specs.Book.{Header}
@@ -23,7 +23,7 @@ pub record Claims : Type 0 where
   pub deliver-by : (h : Header) → rulesBy h .deliver ≡ countsBy h .deliver
   -- Each message given on an entry reads as its kind, with the book's season and that entry's sender and number,
   pub letter-read : (season sender number : ℕ) (k : Kind) (v : Decl)
-      → readOf (letter season sender number (say k v)) ≡ gives (fiveOf (kindNumber k) season sender number (declarationAt v 0))
+      → readOf (letter season sender number (say k v)) ≡ readAs (fiveOf (kindNumber k) season sender number (declarationAt v 0))
   pub kind-read : (k : Kind) → kindOf (kindNumber k) ≡ some k
   -- and carries the declaration itself.
   pub declaration-read : (v : Decl) → IsDecl v → bytesOf (declarationAt v 0) ≡ v

@@ -6,7 +6,7 @@ use mathlib.Core.Option.{Option, none, some}
 use lib.Dec.{ltb}
 use lib.ListN.{replicate}
 use Rattle.message.specs.Message.{requestWire}
-use Rattle.entry.specs.Entry.{Decl, Kind, own}
+use Rattle.entry.specs.Entry.{Decl, Kind, outgoing}
 use Rattle.protocol.specs.Steps.{Say, say}
 use Rattle.meaning.specs.Book.{nOf, numbersOf, seasonOf, look}
 use Rattle.meaning.specs.Legal.{legal}
@@ -31,7 +31,7 @@ saidOf k (some v) = some (say k v)
 -- what this house sent of the kind on the entry of sender j and number c, or none
 unfoldable pub sentOn : List ℕ → Kind → (sender number : ℕ) → Option (List ℕ)
 unfolding letter
-sentOn b k j c = letters (seasonOf b) j c (saidOf k (own k (look b j c)))
+sentOn b k j c = letters (seasonOf b) j c (saidOf k (outgoing k (look b j c)))
 
 -- past answer 1: 2 for a number that is no kind's, 4
 abbrev pub sentAs : List ℕ → Option Kind → (sender number : ℕ) → Sent

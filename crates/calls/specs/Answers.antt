@@ -6,7 +6,7 @@ use mathlib.Core.List.{List}
 use mathlib.Core.Logic.{_⊎_}
 use mathlib.Core.Option.{none, some}
 use Rattle.lot.specs.Declaration.{bytesOf}
-use Rattle.message.specs.Message.{Five, gives, malformed, readOf, requestOf}
+use Rattle.message.specs.Message.{Five, readAs, malformed, readOf, requestOf}
 use Rattle.entry.specs.Entry.{Decl, heard, Kind}
 use Rattle.meaning.specs.Book.{nOf, numbersOf, ownOf, seasonOf, limitOf, helpedOf, look, sheetOf}
 use Rattle.meaning.specs.Legal.{legal}
@@ -30,7 +30,7 @@ pub record Publishing (b : List ℕ) (c : ℕ) (v : Decl) : Type 0 where
 -- bytes from house p on a legal book, which read as m, of the book's season
 pub record Reads (b message : List ℕ) (m : Five) : Type 0 where
   pub legal : legal b ≡ true
-  pub reads : readOf message ≡ gives m
+  pub reads : readOf message ≡ readAs m
   pub season : m .season ≡ seasonOf b
 
 -- sender, entry number and house number are in the book
@@ -48,7 +48,7 @@ pub record Plausible (b : List ℕ) (p : ℕ) (m : Five) : Type 0 where
 pub record Receiving (b : List ℕ) (p : ℕ) (message : List ℕ) : Type 0 where
   pub no-book : legal b ≡ false → received b p message .given .answer ≡ 1
   pub malformed : legal b ≡ true → requestOf message ≡ none → readOf message ≡ malformed → received b p message .given .answer ≡ 2
-  pub other-season : legal b ≡ true → (m : Five) → readOf message ≡ gives m → (m .season ≡ seasonOf b → ⊥)
+  pub other-season : legal b ≡ true → (m : Five) → readOf message ≡ readAs m → (m .season ≡ seasonOf b → ⊥)
       → received b p message .given .answer ≡ 3
   pub missing : (m : Five) → Reads b message m → (nOf b ≤ m .sender) ⊎ ((numbersOf b ≤ m .number) ⊎ (nOf b ≤ p))
       → received b p message .given .answer ≡ 4

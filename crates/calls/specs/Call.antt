@@ -13,11 +13,11 @@ use Rattle.protocol.specs.Book.{Call, publishing, receiving, senderOf, numberOf
 use Rattle.protocol.specs.Run.{helpAnswer}
 use Rattle.meaning.specs.Book.{Meaning, meant, look, nOf, ownOf, seasonOf, limitOf, helpedOf, countHelp, sheetOf}
 use Rattle.meaning.specs.Legal.{legal}
-use Rattle.calls.specs.Entered.{Result, giving, helping, okBy, rulesBy, kindOf, entered}
+use Rattle.calls.specs.Entered.{Result, handed, helping, okBy, rulesBy, kindOf, entered}
 
 -- Every refusal leaves the lent buffer byte for byte and carries no message and no delivery.
 abbrev pub refusal : ℕ → List ℕ → Result
-refusal answer b = record { given = giving answer none none; book = b }
+refusal answer b = record { given = handed answer none none; book = b }
 
 -- the answers of receiving, past those before them: 6, then recording's; and 5 before these
 abbrev pub fromAnswer : List ℕ → (house : ℕ) → Kind → (sender number : ℕ) → Decl → ℕ

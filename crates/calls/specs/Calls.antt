@@ -11,12 +11,12 @@ use Rattle.calls.specs.Call.{published, received}
 use Rattle.calls.specs.Search.{waiting}
 use Rattle.calls.specs.Again.{returned, sentOf}
 
-pub data Calling : Type 0 where
-  publish : (number : ℕ) → Decl → Calling
-  receive : (house : ℕ) → (message : List ℕ) → Calling
-  search : Calling
-  comeback : Calling
-  sent : (kind sender number : ℕ) → Calling
+pub data BookCall : Type 0 where
+  publish : (number : ℕ) → Decl → BookCall
+  receive : (house : ℕ) → (message : List ℕ) → BookCall
+  search : BookCall
+  comeback : BookCall
+  sent : (kind sender number : ℕ) → BookCall
 
 -- what publishing and receiving give, what the waiting search gives, what a return and what was sent
 pub data Answer : Type 0 where
@@ -33,7 +33,7 @@ pub record Answered : Type 0 where
 abbrev moved : Result → Answered
 moved r = record { answer = gave (r .given); book = r .book }
 
-unfoldable pub answered : List ℕ → Calling → Answered
+unfoldable pub answered : List ℕ → BookCall → Answered
 answered b (publish c v) = moved (published b c v)
 answered b (receive p message) = moved (received b p message)
 answered b search = record { answer = found (waiting b); book = b }

@@ -12,17 +12,17 @@ use Rattle.meaning.specs.Layout.{slotCount}
 use Rattle.meaning.specs.Book.{nOf, numbersOf, ownOf, seasonOf, helpOf, moreHelp, withHelp, slotOf, meant}
 use Rattle.meaning.specs.Legal.{Lent}
 use Rattle.calls.specs.declared.Outcome.{Outcome}
-use Rattle.calls.specs.Entered.{result, giving, letters, withEntry}
+use Rattle.calls.specs.Entered.{result, handed, letters, withEntry}
 use Rattle.calls.specs.declared.Waiting.{Waiting}
 use Rattle.calls.specs.declared.Returned.{Returned}
 use Rattle.calls.specs.declared.Sent.{Sent}
 use Rattle.calls.specs.Call.{stepOf, called, requestAnswer, requested, published, received}
 use Rattle.calls.specs.Search.{waits, Place, earliest, Earliest, waiting}
 use Rattle.calls.specs.Again.{returned, sentOf}
-use Rattle.calls.specs.Calls.{Calling, answered}
+use Rattle.calls.specs.Calls.{BookCall, answered}
 use Rattle.calls.specs.Answers.{Publishing, Receiving}
 use Rattle.calls.specs.Between.{Between}
-use Rattle.calls.specs.Kept.{Kept}
+use Rattle.calls.specs.Keeps.{Keeps}
 use Rattle.calls.specs.Silent.{Silent}
 
 -- Two outcomes that meet a call's contract are equal, in what is handed back and in each byte of the lent buffer.
@@ -38,7 +38,7 @@ pub record Claims : Type 0 where
   -- A call on an entry is one step of the protocol on what the book means: it gives what the step gives, a message being the writer's
   -- bytes with the book's season and that entry's sender and number, and its bytes mean the book with the entry as the step leaves it.
   pub called-given : (b : List ℕ) → Lent b → (a : Call) → called b a .given
-      ≡ giving (stepOf b a .answer) (letters (seasonOf b) (senderOf (ownOf b) a) (numberOf a) (stepOf b a .message)) (stepOf b a .delivery)
+      ≡ handed (stepOf b a .answer) (letters (seasonOf b) (senderOf (ownOf b) a) (numberOf a) (stepOf b a .message)) (stepOf b a .delivery)
   pub called-meant : (b : List ℕ) → Lent b → (a : Call)
       → meant (called b a .book) ≡ withEntry (meant b) (senderOf (ownOf b) a) (numberOf a) (stepOf b a .entry)
   -- An accepted request's bytes mean the book with one more help for the asker.
@@ -50,9 +50,9 @@ pub record Claims : Type 0 where
   -- Every refusal leaves the lent buffer byte for byte and carries no message and no delivery.
   pub silent : Silent
   -- A legal book stays one, with n, S, own number, season, sheet, f and d; help is only ever counted.
-  pub kept : (b : List ℕ) → Lent b → (a : Calling) → Kept b (answered b a .book)
+  pub kept : (b : List ℕ) → Lent b → (a : BookCall) → Keeps b (answered b a .book)
   -- No slot is reused: what slot k of the book holds, it holds still.
-  pub full : (b : List ℕ) → Lent b → (a : Calling) (k : ℕ) → k < slotCount (nOf b) (numbersOf b)
+  pub full : (b : List ℕ) → Lent b → (a : BookCall) (k : ℕ) → k < slotCount (nOf b) (numbersOf b)
       → Stays (slotOf b k) (slotOf (answered b a .book) k)
   -- The earliest waiting entry is the one, lowest number first and then lowest sender, with a SEND heard and nothing delivered; or none.
   pub earliest-exactly : (b : List ℕ) (x : Place) → (earliest b ≡ some x) ↔ Earliest b x

@@ -11,7 +11,7 @@ use Rattle.sheet.specs.declared.Sheet.{Sheet}
 use Rattle.lot.specs.Declaration.{declarationAt}
 use Rattle.sheet.specs.Sheet.{plausible}
 use Rattle.message.specs.Message.{Five, wire}
-use Rattle.entry.specs.Entry.{Decl, Kind, SEND, ECHO, READY, Entry, place}
+use Rattle.entry.specs.Entry.{Decl, Kind, SEND, ECHO, READY, Entry, putAt}
 use Rattle.protocol.specs.Steps.{Rules, Say, say, Out, publishes, takes}
 use Rattle.protocol.specs.Thresholds.{rulesOf}
 use Rattle.meaning.specs.Book.{Header, Meaning, headerOf, meant, look, write, ownOf, seasonOf}
@@ -34,8 +34,8 @@ abbrev pub orZeros : ℕ → Option (List ℕ) → List ℕ
 orZeros k none = replicate k 0
 orZeros k (some l) = l
 
-abbrev pub giving : ℕ → Option (List ℕ) → Option Decl → Outcome
-giving answer message delivery =
+abbrev pub handed : ℕ → Option (List ℕ) → Option Decl → Outcome
+handed answer message delivery =
     record {
       answer = answer;
       gives = isThere message;
@@ -102,14 +102,14 @@ letters season j c (some m) = some (letter season j c m)
 
 -- what a book means with another entry of sender j and number c
 abbrev pub withEntry : Meaning → (sender number : ℕ) → Entry → Meaning
-withEntry B j c e = record { header = B .header; help = B .help; entries = place (B .entries) j c e }
+withEntry B j c e = record { header = B .header; help = B .help; entries = putAt (B .entries) j c e }
 
 -- an accepted call: its message and delivery, and the bytes that mean the book with the named entry as the step leaves it
 unfoldable pub entered : List ℕ → (sender number : ℕ) → Out → Result
 unfolding letter
 entered b j c o =
     record {
-      given = giving (o .answer) (letters (seasonOf b) j c (o .message)) (o .delivery);
+      given = handed (o .answer) (letters (seasonOf b) j c (o .message)) (o .delivery);
       book = write (withEntry (meant b) j c (o .entry));
     }
 

@@ -5,7 +5,7 @@ pub mod Search
 pub mod Again
 pub mod Calls
 pub mod Between
-pub mod Kept
+pub mod Keeps
 pub mod Silent
 pub mod Answers
 pub mod Claims

@@ -7,7 +7,7 @@ use lib.Dec.{leb, ltb, eqb}
 use lib.ListN.{getD}
 use borrow.Author.Tests.{leb-true, ltb-true, eqb-true, le-leb}
 use Rattle.card.specs.declared.Column.{Column}
-use Rattle.card.specs.Card.{largest, mostDown, houses, downOk, tolerated, quorum, columnOf, wall}
+use Rattle.card.specs.Card.{largest, mostDown, housesOk, downOk, tolerated, quorum, columnOf, wall}
 use Rattle.card.proofs.Table.{at}
 
 -- the entry at k is the column for k + 1 houses
@@ -25,13 +25,13 @@ right-is k x h =
     λ i. record { t = p i; quorum = r i }
 
 -- how many houses there may be, as numbers
-pub houses-between : (n : ℕ) → houses n ≡ true → (1 ≤ n) × (n ≤ largest)
-unfolding houses
+pub houses-between : (n : ℕ) → housesOk n ≡ true → (1 ≤ n) × (n ≤ largest)
+unfolding housesOk
 houses-between n h =
     let both = and-eq-true-iff (leb 1 n) (leb n largest) .0 h in
     (leb-true 1 n (both .0), leb-true n largest (both .1))
 
-pub card-is : (z : Column) (n : ℕ) → houses n ≡ true → getD wall (n - 1) z ≡ columnOf n
+pub card-is : (z : Column) (n : ℕ) → housesOk n ≡ true → getD wall (n - 1) z ≡ columnOf n
 unfolding tolerated quorum largest
 card-is z n h =
     let b = houses-between n h in
@@ -40,11 +40,11 @@ card-is z n h =
     right-is (n - 1) (getD wall (n - 1) z) (at right z wall refl (n - 1) k) ∙ ap columnOf e
 
 -- a number of houses is written in one byte, and so is t
-pub houses-byte : (n : ℕ) → houses n ≡ true → n < 256
+pub houses-byte : (n : ℕ) → housesOk n ≡ true → n < 256
 unfolding largest
 houses-byte n h = let b = houses-between n h in omega arith
 
-pub tolerated-byte : (n : ℕ) → houses n ≡ true → tolerated n < 256
+pub tolerated-byte : (n : ℕ) → housesOk n ≡ true → tolerated n < 256
 unfolding tolerated
 tolerated-byte n h = let l = houses-byte n h in omega arith
 
@@ -55,8 +55,8 @@ down-between n f h =
     let both = and-eq-true-iff (leb f mostDown) (ltb (2 * f) n) .0 h in
     (leb-true f mostDown (both .0), ltb-true (2 * f) n (both .1))
 
-pub rest-houses : (n f : ℕ) → houses n ≡ true → downOk n f ≡ true → houses (n - 2 * f) ≡ true
-unfolding houses
+pub rest-houses : (n f : ℕ) → housesOk n ≡ true → downOk n f ≡ true → housesOk (n - 2 * f) ≡ true
+unfolding housesOk
 rest-houses n f h d =
     let b = houses-between n h in
     let l = down-between n f d .1 in

@@ -11,9 +11,9 @@ unfoldable pub largest : ℕ
 largest = 16
 
 -- houses n: 1 to 16
-unfoldable pub houses : ℕ → Bool
+unfoldable pub housesOk : ℕ → Bool
 unfolding largest
-houses n = leb 1 n && leb n largest
+housesOk n = leb 1 n && leb n largest
 
 -- t is (n-1)/3 rounded down
 unfoldable pub tolerated : ℕ → ℕ

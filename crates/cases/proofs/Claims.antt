@@ -2,7 +2,7 @@
 use mathlib.Core.Path.{_≡_, refl}
 use mathlib.Core.Bool.{true}
 use lib.Ieee.{ofBits, toBits, le}
-use Rattle.card.specs.Card.{houses, downOk, countsOf}
+use Rattle.card.specs.Card.{housesOk, downOk, countsOf}
 use Rattle.lot.specs.Declaration.{bytesOf}
 use Rattle.sheet.specs.Kept.{sheetBytes, judged}
 use Rattle.message.specs.Message.{wire, readOf, requestOf, writtenOf}
@@ -22,7 +22,7 @@ use Rattle.cases.specs.Claims.{Claims}
 use Rattle.cases.proofs.Rows.{table, has-each}
 
 computes : table rows .test ≡ true
-unfolding countsOf judged sheetBytes bytesOf ofBits toBits le writtenOf readOf requestOf opened houses downOk numbersOk
+unfolding countsOf judged sheetBytes bytesOf ofBits toBits le writtenOf readOf requestOf opened housesOk downOk numbersOk
     mostLimit lengthOf write received legal meant slotAt entrySlot wire same outcome
     receive recording takesSend takesEcho takesReady rulesOf
 computes = refl

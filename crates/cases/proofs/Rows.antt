@@ -7,10 +7,10 @@ use mathlib.Core.List.{List, [], _∷_}
 use Rattle.card.specs.Card.{countsOf}
 use Rattle.lot.specs.Declaration.{bytesOf}
 use Rattle.sheet.specs.Kept.{sheetBytes, judged}
-use Rattle.message.specs.Message.{gives, readOf, writtenOf}
-use Rattle.calls.specs.Entered.{giving}
+use Rattle.message.specs.Message.{readAs, readOf, writtenOf}
+use Rattle.calls.specs.Entered.{handed}
 use Rattle.calls.specs.Call.{received}
-use Rattle.cases.specs.Row.{Heard, Row, card, short, judge, form, calls, says, given, delivered, freshBook, Calls, Holds, All, Has}
+use Rattle.cases.specs.Row.{Heard, Row, card, short, judge, form, calls, says, messageFor, delivered, freshBook, Calls, Holds, All, Has}
 use Rattle.cases.proofs.Tested.{Tested, passed, failed, after, both, either, number, atMost}
 use Rattle.cases.proofs.Values.{written, told, outcome}
 
@@ -18,7 +18,7 @@ abbrev each-call : (b : List ℕ) (hs : List Heard) → Tested (Calls b hs)
 each-call b [] = passed tt
 each-call b (h ∷ hs) =
     let r = received b (h .house) (says (h .kind)) in
-    both (outcome (r .given) (giving 0 (given (h .gives)) (delivered (h .delivers)))) (each-call (r .book) hs)
+    both (outcome (r .given) (handed 0 (messageFor (h .gives)) (delivered (h .delivers)))) (each-call (r .book) hs)
 
 abbrev row : (r : Row) → Tested (Holds r)
 row (card n t q) = both (number (countsOf n 0 .t) t) (number (countsOf n 0 .quorum) q)
@@ -27,7 +27,7 @@ row (judge s d answer) = number (judged (sheetBytes s) (bytesOf d)) answer
 row (form m bytes) =
     both
     (written (writtenOf (m .kind) (m .season) (m .sender) (m .number) (m .declaration)) (record { answer = 0; message = bytes }))
-    (told (readOf bytes) (gives m))
+    (told (readOf bytes) (readAs m))
 row (calls n hs) = each-call (freshBook n) hs
 
 abbrev pub table : (rs : List (ℕ × Row)) → Tested (All rs)

@@ -14,10 +14,10 @@ use Rattle.sheet.specs.declared.Sheet.{Sheet}
 use Rattle.lot.specs.declared.Declaration.{Declaration}
 use Rattle.lot.specs.Declaration.{bytesOf}
 use Rattle.sheet.specs.Kept.{sheetBytes, judged}
-use Rattle.message.specs.Message.{Five, wire, gives, readOf, writtenOf}
+use Rattle.message.specs.Message.{Five, wire, readAs, readOf, writtenOf}
 use Rattle.meaning.specs.Layout.{lengthOf}
 use Rattle.meaning.specs.Opening.{opened}
-use Rattle.calls.specs.Entered.{giving}
+use Rattle.calls.specs.Entered.{handed}
 use Rattle.calls.specs.Call.{received}
 
 -- one call: a message of the kind from the house, on the entry of sender 0 and number 0; the message given, by its kind, and the delivery
@@ -59,9 +59,9 @@ sample = lot 40 800 seventeenHalf
 abbrev pub says : ℕ → List ℕ
 says kind = wire (record { kind = kind; season = 2026; sender = 0; number = 0; declaration = sample })
 
-abbrev pub given : Option ℕ → Option (List ℕ)
-given none = none
-given (some kind) = some (says kind)
+abbrev pub messageFor : Option ℕ → Option (List ℕ)
+messageFor none = none
+messageFor (some kind) = some (says kind)
 
 abbrev pub delivered : Bool → Option (List ℕ)
 delivered true = some (bytesOf sample)
@@ -71,7 +71,7 @@ delivered false = none
 abbrev pub Calls : List ℕ → List Heard → Type 0
 Calls b [] = Unit
 Calls b (h ∷ hs) =
-    (received b (h .house) (says (h .kind)) .given ≡ giving 0 (given (h .gives)) (delivered (h .delivers)))
+    (received b (h .house) (says (h .kind)) .given ≡ handed 0 (messageFor (h .gives)) (delivered (h .delivers)))
     × Calls (received b (h .house) (says (h .kind)) .book) hs
 
 -- the book that the first call finds
@@ -84,7 +84,7 @@ Holds (short n vouchers) = vouchers < countsOf n 0 .quorum
 Holds (judge s d answer) = judged (sheetBytes s) (bytesOf d) ≡ answer
 Holds (form m bytes) =
     (writtenOf (m .kind) (m .season) (m .sender) (m .number) (m .declaration) ≡ record { answer = 0; message = bytes })
-    × (readOf bytes ≡ gives m)
+    × (readOf bytes ≡ readAs m)
 Holds (calls n hs) = Calls (freshBook n) hs
 
 -- every row of a table holds; a row stands beside its case's number in document 01

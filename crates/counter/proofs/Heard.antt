@@ -13,7 +13,7 @@ use Rattle.protocol.specs.Book.{receiving}
 use Rattle.meaning.specs.Book.{nOf, numbersOf, seasonOf, sheetOf}
 use Rattle.meaning.specs.Legal.{Has}
 use Rattle.calls.specs.declared.Outcome.{Outcome}
-use Rattle.calls.specs.Entered.{Result, result, giving, kindOf, okBy}
+use Rattle.calls.specs.Entered.{Result, result, handed, kindOf, okBy}
 use Rattle.calls.specs.Call.{answering, called, requested}
 use Rattle.calls.proofs.KindNumber.{kind-known, kind-send, kind-echo, kind-ready, no-kind}
 use Rattle.calls.proofs.Checking.{missing-refused, implausible-refused, another-refused}
@@ -36,7 +36,7 @@ module _ (b : List ℕ) (p kind j c : ℕ) (v : Decl) where
 
   -- 6
   pub another-heard : Has b j c → p < nOf b → okBy (sheetOf b) v ≡ true → kind ≡ 1 → (p ≡ j → ⊥) → (r : Outcome)
-      → r ≡ giving 6 none none → result r b ≡ heardAs b p kind j c v
+      → r ≡ handed 6 none none → result r b ≡ heardAs b p kind j c v
   another-heard has hp ok e f r q = another-refused b j c p v has hp ok f r q ∙ sym (heard-is SEND (kind-send kind e))
 
   module _ (known : isKind kind ≡ true) where
@@ -47,12 +47,12 @@ module _ (b : List ℕ) (p kind j c : ℕ) (v : Decl) where
     is = sym (heard-is k (kind-known kind known .1))
 
     -- 4
-    pub missing-heard : (nOf b ≤ j) ⊎ ((numbersOf b ≤ c) ⊎ (nOf b ≤ p)) → (r : Outcome) → r ≡ giving 4 none none
+    pub missing-heard : (nOf b ≤ j) ⊎ ((numbersOf b ≤ c) ⊎ (nOf b ≤ p)) → (r : Outcome) → r ≡ handed 4 none none
         → result r b ≡ heardAs b p kind j c v
     missing-heard x r q = missing-refused b j c p k v x r q ∙ is
 
     -- 5
-    pub implausible-heard : Has b j c → p < nOf b → okBy (sheetOf b) v ≡ false → (r : Outcome) → r ≡ giving 5 none none
+    pub implausible-heard : Has b j c → p < nOf b → okBy (sheetOf b) v ≡ false → (r : Outcome) → r ≡ handed 5 none none
         → result r b ≡ heardAs b p kind j c v
     implausible-heard has hp f r q = implausible-refused b j c p k v has hp f r q ∙ is
 
@@ -66,7 +66,7 @@ no-other-kind n h f₁ f₂ f₃ =
 
 -- 3, then a request or a message
 module _ (b : List ℕ) (p : ℕ) (m : ReadAnswer) (season : ℕ) (e : season ≡ seasonOf b) where
-  pub other-season : (m .season ≡ season → ⊥) → (r : Outcome) → r ≡ giving 3 none none → result r b ≡ heardParts b p m
+  pub other-season : (m .season ≡ season → ⊥) → (r : Outcome) → r ≡ handed 3 none none → result r b ≡ heardParts b p m
   unfolding heardParts
   other-season f r q = rw (ne-eqb _ _ (λ s. f (s ∙ sym e))) (ap (λ (x : Outcome). result x b) q)
 

@@ -12,14 +12,14 @@ use borrow.Author.Tests.{ne-eqb, eqb-true}
 use Rattle.words.specs.Words.{Bytes}
 use Rattle.lot.specs.Declaration.{bytesOf}
 use Rattle.message.specs.declared.ReadAnswer.{ReadAnswer}
-use Rattle.message.specs.Message.{Five, isKind, wellFormed, fiveAt, gives, malformed, readOf, requestOf}
+use Rattle.message.specs.Message.{Five, isKind, wellFormed, fiveAt, readAs, malformed, readOf, requestOf}
 use Rattle.message.specs.Read.{readAnswer}
 use Rattle.message.proofs.RoundTrip.{read-known}
 use Rattle.entry.specs.Entry.{Kind}
 use Rattle.meaning.specs.Book.{seasonOf}
 use Rattle.meaning.specs.Legal.{legal, IsDecl}
 use Rattle.calls.specs.declared.Outcome.{Outcome}
-use Rattle.calls.specs.Entered.{Result, result, giving, kindOf}
+use Rattle.calls.specs.Entered.{Result, result, handed, kindOf}
 use Rattle.calls.specs.Call.{refusal, answering, askedAs, requestAnswer, requested, received}
 use Rattle.calls.proofs.Declarations.{message-decl}
 use Rattle.counter.specs.Heard.{sayingAs, heardAs, heardParts}
@@ -29,11 +29,11 @@ zero-bytes zero i = omega arith
 zero-bytes (suc n) zero = omega arith
 zero-bytes (suc n) (suc i) = zero-bytes n i
 
-read-cases : (s : List ℕ) → ((m : Five) × (readOf s ≡ gives m)) ⊎ (readOf s ≡ malformed)
+read-cases : (s : List ℕ) → ((m : Five) × (readOf s ≡ readAs m)) ⊎ (readOf s ≡ malformed)
 unfolding readOf
 read-cases s = go (wellFormed s)
   where
-    go : (t : Bool) → ((m : Five) × (cond t (gives (fiveAt s)) malformed ≡ gives m)) ⊎ (cond t (gives (fiveAt s)) malformed ≡ malformed)
+    go : (t : Bool) → ((m : Five) × (cond t (readAs (fiveAt s)) malformed ≡ readAs m)) ⊎ (cond t (readAs (fiveAt s)) malformed ≡ malformed)
     go true = inl (fiveAt s, refl)
     go false = inr refl
 
@@ -48,7 +48,7 @@ parts-good s bytes m e z = subst Good (sym e) (request (requestOf s) refl)
     Good : ReadAnswer → Type 0
     Good m = IsDecl (m .declaration) × ((m .kind ≡ 9 → ⊥) → isKind (m .kind) ≡ true)
 
-    read : requestOf s ≡ none → ((m : Five) × (readOf s ≡ gives m)) ⊎ (readOf s ≡ malformed) → Good (parts s)
+    read : requestOf s ≡ none → ((m : Five) × (readOf s ≡ readAs m)) ⊎ (readOf s ≡ malformed) → Good (parts s)
     read q (inl (m, r)) = rw (q, r) (message-decl s m bytes r, λ f. read-known s m r)
     read q (inr r) = absurd (let w : _≡_ {A = ℕ} 2 0 = rw (q, r) at (sym (ap (λ (m : ReadAnswer). m .answer) e) ∙ z) in omega arith)
 
@@ -68,7 +68,7 @@ module _ (b : List ℕ) (p : ℕ) (s : List ℕ) (h : legal b ≡ true) where
   same-asked m none = refl
   same-asked m (some k) = refl
 
-  nine : (m : Five) → readOf s ≡ gives m → m .kind ≡ 9 → ⊥
+  nine : (m : Five) → readOf s ≡ readAs m → m .kind ≡ 9 → ⊥
   unfolding isKind
   nine m r k = true≢false (sym (read-known s m r) ∙ ap isKind k)
 
@@ -76,12 +76,12 @@ module _ (b : List ℕ) (p : ℕ) (s : List ℕ) (h : legal b ≡ true) where
   unfolding heardParts heardAs received
   heard-parts z = request (requestOf s) refl
     where
-      message : (m : Five) → requestOf s ≡ none → readOf s ≡ gives m → heardParts b p (parts s) ≡ received b p s
+      message : (m : Five) → requestOf s ≡ none → readOf s ≡ readAs m → heardParts b p (parts s) ≡ received b p s
       message m q r =
           rw (q, r, h, ne-eqb (m .kind) 9 (nine m r))
           (ap (λ (x : Result). cond (eqb (m .season) (seasonOf b)) x (refusal 3 b)) (same-asked m (kindOf (m .kind))))
 
-      read : requestOf s ≡ none → ((m : Five) × (readOf s ≡ gives m)) ⊎ (readOf s ≡ malformed) → heardParts b p (parts s) ≡ received b p s
+      read : requestOf s ≡ none → ((m : Five) × (readOf s ≡ readAs m)) ⊎ (readOf s ≡ malformed) → heardParts b p (parts s) ≡ received b p s
       read q (inl (m, r)) = message m q r
       read q (inr r) = absurd (let w : _≡_ {A = ℕ} 2 0 = rw (q, r) at z in omega arith)
 
@@ -93,7 +93,7 @@ module _ (b : List ℕ) (p : ℕ) (s : List ℕ) (h : legal b ≡ true) where
   parts-heard m e z x q = q ∙ ap (heardParts b p) e ∙ heard-parts (sym (ap (λ (m : ReadAnswer). m .answer) e) ∙ z)
 
   -- 2
-  pub malformed-refused : (m : ReadAnswer) → m ≡ parts s → (m .answer ≡ 0 → ⊥) → (r : Outcome) → r ≡ giving 2 none none
+  pub malformed-refused : (m : ReadAnswer) → m ≡ parts s → (m .answer ≡ 0 → ⊥) → (r : Outcome) → r ≡ handed 2 none none
       → result r b ≡ received b p s
   unfolding received
   malformed-refused m e f r q = request (requestOf s) refl
@@ -101,7 +101,7 @@ module _ (b : List ℕ) (p : ℕ) (s : List ℕ) (h : legal b ≡ true) where
       answer : m .answer ≡ parts s .answer
       answer = ap (λ (m : ReadAnswer). m .answer) e
 
-      read : requestOf s ≡ none → ((m : Five) × (readOf s ≡ gives m)) ⊎ (readOf s ≡ malformed) → result r b ≡ received b p s
+      read : requestOf s ≡ none → ((m : Five) × (readOf s ≡ readAs m)) ⊎ (readOf s ≡ malformed) → result r b ≡ received b p s
       read o (inl (x, y)) = absurd (f (answer ∙ rw (o, y)))
       read o (inr y) = rw (o, y, h) (ap (λ (x : Outcome). result x b) q)
 

@@ -1,7 +1,7 @@
 // The wall card as a constant table, and the counts that the steps compare with.
 ghost use mathlib.Core.Path.{_≡_};
 ghost use mathlib.Core.Bool.{true};
-ghost use Rattle.card.specs.Card.{houses, downOk, columnOf, countsOf};
+ghost use Rattle.card.specs.Card.{housesOk, downOk, columnOf, countsOf};
 use card::Column;
 use card::Counts;
 
@@ -33,14 +33,14 @@ const CARD: [Column; 16] = [
 
 // Whether the card has a column for n houses.
 pub fn is_houses(n: u32) -> bool
-    ensures { λ r. ⌜ r ≡ houses n ⌝ }
+    ensures { λ r. ⌜ r ≡ housesOk n ⌝ }
 {
     1 <= n && n <= LARGEST
 }
 
 // The card's column for n houses.
 fn column_of(n: usize) -> Column
-    requires { ⌜ houses n ≡ true ⌝ }
+    requires { ⌜ housesOk n ≡ true ⌝ }
     ensures { λ r. ⌜ r ≡ columnOf n ⌝ }
 {
     CARD[n - 1]
@@ -58,7 +58,7 @@ pub fn is_down(n: u32, f: u32) -> bool
 
 // The counts for n houses of which f may be down: the card's column for n - 2f, and f more to the quorum and to deliver.
 pub fn counts_of(n: usize, f: usize) -> Counts
-    requires { ⌜ (houses n ≡ true) × (downOk n f ≡ true) ⌝ }
+    requires { ⌜ (housesOk n ≡ true) × (downOk n f ≡ true) ⌝ }
     ensures { λ r. ⌜ r ≡ countsOf n f ⌝ }
 {
     let column = column_of(n - 2 * f);

@@ -8,7 +8,8 @@ use Prim.Native.Nat.{ℕ, _≤_}
 use native.Mathlib.Omega.{arith}
 use lib.Dec.{T, eqb, eqb→eq, eqb-refl}
 use Rattle.card.proofs.Counting.{count-mono}
-use Rattle.entry.specs.Entry.{Decl, Kind, SEND, ECHO, READY, same, isKind, isNone, isSome, holds, upd, votes, mark, sameEntry}
+use Rattle.entry.specs.Entry.{Decl, Kind, SEND, ECHO, READY, same, sameKind, isNone, isSome, holds, votes, mark, sameEntry}
+use Rattle.entry.specs.Lists.{upd}
 
 pub bcase {ℓ} : {C : Type ℓ} (b : Bool) → (b ≡ true → C) → (b ≡ false → C) → C
 bcase true f g = f refl
@@ -57,7 +58,7 @@ both true false f g = absurd (f tt)
 both false true f g = absurd (g tt)
 both false false f g = refl
 
-pub isKind-eq : (k l : Kind) → T (isKind k l) → k ≡ l
+pub isKind-eq : (k l : Kind) → T (sameKind k l) → k ≡ l
 isKind-eq SEND SEND t = refl
 isKind-eq SEND ECHO t = absurd t
 isKind-eq SEND READY t = absurd t
@@ -68,7 +69,7 @@ isKind-eq READY SEND t = absurd t
 isKind-eq READY ECHO t = absurd t
 isKind-eq READY READY t = refl
 
-pub isKind-refl : (k : Kind) → T (isKind k k)
+pub isKind-refl : (k : Kind) → T (sameKind k k)
 isKind-refl SEND = tt
 isKind-refl ECHO = tt
 isKind-refl READY = tt

@@ -6,7 +6,8 @@ use mathlib.Core.Logic.{_↔_}
 use mathlib.Core.Option.{Option, none, some}
 use native.Mathlib.Omega.{arith}
 use Rattle.card.proofs.Counting.{count-set}
-use Rattle.entry.specs.Entry.{Decl, same, holds, votes, upd}
+use Rattle.entry.specs.Entry.{Decl, same, holds, votes}
+use Rattle.entry.specs.Lists.{upd}
 use Rattle.entry.specs.Claims.{Claims}
 use Rattle.entry.proofs.Basics.{bcase, T-of, true-of, same-refl, same-eq, holds-eq, eq-holds, upd-same, upd-other, votes-up}
 use Rattle.entry.proofs.Basics.{votes-other}

@@ -2,7 +2,7 @@
 use Prim.Native.Nat.{ℕ}
 use mathlib.Core.Path.{_≡_, refl}
 use mathlib.Core.Option.{none, some}
-use Rattle.entry.specs.Entry.{Kind, SEND, ECHO, READY, Entry, heard, own, recorded, Decl, Stays, Filled}
+use Rattle.entry.specs.Entry.{Kind, SEND, ECHO, READY, Entry, heard, outgoing, recorded, Decl, Stays, Filled}
 use Rattle.entry.proofs.Basics.{none-some, upd-keeps, upd-same}
 
 pub filled-heard : {e e₂ : Entry} → Filled e e₂ → (k : Kind) (p : ℕ) → Stays (heard k p e) (heard k p e₂)
@@ -10,7 +10,7 @@ filled-heard f SEND p = f .send
 filled-heard f ECHO p = f .echo p
 filled-heard f READY p = f .ready p
 
-pub filled-own : {e e₂ : Entry} → Filled e e₂ → (k : Kind) → Stays (own k e) (own k e₂)
+pub filled-own : {e e₂ : Entry} → Filled e e₂ → (k : Kind) → Stays (outgoing k e) (outgoing k e₂)
 filled-own f SEND = f .published
 filled-own f ECHO = f .send
 filled-own f READY = f .readySent

@@ -4,7 +4,8 @@ use mathlib.Core.Path.{_≡_}
 use mathlib.Core.Bool.{true}
 use mathlib.Core.Logic.{_↔_}
 use mathlib.Core.Option.{Option, none, some}
-use Rattle.entry.specs.Entry.{Decl, Kind, Entry, same, holds, heard, votes, upd, recorded, Filled}
+use Rattle.entry.specs.Entry.{Decl, Kind, Entry, same, holds, heard, votes, recorded, Filled}
+use Rattle.entry.specs.Lists.{upd}
 
 pub record Claims : Type 0 where
   -- Two declarations are the same exactly when all bytes are.

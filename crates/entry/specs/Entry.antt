@@ -6,6 +6,7 @@ use mathlib.Core.List.{List, [], _∷_}
 use Prim.Native.Nat.{ℕ}
 use lib.Dec.{eqb}
 use Rattle.card.specs.Count.{count}
+use Rattle.entry.specs.Lists.{upd}
 
 -- a declaration is its bytes
 abbrev pub Decl : Type 0
@@ -21,16 +22,16 @@ same (x ∷ xs) (y ∷ ys) = eqb x y && same xs ys
 pub data Kind : Type 0 where
   SEND ECHO READY : Kind
 
-abbrev pub isKind : Kind → Kind → Bool
-isKind SEND SEND = true
-isKind SEND ECHO = false
-isKind SEND READY = false
-isKind ECHO SEND = false
-isKind ECHO ECHO = true
-isKind ECHO READY = false
-isKind READY SEND = false
-isKind READY ECHO = false
-isKind READY READY = true
+abbrev pub sameKind : Kind → Kind → Bool
+sameKind SEND SEND = true
+sameKind SEND ECHO = false
+sameKind SEND READY = false
+sameKind ECHO SEND = false
+sameKind ECHO ECHO = true
+sameKind ECHO READY = false
+sameKind READY SEND = false
+sameKind READY ECHO = false
+sameKind READY READY = true
 
 -- The SEND's declaration or none; for each house its ECHO's and READY's declarations or none; the READY this house sent, or none;
 -- the delivered declaration, or none; and for its own entries what it published, or none.
@@ -54,10 +55,10 @@ heard ECHO p e = e .echo p
 heard READY p e = e .ready p
 
 -- what this house gave of a kind; it gives an ECHO as it accepts the SEND
-abbrev pub own : Kind → Entry → Option Decl
-own SEND e = e .published
-own ECHO e = e .send
-own READY e = e .readySent
+abbrev pub outgoing : Kind → Entry → Option Decl
+outgoing SEND e = e .published
+outgoing ECHO e = e .send
+outgoing READY e = e .readySent
 
 abbrev pub isNone : Option Decl → Bool
 isNone none = true
@@ -70,10 +71,6 @@ isSome (some v) = true
 abbrev pub holds : Option Decl → Decl → Bool
 holds none v = false
 holds (some w) v = same w v
-
--- f with x at p
-abbrev pub upd {ℓ} : {A : Type ℓ} → (ℕ → A) → ℕ → A → ℕ → A
-upd f p x i = cond (eqb i p) x (f i)
 
 -- how many of n houses vouch for v: a voucher counts for its declaration, and not for the entry
 abbrev pub votes : (ℕ → Option Decl) → Decl → ℕ → ℕ
@@ -149,8 +146,8 @@ abbrev pub sameEntry : (sender number sender₂ number₂ : ℕ) → Bool
 sameEntry j c j₂ c₂ = eqb j₂ j && eqb c₂ c
 
 -- b with x at sender j and number c
-abbrev pub place : {A : Type 0} → PerEntry A → ℕ → ℕ → A → PerEntry A
-place b j c x j₂ c₂ = cond (sameEntry j c j₂ c₂) x (b j₂ c₂)
+abbrev pub putAt : {A : Type 0} → PerEntry A → ℕ → ℕ → A → PerEntry A
+putAt b j c x j₂ c₂ = cond (sameEntry j c j₂ c₂) x (b j₂ c₂)
 
 -- ---- what is kept
 

@@ -5,7 +5,7 @@ use mathlib.Core.Bool.{true}
 use mathlib.Core.List.{List}
 use mathlib.Core.Option.{Option}
 use lib.ListN.{length}
-use Rattle.card.specs.Card.{houses, downOk}
+use Rattle.card.specs.Card.{housesOk, downOk}
 use Rattle.entry.specs.Entry.{Decl}
 use Rattle.meaning.specs.Slot.{slotAt}
 use Rattle.meaning.specs.Layout.{downPlace, perEntry, placeFrom}
@@ -13,7 +13,7 @@ use Rattle.meaning.specs.Book.{nOf, downOf, placeIn}
 
 -- n is a number of houses, f a number that may be down, and the slots of an entry that begins at `base` lie within the bytes
 pub record Within (b : List ℕ) (base : ℕ) : Type 0 where
-  pub n : houses (nOf b) ≡ true
+  pub n : housesOk (nOf b) ≡ true
   pub down : downOk (nOf b) (downOf b) ≡ true
   pub some : downPlace < length b
   pub room : placeFrom base (perEntry (nOf b)) ≤ length b

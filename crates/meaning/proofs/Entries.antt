@@ -8,7 +8,8 @@ use mathlib.Core.Option.{Option, none, some}
 use native.Mathlib.Omega.{arith}
 use lib.Dec.{eqb, ltb}
 use borrow.Author.Tests.{eqb-true, eqb-false, eq-eqb, ne-eqb, ltb-true, lt-ltb}
-use Rattle.entry.specs.Entry.{Decl, SEND, ECHO, READY, Entry, fresh, upd, recorded, marked, PerEntry, sameEntry, place}
+use Rattle.entry.specs.Entry.{Decl, SEND, ECHO, READY, Entry, fresh, recorded, marked, PerEntry, sameEntry, putAt}
+use Rattle.entry.specs.Lists.{upd}
 use Rattle.entry.proofs.Basics.{upd-same, upd-other}
 use Rattle.meaning.specs.Layout.{perEntry, slotCount, entrySlot, sendSlot, echoSlot, readySlot, readySentSlot, deliveredSlot}
 use Rattle.meaning.specs.Book.{nOf, numbersOf, ownOf, slotOf, forHouses, look}
@@ -179,7 +180,7 @@ module _ (n s own : ℕ) (slot : ℕ → Option Decl) (j c : ℕ) (hj : j < n) (
   -- another row of slots that differs from this one in one entry only
   entries-place : (other : ℕ → Option Decl) (e : Entry) → entryIn n s own other j c ≡ e
       → ((j₂ c₂ : ℕ) → j₂ < n → c₂ < s → (j₂ ≡ j → c₂ ≡ c → ⊥) → entryIn n s own other j₂ c₂ ≡ entryIn n s own slot j₂ c₂)
-      → entriesIn n s own other ≡ place (entriesIn n s own slot) j c e
+      → entriesIn n s own other ≡ putAt (entriesIn n s own slot) j c e
   entries-place other e h f = fun-ext (λ j₂. fun-ext (λ c₂. go j₂ c₂ (sameEntry j c j₂ c₂) refl))
     where
       rest : (j₂ c₂ : ℕ) (t u : Bool) → ltb j₂ n ≡ t → ltb c₂ s ≡ u → (j₂ ≡ j → c₂ ≡ c → ⊥)
@@ -196,7 +197,7 @@ module _ (n s own : ℕ) (slot : ℕ → Option Decl) (j c : ℕ) (hj : j < n) (
     -- slot i of the entry
     pub entries-put : (i : ℕ) → i < perEntry n
         → entriesIn n s own (upd slot (entrySlot n s c j i) x)
-        ≡ place (entriesIn n s own slot) j c (entryFrom n (upd (rowIn n s slot j c) i x) (publishedIn own slot j c))
+        ≡ putAt (entriesIn n s own slot) j c (entryFrom n (upd (rowIn n s slot j c) i x) (publishedIn own slot j c))
     entries-put i hi =
         entries-place (upd slot k x) (entryFrom n (upd (rowIn n s slot j c) i x) (publishedIn own slot j c))
         (entry-same n (rowIn n s (upd slot k x) j c) (upd (rowIn n s slot j c) i x)
@@ -221,7 +222,7 @@ module _ (n s own : ℕ) (slot : ℕ → Option Decl) (j c : ℕ) (hj : j < n) (
 
     -- what was published at the own number c
     pub entries-published : j ≡ own
-        → entriesIn n s own (upd slot c x) ≡ place (entriesIn n s own slot) j c (entryFrom n (rowIn n s slot j c) x)
+        → entriesIn n s own (upd slot c x) ≡ putAt (entriesIn n s own slot) j c (entryFrom n (rowIn n s slot j c) x)
     entries-published e =
         entries-place (upd slot c x) (entryFrom n (rowIn n s slot j c) x)
         (entry-same n (rowIn n s (upd slot c x) j c) (rowIn n s slot j c) (publishedIn own (upd slot c x) j c) x

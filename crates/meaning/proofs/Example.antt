@@ -6,7 +6,7 @@ use mathlib.Core.List.{List, [], _∷_, _++_}
 use mathlib.Core.Option.{some}
 use lib.Ieee.{ofBits, toBits}
 use lib.ListN.{replicate}
-use Rattle.card.specs.Card.{houses, downOk}
+use Rattle.card.specs.Card.{housesOk, downOk}
 use Rattle.sheet.specs.Sheet.{gateLegal}
 use Rattle.sheet.specs.Kept.{sheetBytes, sheetAt, isSheet, sheetLegalAt}
 use Rattle.entry.specs.Entry.{Decl}
@@ -40,11 +40,11 @@ abbrev sent : List ℕ
 sent = header ++ (replicate 21 0 ++ (1 ∷ lot ++ replicate 84 0))
 
 length-here : lengthAnswer 1 1 ≡ record { answer = 0; length = 158 }
-unfolding lengthAnswer houses numbersOk lengthOf
+unfolding lengthAnswer housesOk numbersOk lengthOf
 length-here = refl
 
 longest-here : lengthAnswer 16 4 ≡ record { answer = 0; length = 47171 }
-unfolding lengthAnswer houses numbersOk lengthOf
+unfolding lengthAnswer housesOk numbersOk lengthOf
 longest-here = refl
 
 -- at 31 houses it would be within request 2026-06's 180,224 bytes
@@ -53,7 +53,7 @@ unfolding lengthOf
 later-here = refl
 
 opened-here : opened (replicate 158 9) 1 1 0 0 8 2026 sheet ≡ record { answer = 0; book = freshly }
-unfolding opened downOk houses numbersOk lengthOf isSheet gateLegal sheetAt sheetBytes write ofBits toBits mostLimit
+unfolding opened downOk housesOk numbersOk lengthOf isSheet gateLegal sheetAt sheetBytes write ofBits toBits mostLimit
 opened-here = refl
 
 -- slot i of the one entry
@@ -74,7 +74,7 @@ unfolding putSlot slotPlace entrySlot
 sent-here = refl
 
 legal-here : legal sent ≡ true
-unfolding legal downOk houses numbersOk lengthOf sheetLegalAt ofBits mostLimit
+unfolding legal downOk housesOk numbersOk lengthOf sheetLegalAt ofBits mostLimit
 legal-here = refl
 
 meant-here : look sent 0 0 .send ≡ some lot

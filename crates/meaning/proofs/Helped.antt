@@ -11,7 +11,7 @@ use lib.ListN.{getD, set, take, drop, length-drop, length-set}
 use lib.Seq.{getD-set-same, getD-set-other, getD-drop, ext-getD}
 use borrow.Author.Tests.{eqb-true, eqb-false, lt-ltb}
 use Rattle.words.specs.Words.{Bytes}
-use Rattle.entry.specs.Entry.{upd}
+use Rattle.entry.specs.Lists.{upd}
 use Rattle.meaning.specs.Slot.{part, slotAt, slotOk}
 use Rattle.meaning.specs.Layout.{mostLimit, limitPlace, helpedPlace, slotCount, slotPlace, slotLength}
 use Rattle.meaning.specs.Book.{nOf, numbersOf, ownOf, limitOf, helpedOf, headerOf, helpOf, moreHelp, withHelp, countHelp, slotOf}

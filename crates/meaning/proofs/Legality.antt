@@ -8,7 +8,7 @@ use native.Mathlib.Omega.{arith}
 use lib.Dec.{eqb, leb, ltb}
 use lib.ListN.{length, getD}
 use borrow.Author.Tests.{eqb-true, eq-eqb, ltb-true, lt-ltb, leb-true, le-leb}
-use Rattle.card.specs.Card.{houses, downOk}
+use Rattle.card.specs.Card.{housesOk, downOk}
 use Rattle.sheet.specs.Kept.{sheetLegalAt}
 use Rattle.meaning.specs.Slot.{slotOk}
 use Rattle.meaning.specs.Layout.{numbersOk, mostLimit, helpedPlace, headLength, slotCount, lengthOf, slotPlace, slotLength}
@@ -68,7 +68,7 @@ module _ (b : List ℕ) where
   pub legal-facts : legal b ≡ true → Legal b
   unfolding legal
   legal-facts h =
-      let p = and-eq-true-iff (houses (nOf b)) (numbersOk (numbersOf b) && own) .0 h in
+      let p = and-eq-true-iff (housesOk (nOf b)) (numbersOk (numbersOf b) && own) .0 h in
       let q = and-eq-true-iff (numbersOk (numbersOf b)) own .0 (p .1) in
       let r = and-eq-true-iff (ltb (ownOf b) (nOf b)) long .0 (q .1) in
       let s = and-eq-true-iff (eqb (length b) (lengthOf (nOf b) (numbersOf b))) sheet .0 (r .1) in

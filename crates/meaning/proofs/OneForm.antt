@@ -5,7 +5,7 @@ use mathlib.Core.Bool.{true}
 use mathlib.Core.List.{List, _++_}
 use native.Mathlib.Omega.{arith}
 use Rattle.words.specs.Words.{Bytes}
-use Rattle.entry.specs.Entry.{Entry, place}
+use Rattle.entry.specs.Entry.{Entry, putAt}
 use Rattle.meaning.specs.Slot.{slotBytes, part}
 use Rattle.meaning.specs.Layout.{headLength, slotCount, lengthOf, slotPlace, slotLength}
 use Rattle.meaning.specs.Book.{nOf, numbersOf, headerOf, helpOf, slotOf, look, meant, rows, write}
@@ -52,9 +52,9 @@ same-bytes b c h k p q e = sym (written b h p) ∙ ap write e ∙ written c k q
 -- ---- the bytes after a store are those of the meaning after it
 
 module _ (b a : List ℕ) (j c : ℕ) (e : Entry) (s : Stored b a j c e) where
-  pub stored-meant : meant a ≡ withEntries (meant b) (place (look b) j c e)
+  pub stored-meant : meant a ≡ withEntries (meant b) (putAt (look b) j c e)
   unfolding meant
   stored-meant = λ i. record { header = s .header i; help = s .help i; entries = s .entries i }
 
-  pub stored-bytes : a ≡ write (withEntries (meant b) (place (look b) j c e))
+  pub stored-bytes : a ≡ write (withEntries (meant b) (putAt (look b) j c e))
   stored-bytes = sym (written a (s .legal) (s .bytes)) ∙ ap write stored-meant

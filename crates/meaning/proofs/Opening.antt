@@ -9,7 +9,7 @@ use native.Mathlib.Omega.{arith}
 use lib.Dec.{eqb, leb, ltb}
 use lib.ListN.{length, replicate, length-append, length-replicate}
 use borrow.Author.Tests.{eqb-true, ltb-true, leb-true}
-use Rattle.card.specs.Card.{houses, downOk}
+use Rattle.card.specs.Card.{housesOk, downOk}
 use Rattle.words.specs.Words.{Bytes, be32}
 use Rattle.words.proofs.Laws.{wordAt-small}
 use Rattle.sheet.specs.Kept.{keptAt, sheetAt, isSheet}
@@ -86,10 +86,10 @@ module _ (h : Header) (d : ℕ) (below : h .own < h .n) where
 -- ---- legal, and nothing in it
 
 pub allowed-facts : (n s own f d : ℕ) → allowed n s own f d ≡ true
-    → (houses n ≡ true) × (numbersOk s ≡ true) × (own < n) × (downOk n f ≡ true) × (d ≤ mostLimit)
+    → (housesOk n ≡ true) × (numbersOk s ≡ true) × (own < n) × (downOk n f ≡ true) × (d ≤ mostLimit)
 unfolding allowed
 allowed-facts n s own f d h =
-    let p = and-eq-true-iff (houses n) (numbersOk s && (ltb own n && (downOk n f && leb d mostLimit))) .0 h in
+    let p = and-eq-true-iff (housesOk n) (numbersOk s && (ltb own n && (downOk n f && leb d mostLimit))) .0 h in
     let q = and-eq-true-iff (numbersOk s) (ltb own n && (downOk n f && leb d mostLimit)) .0 (p .1) in
     let r = and-eq-true-iff (ltb own n) (downOk n f && leb d mostLimit) .0 (q .1) in
     let t = and-eq-true-iff (downOk n f) (leb d mostLimit) .0 (r .1) in

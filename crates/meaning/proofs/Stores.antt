@@ -10,7 +10,8 @@ use lib.Dec.{eqb}
 use lib.ListN.{length, getD}
 use borrow.Author.Tests.{eqb-true, eqb-false, eq-eqb}
 use Rattle.words.specs.Words.{Bytes}
-use Rattle.entry.specs.Entry.{Decl, Kind, SEND, ECHO, READY, Entry, upd, recorded, marked, PerEntry, sameEntry, place, announced}
+use Rattle.entry.specs.Entry.{Decl, Kind, SEND, ECHO, READY, Entry, recorded, marked, PerEntry, sameEntry, putAt, announced}
+use Rattle.entry.specs.Lists.{upd}
 use Rattle.meaning.specs.Slot.{slotAt, slotOk, putSlot}
 use Rattle.meaning.specs.Layout.{helpedPlace, headLength, perEntry, slotCount, slotPlace, entrySlot, sendSlot, echoSlot, readySlot}
 use Rattle.meaning.specs.Layout.{readySentSlot, deliveredSlot, heardSlot, slotLength}
@@ -31,21 +32,21 @@ pub record Stored (b a : List ℕ) (j c : ℕ) (e : Entry) : Type 0 where
   pub bytes : Bytes a
   pub header : headerOf a ≡ headerOf b
   pub help : helpOf a ≡ helpOf b
-  pub entries : look a ≡ place (look b) j c e
+  pub entries : look a ≡ putAt (look b) j c e
 
 -- ---- one store after another
 
-place-here : {A : Type 0} (f : PerEntry A) (j c : ℕ) (x : A) → place f j c x j c ≡ x
+place-here : {A : Type 0} (f : PerEntry A) (j c : ℕ) (x : A) → putAt f j c x j c ≡ x
 place-here f j c x = rw (eq-eqb j j refl, eq-eqb c c refl)
 
-place-place : {A : Type 0} (f : PerEntry A) (j c : ℕ) (x y : A) → place (place f j c x) j c y ≡ place f j c y
+place-place : {A : Type 0} (f : PerEntry A) (j c : ℕ) (x y : A) → putAt (putAt f j c x) j c y ≡ putAt f j c y
 place-place f j c x y = fun-ext (λ j₂. fun-ext (λ c₂. go j₂ c₂ (sameEntry j c j₂ c₂)))
   where
     go : (j₂ c₂ : ℕ) (t : Bool) → cond t y (cond t x (f j₂ c₂)) ≡ cond t y (f j₂ c₂)
     go j₂ c₂ true = refl
     go j₂ c₂ false = refl
 
-place-same : {A : Type 0} (f : PerEntry A) (j c : ℕ) → f ≡ place f j c (f j c)
+place-same : {A : Type 0} (f : PerEntry A) (j c : ℕ) → f ≡ putAt f j c (f j c)
 place-same f j c = fun-ext (λ j₂. fun-ext (λ c₂. go j₂ c₂ (sameEntry j c j₂ c₂) refl))
   where
     go : (j₂ c₂ : ℕ) (t : Bool) → sameEntry j c j₂ c₂ ≡ t → f j₂ c₂ ≡ cond t (f j c) (f j₂ c₂)
@@ -150,7 +151,7 @@ module _ (b : List ℕ) (h : legal b ≡ true) (bytes : Bytes b) (v : Decl) (d :
 
     -- what the slots mean decides what the book means
     stored-slot : (j c : ℕ) (e : Entry)
-        → entriesIn (nOf b) (numbersOf b) (ownOf b) (upd (slotOf b) k (some v)) ≡ place (look b) j c e → Stored b after j c e
+        → entriesIn (nOf b) (numbersOf b) (ownOf b) (upd (slotOf b) k (some v)) ≡ putAt (look b) j c e → Stored b after j c e
     stored-slot j c e q =
         record {
           legal = legal-after;
@@ -174,7 +175,7 @@ module _ (b : List ℕ) (h : legal b ≡ true) (bytes : Bytes b) (v : Decl) (d :
       let s = numbersOf b in
       stored-slot (entrySlot n s c j i) (entry-slot-below n s c j i hc hj hi) j c (f (look b j c))
       (entries-put n s (ownOf b) (slotOf b) j c hj hc (some v) i hi
-      ∙ ap (place (look b) j c)
+      ∙ ap (putAt (look b) j c)
       (g (rowIn n s (slotOf b) j c) (publishedIn (ownOf b) (slotOf b) j c) ∙ ap f (sym (entries-in n s (ownOf b) (slotOf b) j c hj hc))))
 
   -- the slot of the own number c filled
@@ -189,7 +190,7 @@ module _ (b : List ℕ) (h : legal b ≡ true) (bytes : Bytes b) (v : Decl) (d :
       let hj : j < n = omega (arith, facts .own) in
       stored-slot c (published-slot-below n s c hc) j c (announced v (look b j c))
       (entries-published n s (ownOf b) (slotOf b) j c hj hc (some v) e
-      ∙ ap (place (look b) j c) (ap (announced v) (sym (entries-in n s (ownOf b) (slotOf b) j c hj hc))))
+      ∙ ap (putAt (look b) j c) (ap (announced v) (sym (entries-in n s (ownOf b) (slotOf b) j c hj hc))))
 
   -- ---- the stores that calls make, with the book's n and S as the caller has them
 

@@ -8,7 +8,8 @@ use lib.ListN.{getD, set}
 use Rattle.words.specs.Words.{be32, wordAt}
 use Rattle.sheet.specs.declared.Sheet.{Sheet}
 use Rattle.sheet.specs.Kept.{sheetBytes, sheetAt}
-use Rattle.entry.specs.Entry.{Decl, Entry, fresh, upd, PerEntry}
+use Rattle.entry.specs.Entry.{Decl, Entry, fresh, PerEntry}
+use Rattle.entry.specs.Lists.{upd}
 use Rattle.meaning.specs.Slot.{slotBytes, slotAt}
 use Rattle.meaning.specs.Layout.{nPlace, numbersPlace, ownPlace, seasonPlace, sheetPlace, downPlace, limitPlace, helpedPlace}
 use Rattle.meaning.specs.Layout.{slotPlace, publishedSlot, entrySlot, sendSlot, echoSlot, readySlot, readySentSlot, deliveredSlot}

@@ -6,7 +6,7 @@ use mathlib.Core.List.{List}
 use mathlib.Core.Option.{Option, none, some}
 use lib.Dec.{eqb, leb, ltb}
 use lib.ListN.{length, getD}
-use Rattle.card.specs.Card.{houses, downOk}
+use Rattle.card.specs.Card.{housesOk, downOk}
 use Rattle.words.specs.Words.{Bytes}
 use Rattle.sheet.specs.Sheet.{GateFits, sheetLegal}
 use Rattle.sheet.specs.Kept.{sheetLegalAt}
@@ -35,14 +35,14 @@ helpOk b = leb (limitOf b) mostLimit && helpsOk b (limitOf b) (nOf b)
 unfoldable pub legal : List ℕ → Bool
 unfolding slotsOk helpOk
 legal b =
-    houses (nOf b) && (numbersOk (numbersOf b) && (ltb (ownOf b) (nOf b)
+    housesOk (nOf b) && (numbersOk (numbersOf b) && (ltb (ownOf b) (nOf b)
     && (eqb (length b) (lengthOf (nOf b) (numbersOf b))
     && (sheetLegalAt b sheetPlace && (downOk (nOf b) (downOf b)
     && (helpOk b && slotsOk b (nOf b) (slotCount (nOf b) (numbersOf b))))))))
 
 -- the same, as facts
 pub record Legal (b : List ℕ) : Type 0 where
-  pub n : houses (nOf b) ≡ true
+  pub n : housesOk (nOf b) ≡ true
   pub numbers : numbersOk (numbersOf b) ≡ true
   pub own : ownOf b < nOf b
   pub long : length b ≡ lengthOf (nOf b) (numbersOf b)
@@ -85,7 +85,7 @@ pub record IsEntry (n : ℕ) (e : Entry) : Type 0 where
 
 -- what the header of a legal book may be
 pub record IsHeader (h : Header) : Type 0 where
-  pub n : houses (h .n) ≡ true
+  pub n : housesOk (h .n) ≡ true
   pub numbers : numbersOk (h .numbers) ≡ true
   pub own : h .own < h .n
   pub season : h .season < 2 ^ 32

@@ -4,7 +4,7 @@ use mathlib.Core.Bool.{Bool, cond, _&&_}
 use mathlib.Core.List.{List}
 use lib.Dec.{eqb, leb, ltb}
 use lib.ListN.{length}
-use Rattle.card.specs.Card.{houses, downOk}
+use Rattle.card.specs.Card.{housesOk, downOk}
 use Rattle.sheet.specs.declared.Sheet.{Sheet}
 use Rattle.sheet.specs.Kept.{isSheet, sheetAt}
 use Rattle.entry.specs.Entry.{fresh}
@@ -30,7 +30,7 @@ pub record Opened : Type 0 where
 
 -- 9: n, S, own number, f or d not allowed
 unfoldable pub allowed : (n numbers own f d : ℕ) → Bool
-allowed n s own f d = houses n && (numbersOk s && (ltb own n && (downOk n f && leb d mostLimit)))
+allowed n s own f d = housesOk n && (numbersOk s && (ltb own n && (downOk n f && leb d mostLimit)))
 
 -- Opening: 9, 10, 11; else it writes the whole buffer.
 unfoldable pub opened : List ℕ → (n numbers own f d season : ℕ) → List ℕ → Opened
@@ -51,4 +51,4 @@ pub record Length : Type 0 where
 
 unfoldable pub lengthAnswer : (n numbers : ℕ) → Length
 lengthAnswer n s =
-    cond (houses n && numbersOk s) (record { answer = 0; length = lengthOf n s }) (record { answer = 9; length = 0 })
+    cond (housesOk n && numbersOk s) (record { answer = 0; length = lengthOf n s }) (record { answer = 9; length = 0 })

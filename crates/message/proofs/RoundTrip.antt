@@ -14,7 +14,7 @@ use Rattle.words.proofs.Laws.{word-be, be-wordAt}
 use Rattle.words.proofs.Listed.{listed-is}
 use Rattle.lot.specs.Declaration.{declarationAt, bytesOf}
 use Rattle.lot.proofs.Declared.{numbers-of-bytes}
-use Rattle.message.specs.Message.{Five, Told, isKind, wire, fieldAt, tagged, wellFormed, fiveAt, gives, malformed, readOf}
+use Rattle.message.specs.Message.{Five, Told, isKind, wire, fieldAt, tagged, wellFormed, fiveAt, readAs, malformed, readOf}
 use Rattle.message.proofs.Form.{sized, known-kind, tags}
 
 -- ---- reading undoes writing
@@ -31,9 +31,9 @@ five-of-wire m =
       declaration = numbers-of-bytes (m .declaration) i;
     }
 
-pub read-of-wire : (m : Five) → isKind (m .kind) ≡ true → readOf (wire m) ≡ gives m
+pub read-of-wire : (m : Five) → isKind (m .kind) ≡ true → readOf (wire m) ≡ readAs m
 unfolding readOf wellFormed tagged wire bytesOf
-read-of-wire m h = rw h (ap gives (five-of-wire m))
+read-of-wire m h = rw h (ap readAs (five-of-wire m))
 
 -- ---- bytes that read are the bytes that writing gives
 
@@ -67,37 +67,37 @@ module _ (s : List ℕ) (bytes : Bytes s) where
         x i ++ (getD s 3 0 ∷ y i ++ (w 7 i ++ (getD s 11 0 ∷ getD s 12 0 ∷ z i
         ++ (w 16 i ++ (w 20 i ++ (w 24 i ++ (w 28 i ++ w 32 i)))))))))
 
-  pub wire-of-read : (m : Five) → readOf s ≡ gives m → (s ≡ wire m) × (isKind (m .kind) ≡ true)
+  pub wire-of-read : (m : Five) → readOf s ≡ readAs m → (s ≡ wire m) × (isKind (m .kind) ≡ true)
   unfolding readOf
   wire-of-read m r = go (wellFormed s) refl
     where
       go : (b : Bool) → wellFormed s ≡ b → (s ≡ wire m) × (isKind (m .kind) ≡ true)
       go true h =
-          let q : gives (fiveAt s) ≡ gives m = rw h at r in
+          let q : readAs (fiveAt s) ≡ readAs m = rw h at r in
           let e : fiveAt s ≡ m = ap (λ (x : Told). fiveOr m (x .five)) q in
           (sym (wire-of-five h) ∙ ap wire e, sym (ap (λ (x : Five). isKind (x .kind)) e) ∙ known-kind s h)
       go false h =
-          let q : malformed ≡ gives m = rw h at r in
+          let q : malformed ≡ readAs m = rw h at r in
           let z : _≡_ {A = ℕ} 2 0 = ap (λ (x : Told). x .answer) q in
           absurd (omega arith)
 
 -- two byte strings that read as the same message are equal
 -- what reads is of a known kind
-pub read-known : (s : List ℕ) (m : Five) → readOf s ≡ gives m → isKind (m .kind) ≡ true
+pub read-known : (s : List ℕ) (m : Five) → readOf s ≡ readAs m → isKind (m .kind) ≡ true
 unfolding readOf fiveAt
 read-known s m r = go (wellFormed s) refl
   where
     go : (t : Bool) → wellFormed s ≡ t → isKind (m .kind) ≡ true
     go true h =
-        let q : gives (fiveAt s) ≡ gives m = rw h at r in
+        let q : readAs (fiveAt s) ≡ readAs m = rw h at r in
         let e = ap (λ (x : Told). fiveOr m (x .five)) q in
         sym (ap (λ (x : Five). isKind (x .kind)) e) ∙ known-kind s h
     go false h =
-        let q : malformed ≡ gives m = rw h at r in
+        let q : malformed ≡ readAs m = rw h at r in
         let z : _≡_ {A = ℕ} 2 0 = ap (λ (x : Told). x .answer) q in
         absurd (omega arith)
 
-pub one-form : (s r : List ℕ) (m : Five) → Bytes s → Bytes r → readOf s ≡ gives m → readOf r ≡ gives m → s ≡ r
+pub one-form : (s r : List ℕ) (m : Five) → Bytes s → Bytes r → readOf s ≡ readAs m → readOf r ≡ readAs m → s ≡ r
 one-form s r m b c p q = wire-of-read s b m p .0 ∙ sym (wire-of-read r c m q .0)
 
 -- bytes are malformed exactly when no message is written so
@@ -107,7 +107,7 @@ malformed-exactly s bytes = (to, from)
   where
     to : readOf s ≡ malformed → (m : Five) → isKind (m .kind) ≡ true → s ≡ wire m → ⊥
     to r m k e =
-        let q : gives m ≡ malformed = sym (read-of-wire m k) ∙ sym (ap readOf e) ∙ r in
+        let q : readAs m ≡ malformed = sym (read-of-wire m k) ∙ sym (ap readOf e) ∙ r in
         let z : _≡_ {A = ℕ} 0 2 = ap (λ (x : Told). x .answer) q in
         omega arith
 

@@ -8,7 +8,7 @@ use lib.ListN.{length, replicate}
 use Rattle.words.specs.Words.{Bytes}
 use Rattle.lot.specs.Declaration.{declarationAt, bytesOf}
 use Rattle.lot.proofs.Declared.{numbers-of-bytes, bytes-of-numbers}
-use Rattle.message.specs.Message.{Five, Told, isKind, wire, wellFormed, fiveAt, gives, readOf, requestWire, isRequest, writtenOf}
+use Rattle.message.specs.Message.{Five, Told, isKind, wire, wellFormed, fiveAt, readAs, readOf, requestWire, isRequest, writtenOf}
 use Rattle.message.proofs.RoundTrip.{read-of-wire, wire-of-read}
 use Rattle.message.proofs.Request.{request-of-wire, wire-of-request, request-names, no-request, message-unasked}
 use Rattle.message.specs.declared.ReadAnswer.{ReadAnswer}
@@ -35,11 +35,11 @@ module _ (kind season sender number : ℕ) (d : List ℕ) (k : isKind kind ≡ t
 
 -- what reading bytes finds: a request, a message, or neither
 module _ (s : List ℕ) (bytes : Bytes s) where
-  nine : (m : Five) → readOf s ≡ gives m → m .kind ≡ 9 → ⊥
+  nine : (m : Five) → readOf s ≡ readAs m → m .kind ≡ 9 → ⊥
   unfolding isKind
   nine m r k = true≢false (sym (wire-of-read s bytes m r .1) ∙ ap isKind k)
 
-  written-again : (m : Five) → readOf s ≡ gives m
+  written-again : (m : Five) → readOf s ≡ readAs m
       → writes (m .kind) (m .season) (m .sender) (m .number) (bytesOf (m .declaration)) ≡ record { answer = 0; message = s }
   unfolding writtenOf
   written-again m r =

@@ -10,7 +10,7 @@ use Rattle.words.specs.Settled.{Settled}
 use Rattle.lot.specs.declared.Declaration.{Declaration}
 use Rattle.message.specs.declared.Reading.{Reading}
 use Rattle.message.specs.declared.Written.{Written}
-use Rattle.message.specs.Message.{Five, isKind, wire, gives, malformed, readOf, told, writtenOf, requestWire, isRequest, requestOf}
+use Rattle.message.specs.Message.{Five, isKind, wire, readAs, malformed, readOf, told, writtenOf, requestWire, isRequest, requestOf}
 
 -- Two outcomes that meet the contract of the reader, or of the writer, are equal.
 pub record Settles : Type 0 where
@@ -20,11 +20,11 @@ pub record Settles : Type 0 where
 
 pub record Claims : Type 0 where
   -- Reading undoes writing,
-  pub read-of-wire : (m : Five) → isKind (m .kind) ≡ true → readOf (wire m) ≡ gives m
+  pub read-of-wire : (m : Five) → isKind (m .kind) ≡ true → readOf (wire m) ≡ readAs m
   -- bytes that read are the bytes that writing gives,
-  pub wire-of-read : (s : List ℕ) → Bytes s → (m : Five) → readOf s ≡ gives m → (s ≡ wire m) × (isKind (m .kind) ≡ true)
+  pub wire-of-read : (s : List ℕ) → Bytes s → (m : Five) → readOf s ≡ readAs m → (s ≡ wire m) × (isKind (m .kind) ≡ true)
   -- so a message has exactly one written form,
-  pub one-form : (s r : List ℕ) (m : Five) → Bytes s → Bytes r → readOf s ≡ gives m → readOf r ≡ gives m → s ≡ r
+  pub one-form : (s r : List ℕ) (m : Five) → Bytes s → Bytes r → readOf s ≡ readAs m → readOf r ≡ readAs m → s ≡ r
   -- and anything else is malformed.
   pub malformed-exactly : (s : List ℕ) → Bytes s → (readOf s ≡ malformed) ↔ ((m : Five) → isKind (m .kind) ≡ true → s ≡ wire m → ⊥)
   -- A request reads as what was written, is written as it reads, and is no message of another kind.

@@ -54,8 +54,8 @@ pub record Told : Type 0 where
   pub answer : ℕ
   pub five : Option Five
 
-abbrev pub gives : Five → Told
-gives m = record { answer = 0; five = some m }
+abbrev pub readAs : Five → Told
+readAs m = record { answer = 0; five = some m }
 
 abbrev pub malformed : Told
 malformed = record { answer = 2; five = none }
@@ -73,12 +73,12 @@ fiveAt s =
 
 unfoldable pub readOf : List ℕ → Told
 unfolding wellFormed fiveAt
-readOf s = cond (wellFormed s) (gives (fiveAt s)) malformed
+readOf s = cond (wellFormed s) (readAs (fiveAt s)) malformed
 
 -- the number and values of each of the reader's cases
 abbrev pub told : Reading → Told
 told (Message kind season sender number lot colonies kilograms moisture conductivity) =
-    gives
+    readAs
     (record {
       kind = kind;
       season = season;

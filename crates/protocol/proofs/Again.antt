@@ -9,20 +9,21 @@ use native.Mathlib.Omega.{arith}
 use lib.Dec.{T, eqb, ltb, eqb→eq, ltb→lt}
 use Rattle.card.specs.Count.{bit, count}
 use Rattle.card.proofs.Counting.{count-same, count-none}
-use Rattle.entry.specs.Entry.{Decl, Kind, SEND, ECHO, READY, Entry, own, isKind, isSome, holds, sameEntry}
+use Rattle.entry.specs.Entry.{Decl, Kind, SEND, ECHO, READY, Entry, outgoing, sameKind, isSome, holds, sameEntry}
 use Rattle.protocol.specs.Book.{Book}
-use Rattle.protocol.specs.Run.{Copy, copyTo, each, toThose, againKind, againOn, again, tally, onIt, copiesOf}
+use Rattle.protocol.specs.Run.{Copy, copyTo, toThose, againKind, againOn, again, onIt, copiesOf}
+use Rattle.entry.specs.Lists.{each, tally}
 use Rattle.entry.proofs.Basics.{bcase, T-of, and-l, and-r, and-false, entry-refl}
 use Rattle.protocol.proofs.Mail.{tally-append}
 use Rattle.protocol.proofs.Sums.{total, total-only, total-has, tally-each}
 
 -- a copy of a kind, from a house and to a house that pass the tests
 abbrev pub way : Kind → (ℕ → Bool) → (ℕ → Bool) → Copy → Bool
-way k F Q m = isKind k (m .kind) && (F (m .from) && Q (m .to))
+way k F Q m = sameKind k (m .kind) && (F (m .from) && Q (m .to))
 
 -- a copy says what the house it came from gave
 abbrev pub true-to : (ℕ → Entry) → Copy → Bool
-true-to H m = holds (own (m .kind) (H (m .from))) (m .decl)
+true-to H m = holds (outgoing (m .kind) (H (m .from))) (m .decl)
 
 tally-those : (P : Copy → Bool) (Q : ℕ → Bool) (j c r : ℕ) (k : Kind) (v : Decl) (n : ℕ)
     → tally P (toThose Q j c r k v n) ≡ count (λ q. Q q && P (copyTo j c r k v q)) n
@@ -47,31 +48,31 @@ module _ (Q : ℕ → Bool) (r n : ℕ) where
 
   -- no copy of what is sent again on an entry passes
   pub again-none : (P : Copy → Bool) (j c : ℕ) (e : Entry)
-      → ((l : Kind) (v : Decl) (q : ℕ) → own l e ≡ some v → P (copyTo j c r l v q) ≡ false) → tally P (againOn Q r n j c e) ≡ 0
+      → ((l : Kind) (v : Decl) (q : ℕ) → outgoing l e ≡ some v → P (copyTo j c r l v q) ≡ false) → tally P (againOn Q r n j c e) ≡ 0
   again-none P j c e f =
-      let a : List Copy = againKind Q j c r SEND (own SEND e) n in
-      let b : List Copy = againKind Q j c r ECHO (own ECHO e) n in
-      let d : List Copy = againKind Q j c r READY (own READY e) n in
+      let a : List Copy = againKind Q j c r SEND (outgoing SEND e) n in
+      let b : List Copy = againKind Q j c r ECHO (outgoing ECHO e) n in
+      let d : List Copy = againKind Q j c r READY (outgoing READY e) n in
       omega (
         arith,
         tally-append P a (b ++ d),
         tally-append P b d,
-        kind-none P j c SEND (own SEND e) (f SEND),
-        kind-none P j c ECHO (own ECHO e) (f ECHO),
-        kind-none P j c READY (own READY e) (f READY),
+        kind-none P j c SEND (outgoing SEND e) (f SEND),
+        kind-none P j c ECHO (outgoing ECHO e) (f ECHO),
+        kind-none P j c READY (outgoing READY e) (f READY),
       )
 
   module _ (j c : ℕ) (k : Kind) (F Q₂ : ℕ → Bool) (P : Copy → Bool)
       (fresh-way : (l : Kind) (v : Decl) (q : ℕ) → P (copyTo j c r l v q) ≡ way k F Q₂ (copyTo j c r l v q)) where
     kind-way : (l : Kind) (o : Option Decl)
-        → copiesOf j c P (againKind Q j c r l o n) ≡ cond ((isKind k l && F r) && isSome o) (count (λ q. Q q && Q₂ q) n) 0
-    kind-way l none = rw (and-false (isKind k l && F r) false refl)
+        → copiesOf j c P (againKind Q j c r l o n) ≡ cond ((sameKind k l && F r) && isSome o) (count (λ q. Q q && Q₂ q) n) 0
+    kind-way l none = rw (and-false (sameKind k l && F r) false refl)
     kind-way l (some v) =
         tally-those (λ m. onIt j c m && P m) Q j c r l v n
-        ∙ count-same _ (λ q. (isKind k l && F r) && (Q q && Q₂ q)) n
+        ∙ count-same _ (λ q. (sameKind k l && F r) && (Q q && Q₂ q)) n
         (λ q h. ap (λ (b : Bool). Q q && (sameEntry j c j c && b)) (fresh-way l v q)
-        ∙ regroup (Q q) (sameEntry j c j c) (isKind k l) (F r) (Q₂ q) (entry-refl j c))
-        ∙ out (isKind k l && F r)
+        ∙ regroup (Q q) (sameEntry j c j c) (sameKind k l) (F r) (Q₂ q) (entry-refl j c))
+        ∙ out (sameKind k l && F r)
       where
         regroup : (x t a b y : Bool) → T t → (x && (t && (a && (b && y)))) ≡ ((a && b) && (x && y))
         regroup true true true b y z = refl
@@ -86,19 +87,19 @@ module _ (Q : ℕ → Bool) (r n : ℕ) where
         out false = count-none (λ q. false) n (λ q h. refl)
 
     -- of a kind that was given, one copy to each house that passes both tests
-    pub on-way : (e : Entry) → copiesOf j c P (againOn Q r n j c e) ≡ cond (F r && isSome (own k e)) (count (λ q. Q q && Q₂ q) n) 0
+    pub on-way : (e : Entry) → copiesOf j c P (againOn Q r n j c e) ≡ cond (F r && isSome (outgoing k e)) (count (λ q. Q q && Q₂ q) n) 0
     on-way e =
         let test : Copy → Bool = λ m. onIt j c m && P m in
-        let a : List Copy = againKind Q j c r SEND (own SEND e) n in
-        let b : List Copy = againKind Q j c r ECHO (own ECHO e) n in
-        let d : List Copy = againKind Q j c r READY (own READY e) n in
+        let a : List Copy = againKind Q j c r SEND (outgoing SEND e) n in
+        let b : List Copy = againKind Q j c r ECHO (outgoing ECHO e) n in
+        let d : List Copy = againKind Q j c r READY (outgoing READY e) n in
         omega (
           arith,
           tally-append test a (b ++ d),
           tally-append test b d,
-          kind-way SEND (own SEND e),
-          kind-way ECHO (own ECHO e),
-          kind-way READY (own READY e),
+          kind-way SEND (outgoing SEND e),
+          kind-way ECHO (outgoing ECHO e),
+          kind-way READY (outgoing READY e),
           one k,
         )
       where
@@ -106,9 +107,9 @@ module _ (Q : ℕ → Bool) (r n : ℕ) where
         X = count (λ q. Q q && Q₂ q) n
 
         one : (k : Kind)
-            → cond ((isKind k SEND && F r) && isSome (own SEND e)) X 0 + cond ((isKind k ECHO && F r) && isSome (own ECHO e)) X 0
-            + cond ((isKind k READY && F r) && isSome (own READY e)) X 0
-            ≡ cond (F r && isSome (own k e)) X 0
+            → cond ((sameKind k SEND && F r) && isSome (outgoing SEND e)) X 0 + cond ((sameKind k ECHO && F r) && isSome (outgoing ECHO e)) X 0
+            + cond ((sameKind k READY && F r) && isSome (outgoing READY e)) X 0
+            ≡ cond (F r && isSome (outgoing k e)) X 0
         one SEND = omega arith
         one ECHO = omega arith
         one READY = omega arith

@@ -10,10 +10,11 @@ use lib.Dec.{T, eqb-refl}
 use Rattle.card.specs.Count.{count}
 use Rattle.card.proofs.Counting.{count-mono, count-find}
 use Rattle.card.proofs.Overlap.{share}
-use Rattle.entry.specs.Entry.{Decl, SEND, ECHO, READY, Entry, holds, upd}
+use Rattle.entry.specs.Entry.{Decl, SEND, ECHO, READY, Entry, holds}
+use Rattle.entry.specs.Lists.{upd}
 use Rattle.protocol.specs.Steps.{Out}
 use Rattle.protocol.specs.Book.{Call}
-use Rattle.protocol.specs.Run.{n, isWrong, Wall, Copy, Step, right, start, run}
+use Rattle.protocol.specs.Run.{n, isWrong, Wall, Copy, Step, isHonest, start, run}
 use Rattle.protocol.specs.Thresholds.{Tolerated}
 use Rattle.entry.proofs.Basics.{not-not, and-l, and-r, none-some, holds-eq, eq-holds, upd-all}
 use Rattle.protocol.proofs.Invariant.{View, Books, Inv, Act, act-heard}
@@ -22,7 +23,7 @@ use Rattle.protocol.proofs.Runs.{holds-from-start}
 
 -- house p is wrong, or has given an ECHO of v
 abbrev vouch : Wall → (ℕ → Entry) → Decl → ℕ → Bool
-vouch B H v p = cond (right B p) (holds (H p .send) v) true
+vouch B H v p = cond (isHonest B p) (holds (H p .send) v) true
 
 vouch-of : (b x : Bool) → (T b → T x) → T (cond b x true)
 vouch-of true x f = f tt
@@ -38,10 +39,10 @@ Backed B H = (r : ℕ) (v : Decl) → H r .readySent ≡ some v → B .rules .qu
 
 module _ (B : Wall) (t : ℕ) (Y : Tolerated B t) where
   -- more than t houses pass a test: an honest one does
-  pub honest-one : (P : ℕ → Bool) → t < count P (n B) → (p : ℕ) × T (right B p) × T (P p)
+  pub honest-one : (P : ℕ → Bool) → t < count P (n B) → (p : ℕ) × T (isHonest B p) × T (P p)
   honest-one P l =
       let x = count-find P (isWrong B) (n B) (omega (arith, Y .few)) in
-      (x .0, not-not (right B (x .0)) (x .3), x .2)
+      (x .0, not-not (isHonest B (x .0)) (x .3), x .2)
 
   keep-backed : (j c : ℕ) (s : View) → Inv B j c s → Backed B (s .house) → (r : ℕ) (a : Call) (o : Out) (mail : List Copy)
       → Act B j c s r a o mail → Backed B (upd (s .house) r (o .entry))
@@ -64,7 +65,7 @@ module _ (B : Wall) (t : ℕ) (Y : Tolerated B t) where
           omega (
             arith,
             count-mono (vouch B (s .house) v) (vouch B H′ v) (n B)
-                (λ p i t. vouch-of (right B p) _ (λ g. eq-holds _ v (sent p (holds-eq (s .house p .send) v (vouch-to (right B p) _ g t))))),
+                (λ p i t. vouch-of (isHonest B p) _ (λ g. eq-holds _ v (sent p (holds-eq (s .house p .send) v (vouch-to (isHonest B p) _ g t))))),
           )
 
       here : o .entry .readySent ≡ some v → Quorate H′
@@ -73,7 +74,7 @@ module _ (B : Wall) (t : ℕ) (Y : Tolerated B t) where
           (λ l. more (omega (
             arith,
             count-mono (λ p. holds (o .entry .echo p) v) (vouch B (s .house) v) (n B)
-                (λ p i t. vouch-of (right B p) _ (λ g. eq-holds (s .house p .send) v
+                (λ p i t. vouch-of (isHonest B p) _ (λ g. eq-holds (s .house p .send) v
                 (act-heard B j c s I r a o mail A ECHO p v (holds-eq (o .entry .echo p) v t) tt g))),
           )))
           (λ l. let x = honest-one (λ p. holds (o .entry .ready p) v) (omega (arith, Y .thresholds .amplified)) in
@@ -85,23 +86,23 @@ module _ (B : Wall) (t : ℕ) (Y : Tolerated B t) where
 
   module _ (j c : ℕ) (s : View) (I : Books B j c s) (K : Backed B (s .house)) where
     -- a READY's declaration is one that an honest house gave an ECHO of
-    vouched : (r : ℕ) (v : Decl) → s .house r .readySent ≡ some v → (p : ℕ) × T (right B p) × (s .house p .send ≡ some v)
+    vouched : (r : ℕ) (v : Decl) → s .house r .readySent ≡ some v → (p : ℕ) × T (isHonest B p) × (s .house p .send ≡ some v)
     vouched r v e =
         let x = honest-one (vouch B (s .house) v) (omega (arith, K r v e, Y .thresholds .quorate)) in
-        (x .0, x .1, holds-eq (s .house (x .0) .send) v (vouch-to (right B (x .0)) _ (x .1) (x .2)))
+        (x .0, x .1, holds-eq (s .house (x .0) .send) v (vouch-to (isHonest B (x .0)) _ (x .1) (x .2)))
 
     ready-agree : (r q : ℕ) (v w : Decl) → s .house r .readySent ≡ some v → s .house q .readySent ≡ some w → v ≡ w
     ready-agree r q v w a b =
         let P : ℕ → Bool = vouch B (s .house) v in
         let Q : ℕ → Bool = vouch B (s .house) w in
         let x = share (n B) t (B .rules .quorum) (isWrong B) P Q (Y .thresholds .overlapping) (Y .few) (K r v a) (K q w b) in
-        let g = not-not (right B (x .0)) (x .3) in
-        let d : s .house (x .0) .send ≡ some v = holds-eq _ v (vouch-to (right B (x .0)) _ g (and-l (P (x .0)) (Q (x .0)) (x .2))) in
-        let e : s .house (x .0) .send ≡ some w = holds-eq _ w (vouch-to (right B (x .0)) _ g (and-r (P (x .0)) (Q (x .0)) (x .2))) in
+        let g = not-not (isHonest B (x .0)) (x .3) in
+        let d : s .house (x .0) .send ≡ some v = holds-eq _ v (vouch-to (isHonest B (x .0)) _ g (and-l (P (x .0)) (Q (x .0)) (x .2))) in
+        let e : s .house (x .0) .send ≡ some w = holds-eq _ w (vouch-to (isHonest B (x .0)) _ g (and-r (P (x .0)) (Q (x .0)) (x .2))) in
         Option·some-injective v w (sym d ∙ e)
 
     -- a delivered declaration is one that an honest house gave a READY of
-    delivered-ready : (r : ℕ) (v : Decl) → s .house r .delivered ≡ some v → (p : ℕ) × T (right B p) × (s .house p .readySent ≡ some v)
+    delivered-ready : (r : ℕ) (v : Decl) → s .house r .delivered ≡ some v → (p : ℕ) × T (isHonest B p) × (s .house p .readySent ≡ some v)
     delivered-ready r v e =
         let x = honest-one (λ p. holds (s .house r .ready p) v)
         (omega (arith, I .local r .delivery-backed v e, Y .thresholds .delivered)) in
@@ -114,8 +115,8 @@ module _ (B : Wall) (t : ℕ) (Y : Tolerated B t) where
     deliver-agree r q v w a b = let x = delivered-ready q w b in deliver-ready-agree r (x .0) v w a (x .2)
 
     -- from an honest sender, a READY is of what it published, and so is a delivery
-    pub ready-authentic : T (right B j) → (r : ℕ) (v : Decl) → s .house r .readySent ≡ some v → s .house j .published ≡ some v
+    pub ready-authentic : T (isHonest B j) → (r : ℕ) (v : Decl) → s .house r .readySent ≡ some v → s .house j .published ≡ some v
     ready-authentic g r v e = let x = vouched r v e in I .given (x .0) SEND j v (x .2) (eqb-refl j) g
 
-    pub deliver-authentic : T (right B j) → (r : ℕ) (v : Decl) → s .house r .delivered ≡ some v → s .house j .published ≡ some v
+    pub deliver-authentic : T (isHonest B j) → (r : ℕ) (v : Decl) → s .house r .delivered ≡ some v → s .house j .published ≡ some v
     deliver-authentic g r v e = let x = delivered-ready r v e in ready-authentic g (x .0) v (x .2)

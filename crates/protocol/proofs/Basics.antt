@@ -5,7 +5,8 @@ use mathlib.Core.Option.{Option, none, some}
 use Prim.Native.Nat.{ℕ, suc, _≤_, _<_}
 use native.Mathlib.Omega.{arith}
 use lib.Dec.{T, leb, le→leb}
-use Rattle.entry.specs.Entry.{Decl, same, isSome, upd, votes, mark}
+use Rattle.entry.specs.Entry.{Decl, same, isSome, votes, mark}
+use Rattle.entry.specs.Lists.{upd}
 use Rattle.protocol.specs.Steps.{must, reached}
 use Rattle.entry.proofs.Basics.{bcase, T-of, T-not-of, same-eq, votes-other}
 

@@ -13,10 +13,11 @@ use lib.ListN.{length}
 use borrow.Author.Tests.{lt-ltb}
 use Rattle.card.specs.Count.{bit, count}
 use Rattle.card.proofs.Counting.{count-mono, count-not, count-none, count-one}
-use Rattle.entry.specs.Entry.{Decl, Kind, SEND, ECHO, READY, heard, own, isKind, isSome}
+use Rattle.entry.specs.Entry.{Decl, Kind, SEND, ECHO, READY, heard, outgoing, sameKind, isSome}
 use Rattle.protocol.specs.Steps.{publish, publishAnswer, publishes}
 use Rattle.protocol.specs.Book.{Book, publishing, outcome}
-use Rattle.protocol.specs.Run.{n, Wall, Copy, State, Limited, right, h, at, onIt, copiesOf}
+use Rattle.protocol.specs.Run.{n, Wall, Copy, State, Limited, isHonest, h, onIt, copiesOf}
+use Rattle.entry.specs.Lists.{at}
 use Rattle.protocol.specs.Claims.{Safe, Bounded, Single}
 use Rattle.entry.proofs.Basics.{true-of, not-of, and-l, and-r, and-mk, isKind-refl, some-of, entry-refl}
 use Rattle.protocol.proofs.Moves.{listOf}
@@ -41,38 +42,38 @@ one-of (some w) v e = let z : w ≡ v = cc in cc
 
 -- a READY copy is one from any house to any
 pub readies-way : (j c : ℕ) (l : List Copy)
-    → copiesOf j c (λ m. isKind READY (m .kind)) l ≡ copiesOf j c (way READY (λ p. true) (λ q. true)) l
+    → copiesOf j c (λ m. sameKind READY (m .kind)) l ≡ copiesOf j c (way READY (λ p. true) (λ q. true)) l
 readies-way j c l =
-    tally-same _ _ l (λ m. ap (λ (b : Bool). onIt j c m && b) (sym (and-true (isKind READY (m .kind)))))
+    tally-same _ _ l (λ m. ap (λ (b : Bool). onIt j c m && b) (sym (and-true (sameKind READY (m .kind)))))
 
 module _ (B : Wall) (j c : ℕ) (s : View) (I : Inv B j c s) where
   -- how many houses that pass F gave a message of the kind
   abbrev pub gave : Kind → (ℕ → Bool) → ℕ
-  gave k F = count (λ p. F p && isSome (own k (s .house p))) (n B)
+  gave k F = count (λ p. F p && isSome (outgoing k (s .house p))) (n B)
 
-  giver : (k : Kind) (F : ℕ → Bool) (p : ℕ) → T (F p && isSome (own k (s .house p))) → (v : Decl) × (own k (s .house p) ≡ some v)
-  giver k F p t = some-of (own k (s .house p)) (and-r (F p) _ t)
+  giver : (k : Kind) (F : ℕ → Bool) (p : ℕ) → T (F p && isSome (outgoing k (s .house p))) → (v : Decl) × (outgoing k (s .house p) ≡ some v)
+  giver k F p t = some-of (outgoing k (s .house p)) (and-r (F p) _ t)
 
   pub gave-le : (k : Kind) (F : ℕ → Bool) → gave k F ≤ h B
   gave-le k F =
-      count-mono (λ p. F p && isSome (own k (s .house p))) (right B) (n B)
+      count-mono (λ p. F p && isSome (outgoing k (s .house p))) (isHonest B) (n B)
       (λ p l t. let x = giver k F p t in I .books .owner p k (x .0) (x .1) .0)
 
   pub gave-send : (F : ℕ → Bool) → gave SEND F ≤ 1
   gave-send F =
-      count-one (λ p. F p && isSome (own SEND (s .house p))) (n B) j
+      count-one (λ p. F p && isSome (outgoing SEND (s .house p))) (n B) j
       (λ p t. let x = giver SEND F p t in eqb→eq p j (I .books .owner p SEND (x .0) (x .1) .2))
 
   -- each of them at most that many copies, where the power says so
-  pub way-le : (k : Kind) (F Q : ℕ → Bool) (y : ℕ) → ((p : ℕ) → T (right B p) → load (s .power) (n B) Q p ≤ y)
+  pub way-le : (k : Kind) (F Q : ℕ → Bool) (y : ℕ) → ((p : ℕ) → T (isHonest B p) → load (s .power) (n B) Q p ≤ y)
       → copiesOf j c (way k F Q) (s .mail) ≤ y * gave k F
   way-le k F Q y f =
       omega (
         arith,
         I .post .at-most k F Q,
-        total-most (λ p. F p && isSome (own k (s .house p)))
-            (λ p. cond (F p && isSome (own k (s .house p))) (load (s .power) (n B) Q p) 0) (n B) y
-            (λ p. one (F p && isSome (own k (s .house p))) p
+        total-most (λ p. F p && isSome (outgoing k (s .house p)))
+            (λ p. cond (F p && isSome (outgoing k (s .house p))) (load (s .power) (n B) Q p) 0) (n B) y
+            (λ p. one (F p && isSome (outgoing k (s .house p))) p
             (λ t. let x = giver k F p t in f p (I .books .owner p k (x .0) (x .1) .0))),
       )
     where
@@ -81,7 +82,7 @@ module _ (B : Wall) (j c : ℕ) (s : View) (I : Inv B j c s) where
       one false p f = omega arith
 
   -- where d = 0, none but the first
-  pub no-more : (Q : ℕ → Bool) → B .limit ≡ 0 → Limited B (s .power) → (p : ℕ) → T (right B p)
+  pub no-more : (Q : ℕ → Bool) → B .limit ≡ 0 → Limited B (s .power) → (p : ℕ) → T (isHonest B p)
       → load (s .power) (n B) Q p ≤ count Q (n B)
   no-more Q z L p g =
       let none-back : s .power .returned p ≡ 0 = omega (arith, L p g) in
@@ -96,7 +97,7 @@ module _ (B : Wall) (j c : ℕ) (s : View) (I : Inv B j c s) where
       zero-is false q = omega arith
 
   -- and where each honest house returned at most d times, two for each return
-  pub few-more : Limited B (s .power) → (Q : ℕ → Bool) (p : ℕ) → T (right B p)
+  pub few-more : Limited B (s .power) → (Q : ℕ → Bool) (p : ℕ) → T (isHonest B p)
       → load (s .power) (n B) Q p ≤ count Q (n B) + 2 * (count Q (n B) * B .limit)
   few-more L Q p g =
       omega (
@@ -110,7 +111,7 @@ module _ (B : Wall) (j c : ℕ) (s : View) (I : Inv B j c s) where
       one false q = omega arith
 
   -- the copies of the three kinds
-  pub kinds-le : (F Q : ℕ → Bool) (y : ℕ) → ((p : ℕ) → T (right B p) → load (s .power) (n B) Q p ≤ y)
+  pub kinds-le : (F Q : ℕ → Bool) (y : ℕ) → ((p : ℕ) → T (isHonest B p) → load (s .power) (n B) Q p ≤ y)
       → copiesOf j c (λ m. F (m .from) && Q (m .to)) (s .mail) ≤ y * gave SEND F + y * gave ECHO F + y * gave READY F
   kinds-le F Q y f =
       omega (
@@ -160,7 +161,7 @@ module _ (B : Wall) (j c : ℕ) (s : View) (I : Inv B j c s) where
 
   -- and the READY messages by 2hnd
   pub readies-le : Limited B (s .power)
-      → copiesOf j c (λ m. isKind READY (m .kind)) (s .mail) ≤ h B * n B + 2 * (h B * n B * B .limit)
+      → copiesOf j c (λ m. sameKind READY (m .kind)) (s .mail) ≤ h B * n B + 2 * (h B * n B * B .limit)
   readies-le L =
       let X : ℕ = n B in
       let d : ℕ = B .limit in
@@ -178,7 +179,7 @@ none-listed none e = refl
 none-listed (some v) e = absurd (omega (arith, ap length e))
 
 -- a first plausible publication is accepted
-publishable : (B : Wall) (j c : ℕ) (b : Book) (v : Decl) → T (right B j) → c < B .numbers → T (B .rules .ok v)
+publishable : (B : Wall) (j c : ℕ) (b : Book) (v : Decl) → T (isHonest B j) → c < B .numbers → T (B .rules .ok v)
     → b j c .published ≡ none → outcome (B .rules) (B .numbers) j (publishing c v) b .answer ≡ 0
 unfolding outcome publish publishAnswer publishes
 publishable B j c b v g l ok e =
@@ -206,7 +207,7 @@ pub single : (B : Wall) (j c : ℕ) (s : State) → Inv B j c (view j c s) → B
 single B j c s I still L =
     record {
       bound = omega (arith, rw (count-all (n B)) at (sent-le B j c (view j c s) I (λ p. true) (λ q. true) still L));
-      bound-between = sent-le B j c (view j c s) I (right B) (right B) still L;
+      bound-between = sent-le B j c (view j c s) I (isHonest B) (isHonest B) still L;
       accepted = λ i m e t g u.
           let z : j ≡ m .sender = eqb→eq j (m .sender) (and-l (eqb j (m .sender)) _ t) in
           let z₂ : c ≡ m .number = eqb→eq c (m .number) (and-r (eqb j (m .sender)) _ t) in
@@ -215,7 +216,7 @@ single B j c s I still L =
           ⊎-elim (λ y. y .0) (λ y. absurd (once i m e g u J (y .1))) (answers B s i m e g J);
     }
   where
-    once : (i : ℕ) (m : Copy) → at (s .mail) i ≡ some m → T (right B (m .to)) → m .consumed ≡ false
+    once : (i : ℕ) (m : Copy) → at (s .mail) i ≡ some m → T (isHonest B (m .to)) → m .consumed ≡ false
         → Inv B (m .sender) (m .number) (view (m .sender) (m .number) s)
         → heard (m .kind) (m .from) (s .gave .books (m .to) (m .sender) (m .number)) ≡ some (m .decl) → ⊥
     once i m e g u J y =
@@ -238,7 +239,7 @@ single B j c s I still L =
                 no-more B (m .sender) (m .number) u₀ J Q still L p x,
                 at-one Q (m .to) (λ q t. sym (eqb→eq (m .to) q t)),
               )),
-          at-one (λ p. F p && isSome (own k (u₀ .house p))) (m .from) (λ p t. sym (eqb→eq (m .from) p (and-l (F p) _ t))),
+          at-one (λ p. F p && isSome (outgoing k (u₀ .house p))) (m .from) (λ p t. sym (eqb→eq (m .from) p (and-l (F p) _ t))),
         )
       where
         at-one : (P : ℕ → Bool) (x : ℕ) → ((p : ℕ) → T (P p) → p ≡ x) → count P (n B) ≤ 1
@@ -246,7 +247,7 @@ single B j c s I still L =
 
         way-refl : (m : Copy) → T (way (m .kind) (eqb (m .from)) (eqb (m .to)) m)
         way-refl m =
-            and-mk (isKind (m .kind) (m .kind)) _ (isKind-refl (m .kind))
+            and-mk (sameKind (m .kind) (m .kind)) _ (isKind-refl (m .kind))
             (and-mk (eqb (m .from) (m .from)) _ (eqb-refl (m .from)) (eqb-refl (m .to)))
 
 pub bounded : (B : Wall) (j c : ℕ) (s : State) → Inv B j c (view j c s) → Limited B (s .power) → Bounded B j c s

@@ -6,7 +6,7 @@ use mathlib.Core.Option.{Option, none, some}
 use Prim.Native.Nat.{ℕ, zero, suc}
 use native.Mathlib.Omega.{arith}
 use lib.Dec.{T, eqb, ltb, eqb→eq, eqb-refl}
-use Rattle.entry.specs.Entry.{Decl, Kind, SEND, ECHO, READY, Entry, heard, own, isNone, sameEntry}
+use Rattle.entry.specs.Entry.{Decl, Kind, SEND, ECHO, READY, Entry, heard, outgoing, isNone, sameEntry}
 use Rattle.protocol.specs.Steps.{Rules, receiveAnswer, receive, publishAnswer, publish, Say, say, Out, refused, settle, may}
 use Rattle.protocol.specs.Steps.{recording, publishes, takesSend, takesEcho, takesReady, takes}
 use Rattle.protocol.specs.Book.{Book, Call, publishing, receiving, inBook, senderOf, numberOf, onEntry, outcome, after, publication}
@@ -134,13 +134,13 @@ module _ (R : Rules) (j : ℕ) where
         publishes = rw h;
       }
     where
-      new′ : (k : Kind) (w : Decl) → own k (publishes v e .entry) ≡ some w → (own k e ≡ some w) ⊎ (some (say SEND v) ≡ some (say k w))
+      new′ : (k : Kind) (w : Decl) → outgoing k (publishes v e .entry) ≡ some w → (outgoing k e ≡ some w) ⊎ (some (say SEND v) ≡ some (say k w))
       new′ SEND w x = inr (let z : v ≡ w = cc in cc)
       new′ ECHO w x = inl x
       new′ READY w x = inl x
 
       says′ : (k : Kind) (w : Decl) → some (say SEND v) ≡ some (say k w)
-          → (own k e ≡ none) × (own k (publishes v e .entry) ≡ some w) × T (R .ok w) × T (may j k j)
+          → (outgoing k e ≡ none) × (outgoing k (publishes v e .entry) ≡ some w) × T (R .ok w) × T (may j k j)
       says′ SEND w m = let z : v ≡ w = cc in (h, cc, rw z at g, eqb-refl j)
       says′ ECHO w m = other-kind SEND ECHO v w refl m
       says′ READY w m = other-kind SEND READY v w refl m

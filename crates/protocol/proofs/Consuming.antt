@@ -7,10 +7,11 @@ use Prim.Native.Nat.{ℕ, _+_, _≤_, _<_}
 use native.Mathlib.Omega.{arith}
 use lib.Dec.{T, eqb, ltb, eqb→eq, eqb-refl}
 use Rattle.card.specs.Count.{bit}
-use Rattle.entry.specs.Entry.{Decl, Kind, Entry, heard, own, isKind, isSome, upd}
+use Rattle.entry.specs.Entry.{Decl, Kind, Entry, heard, outgoing, sameKind, isSome}
+use Rattle.entry.specs.Lists.{upd, at}
 use Rattle.protocol.specs.Steps.{Rules, Out, may}
 use Rattle.protocol.specs.Book.{Call, inBook, outcome}
-use Rattle.protocol.specs.Run.{n, Wall, Copy, State, right, at, consumedCopy, consumeAt, opens, onIt}
+use Rattle.protocol.specs.Run.{n, Wall, Copy, State, isHonest, consumedCopy, consumeAt, callOf, onIt}
 use Rattle.entry.proofs.Basics.{bcase, T-of, true-of, and-l, and-r, and-mk, and-false, isKind-eq, entry-refl, isKind-refl, some-of}
 use Rattle.entry.proofs.Basics.{isSome-of, upd-all, upd-same}
 use Rattle.entry.proofs.Filled.{filled-heard}
@@ -30,8 +31,8 @@ heard-more R j r a H o D k p q =
     (λ q t. t) q)
 
 -- a call that brings nothing from an honest house
-pub plain-act : (B : Wall) (r : ℕ) (a : Call) (s : State) → T (right B r)
-    → ((k : Kind) (p : ℕ) (v : Decl) → Brings a k p v → T (right B p) → ⊥)
+pub plain-act : (B : Wall) (r : ℕ) (a : Call) (s : State) → T (isHonest B r)
+    → ((k : Kind) (p : ℕ) (v : Decl) → Brings a k p v → T (isHonest B p) → ⊥)
     → (j c : ℕ) → Named B r a s j c → Inv B j c (view j c s) → Act B j c (view j c s) r a (out B r a s) (s .mail)
 plain-act B r a s g f j c N I =
     record {
@@ -51,7 +52,7 @@ plain-act B r a s g f j c N I =
 
 -- the consumption of a copy in the mail that is not consumed, to an honest house
 module _ (B : Wall) (s : State) (i : ℕ) (m : Copy)
-    (at-i : at (s .mail) i ≡ some m) (right-to : T (right B (m .to))) where
+    (at-i : at (s .mail) i ≡ some m) (right-to : T (isHonest B (m .to))) where
   abbrev k : Kind
   k = m .kind
 
@@ -71,17 +72,17 @@ module _ (B : Wall) (s : State) (i : ℕ) (m : Copy)
   H q = s .gave .books q j c
 
   abbrev o : Out
-  o = out B r (opens m) s
+  o = out B r (callOf m) s
 
   it : T (onIt j c m)
   it = entry-refl j c
 
-  done : Done (B .rules) j r (opens m) (H r) o
-  done = outcome-done (B .rules) (B .numbers) r (opens m) (s .gave .books r)
+  done : Done (B .rules) j r (callOf m) (H r) o
+  done = outcome-done (B .rules) (B .numbers) r (callOf m) (s .gave .books r)
 
   module _ (I : Inv B j c (view j c s)) where
     -- its sender gave it
-    pub sent-by : own k (H p) ≡ some (m .decl)
+    pub sent-by : outgoing k (H p) ≡ some (m .decl)
     sent-by = true-copy B j c (view j c s) I i m at-i it
 
     -- it was not heard, or this very declaration was
@@ -107,12 +108,12 @@ module _ (B : Wall) (s : State) (i : ℕ) (m : Copy)
     heard-after : heard k p (o .entry) ≡ some (m .decl)
     heard-after = ⊎-elim (λ y. y .1) (λ y. ap (heard k p) (y .2) ∙ y .1) answers
 
-    consume-act : Act B j c (view j c s) r (opens m) o (consumeAt (s .mail) i)
+    consume-act : Act B j c (view j c s) r (callOf m) o (consumeAt (s .mail) i)
     consume-act =
         record {
           here = right-to;
           done = done;
-          booked = outcome-booked (B .rules) (B .numbers) r (opens m) (s .gave .books r);
+          booked = outcome-booked (B .rules) (B .numbers) r (callOf m) (s .gave .books r);
           honest = λ l q w b g. rw (b .0, b .1, ← b .2) sent-by;
           unmarked = λ P x. omega (arith, tally-change P consumedCopy (s .mail) i m at-i, ap bit (x m));
           kept = kept′;
@@ -137,7 +138,7 @@ module _ (B : Wall) (s : State) (i : ℕ) (m : Copy)
             )
 
         its-way : T (way k (eqb p) (eqb r) m)
-        its-way = and-mk (isKind k k) _ (isKind-refl k) (and-mk (eqb p p) _ (eqb-refl p) (eqb-refl r))
+        its-way = and-mk (sameKind k k) _ (isKind-refl k) (and-mk (eqb p p) _ (eqb-refl p) (eqb-refl r))
 
         carried′ : 0 < came j c k p r (consumeAt (s .mail) i)
         carried′ =
@@ -164,8 +165,8 @@ module _ (B : Wall) (s : State) (i : ℕ) (m : Copy)
             go : (b : Bool) → way l (eqb q) (eqb u) m ≡ b
                 → 0 < bit (isSome (heard l q (upd H r (o .entry) u))) + (unread j c l q u (consumeAt (s .mail) i) + x)
             go true t =
-                let z : l ≡ k = isKind-eq l k (and-l (isKind l k) _ (T-of t)) in
-                let y : T (eqb q p && eqb u r) = and-r (isKind l k) _ (T-of t) in
+                let z : l ≡ k = isKind-eq l k (and-l (sameKind l k) _ (T-of t)) in
+                let y : T (eqb q p && eqb u r) = and-r (sameKind l k) _ (T-of t) in
                 let z₂ : q ≡ p = eqb→eq q p (and-l (eqb q p) _ y) in
                 let z₃ : u ≡ r = eqb→eq u r (and-r (eqb q p) _ y) in
                 let one : bit (isSome (heard l q (upd H r (o .entry) u))) ≡ 1 = rw (z, z₂, z₃, upd-same H r (o .entry), heard-after) in
@@ -174,13 +175,13 @@ module _ (B : Wall) (s : State) (i : ℕ) (m : Copy)
                 omega (
                   arith,
                   z,
-                  heard-more (B .rules) j r (opens m) H o done l q u,
+                  heard-more (B .rules) j r (callOf m) H o done l q u,
                   tally-change (λ x. onIt j c x && (way l (eqb q) (eqb u) x && not (x .consumed))) consumedCopy (s .mail) i m at-i,
                   ap bit (and-false (onIt j c m) (way l (eqb q) (eqb u) m && not (m .consumed)) (rw t)),
                 )
 
   abbrev Takes : ℕ → ℕ → Type 0
-  Takes x y = Inv B x y (view x y s) → Act B x y (view x y s) r (opens m) o (consumeAt (s .mail) i)
+  Takes x y = Inv B x y (view x y s) → Act B x y (view x y s) r (callOf m) o (consumeAt (s .mail) i)
 
-  pub consumption : (x y : ℕ) → Named B r (opens m) s x y → Takes x y
+  pub consumption : (x y : ℕ) → Named B r (callOf m) s x y → Takes x y
   consumption x y N = subst (λ (u : ℕ). Takes u y) (N .sender) (subst (λ (u : ℕ). Takes j u) (N .number) consume-act)

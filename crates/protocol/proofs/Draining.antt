@@ -13,9 +13,10 @@ use Rattle.card.proofs.Counting.{count-none}
 use Rattle.entry.specs.Entry.{SEND, ECHO, READY, sameEntry}
 use Rattle.protocol.specs.Steps.{Say, say}
 use Rattle.protocol.specs.Book.{outcome}
-use Rattle.protocol.specs.Run.{n, Wall, Copy, Request, Power, State, Step, consume, help, right, isUp, h, at, consumedCopy, consumeAt}
-use Rattle.protocol.specs.Run.{posted, opens, called, arrives, consumes, helpAnswer, helps, consumedRequest, taken, asked, step, run}
-use Rattle.protocol.specs.Run.{tally, onIt, upCopy, upRequest, Drained}
+use Rattle.protocol.specs.Run.{n, Wall, Copy, Request, Power, State, Step, consume, help, isHonest, isUp, h, consumedCopy, consumeAt}
+use Rattle.protocol.specs.Run.{posted, callOf, called, arrives, consumes, helpAnswer, helps, consumedRequest, requestTaken, asked}
+use Rattle.protocol.specs.Run.{step, run, onIt, upCopy, upRequest, Drained}
+use Rattle.entry.specs.Lists.{at, tally}
 use Rattle.protocol.specs.Claims.{consumption, Drainable}
 use Rattle.entry.proofs.Basics.{true-of, false-of, and-l, and-r, and-false}
 use Rattle.protocol.proofs.Mail.{bit-one, find, tally-mono, tally-append, tally-change, tally-toAll}
@@ -67,19 +68,19 @@ module _ (B : Wall) (j c : ℕ) where
 
   -- the request consumed, and no more
   taken-by : (s : State) (i : ℕ) (m : Request) → at (s .power .requests) i ≡ some m → T (waiting s m)
-      → Still (taken i s) (step B (help i) s)
+      → Still (requestTaken i s) (step B (help i) s)
   unfolding step asked
   taken-by s i m e t =
       let up = and-r (isUp B s (m .from)) (isUp B s (m .to)) (and-l (upRequest B s m) (not (m .consumed)) t) in
       rw (
         e,
-        true-of (right B (m .to)) (and-l (right B (m .to)) (not (s .power .down (m .to))) up),
+        true-of (isHonest B (m .to)) (and-l (isHonest B (m .to)) (not (s .power .down (m .to))) up),
         true-of (not (m .consumed)) (and-r (upRequest B s m) (not (m .consumed)) t),
-        false-of (s .power .down (m .to)) (and-r (right B (m .to)) (not (s .power .down (m .to))) up),
-      ) (helps-still (m .to) (m .from) (taken i s))
+        false-of (s .power .down (m .to)) (and-r (isHonest B (m .to)) (not (s .power .down (m .to))) up),
+      ) (helps-still (m .to) (m .from) (requestTaken i s))
 
   one-less : (s s₂ : State) (i : ℕ) (m : Request) → at (s .power .requests) i ≡ some m → T (waiting s m)
-      → Still (taken i s) s₂ → suc (requests-left s₂) ≡ requests-left s
+      → Still (requestTaken i s) s₂ → suc (requests-left s₂) ≡ requests-left s
   one-less s s₂ i m e t K =
       rw (K .requests, K .quiet .down)
       (omega (
@@ -115,19 +116,19 @@ module _ (B : Wall) (j c : ℕ) where
       let up = and-r (isUp B s (m .from)) (isUp B s (m .to)) (and-l (upCopy B s m) (not (m .consumed)) rest) in
       let fresh = and-r (upCopy B s m) (not (m .consumed)) rest in
       let sends : List Copy = posted (m .sender) (m .number) (m .to)
-      (outcome (B .rules) (B .numbers) (m .to) (opens m) (s .gave .books (m .to)) .message) (n B) in
+      (outcome (B .rules) (B .numbers) (m .to) (callOf m) (s .gave .books (m .to)) .message) (n B) in
       rw (
         e,
-        true-of (right B (m .to)) (and-l (right B (m .to)) (not (s .power .down (m .to))) up),
+        true-of (isHonest B (m .to)) (and-l (isHonest B (m .to)) (not (s .power .down (m .to))) up),
         true-of (not (m .consumed)) fresh,
-        false-of (s .power .down (m .to)) (and-r (right B (m .to)) (not (s .power .down (m .to))) up),
+        false-of (s .power .down (m .to)) (and-r (isHonest B (m .to)) (not (s .power .down (m .to))) up),
       )
       (record {
         more = omega (
           arith,
           tally-append read (consumeAt (s .mail) i) sends,
           none-read (m .sender) (m .number) (m .to)
-              (outcome (B .rules) (B .numbers) (m .to) (opens m) (s .gave .books (m .to)) .message) (n B),
+              (outcome (B .rules) (B .numbers) (m .to) (callOf m) (s .gave .books (m .to)) .message) (n B),
           tally-change read consumedCopy (s .mail) i m e,
           bit-none (onIt j c m) (m .consumed) (false-of (m .consumed) fresh),
           marked (onIt j c m) here,

@@ -9,11 +9,11 @@ use native.Mathlib.Omega.{arith}
 use lib.Dec.{T, T-not, not-T, eqb, ltb, eqb-refl, ltb→lt}
 use Rattle.card.specs.Count.{bit, count}
 use Rattle.card.proofs.Counting.{count-same, count-set, count-none, count-pos}
-use Rattle.entry.specs.Entry.{Decl, Kind, Entry, heard, own, isKind, isSome, holds, upd, sameEntry}
+use Rattle.entry.specs.Entry.{Decl, Kind, Entry, heard, outgoing, sameKind, isSome, holds, sameEntry}
+use Rattle.entry.specs.Lists.{upd, at, push, tally}
 use Rattle.protocol.specs.Steps.{Say, say, Out, may}
 use Rattle.protocol.specs.Book.{Call, inBook, publication}
-use Rattle.protocol.specs.Run.{n, Wall, Copy, Request, Power, Limited, right, at, consumedCopy, copyTo, toAll, posted, push, tally}
-use Rattle.protocol.specs.Run.{onIt, copiesOf}
+use Rattle.protocol.specs.Run.{n, Wall, Copy, Request, Power, Limited, isHonest, consumedCopy, copyTo, toAll, posted, onIt, copiesOf}
 use Rattle.entry.proofs.Basics.{bcase, T-of, T-not-of, true-of, not-of, and-l, and-r, and-mk, and-false, both, isKind-eq, entry-refl}
 use Rattle.entry.proofs.Basics.{isKind-refl, some-of, isSome-of, holds-eq, eq-holds, upd-all, upd-same, upd-other}
 use Rattle.protocol.proofs.Moves.{Local, no-message, listOf}
@@ -67,10 +67,10 @@ bit-le false b f = omega arith
 
 -- of a message of kind l from house r, the copies that pass
 way-toAll : (j c r : ℕ) (k l : Kind) (F Q : ℕ → Bool) (w : Decl) (n : ℕ)
-    → tally (λ m. onIt j c m && way k F Q m) (toAll j c r l w n) ≡ count (λ q. (isKind k l && F r) && Q q) n
+    → tally (λ m. onIt j c m && way k F Q m) (toAll j c r l w n) ≡ count (λ q. (sameKind k l && F r) && Q q) n
 way-toAll j c r k l F Q w n =
     tally-toAll (λ m. onIt j c m && way k F Q m) j c r l w n
-    ∙ count-same _ _ n (λ q h. regroup (sameEntry j c j c) (isKind k l) (F r) (Q q) (entry-refl j c))
+    ∙ count-same _ _ n (λ q h. regroup (sameEntry j c j c) (sameKind k l) (F r) (Q q) (entry-refl j c))
   where
     regroup : (t a b q : Bool) → T t → (t && (a && (b && q))) ≡ ((a && b) && q)
     regroup true true b q x = refl
@@ -82,11 +82,11 @@ module _ (B : Wall) (j c : ℕ) where
   pub record Books (s : View) : Type 0 where
     pub local : (r : ℕ) → Local (B .rules) (s .house r)
     -- who gave a message is honest and may give it, and it is plausible and on an entry of the book
-    pub owner : (p : ℕ) (k : Kind) (v : Decl) → own k (s .house p) ≡ some v
-        → T (right B p) × T (B .rules .ok v) × T (may j k p) × T (inBook (B .rules) (B .numbers) j c)
+    pub owner : (p : ℕ) (k : Kind) (v : Decl) → outgoing k (s .house p) ≡ some v
+        → T (isHonest B p) × T (B .rules .ok v) × T (may j k p) × T (inBook (B .rules) (B .numbers) j c)
     -- what was heard from an honest house, it gave
-    pub given : (r : ℕ) (k : Kind) (p : ℕ) (v : Decl) → heard k p (s .house r) ≡ some v → T (may j k p) → T (right B p)
-        → own k (s .house p) ≡ some v
+    pub given : (r : ℕ) (k : Kind) (p : ℕ) (v : Decl) → heard k p (s .house r) ≡ some v → T (may j k p) → T (isHonest B p)
+        → outgoing k (s .house p) ≡ some v
     pub delivered : (r : ℕ) → s .deliveries r ≡ listOf (s .house r .delivered)
     pub published : (r : ℕ) → s .publications r ≡ listOf (s .house r .published)
 
@@ -96,21 +96,21 @@ module _ (B : Wall) (j c : ℕ) where
     pub truthful : copiesOf j c (λ m. not (true-to (s .house) m)) (s .mail) ≡ 0
     -- a message given is one copy to each house, and at most one more for each return and help
     pub at-least : (k : Kind) (F Q : ℕ → Bool)
-        → count Q (n B) * count (λ p. F p && isSome (own k (s .house p))) (n B) ≤ copiesOf j c (way k F Q) (s .mail)
+        → count Q (n B) * count (λ p. F p && isSome (outgoing k (s .house p))) (n B) ≤ copiesOf j c (way k F Q) (s .mail)
     pub at-most : (k : Kind) (F Q : ℕ → Bool)
-        → copiesOf j c (way k F Q) (s .mail) ≤ burden (s .power) (n B) Q (λ p. F p && isSome (own k (s .house p)))
+        → copiesOf j c (way k F Q) (s .mail) ≤ burden (s .power) (n B) Q (λ p. F p && isSome (outgoing k (s .house p)))
     -- what house p gave, house q heard, or a copy of it is on its way, or there is an excuse
-    pub reaches : Limited B (s .power) → (k : Kind) (p q : ℕ) (v : Decl) → own k (s .house p) ≡ some v → T (right B q)
+    pub reaches : Limited B (s .power) → (k : Kind) (p q : ℕ) (v : Decl) → outgoing k (s .house p) ≡ some v → T (isHonest B q)
         → 0 < bit (isSome (heard k p (s .house q))) + (unread j c k p q (s .mail) + excuse (s .power) q p)
     -- what house q heard from honest house p, a copy brought
-    pub brought : (k : Kind) (p q : ℕ) → T (may j k p) → T (right B p)
+    pub brought : (k : Kind) (p q : ℕ) → T (may j k p) → T (isHonest B p)
         → bit (isSome (heard k p (s .house q))) ≤ came j c k p q (s .mail)
 
   -- of help
   pub record Helping (w : Power) : Type 0 where
     pub limited : (p q : ℕ) → w .helped p q ≤ B .limit
     -- a house that returned asked each house once for each return
-    pub pending : (p q : ℕ) → T (right B q) → w .helped p q + asking q p (w .requests) ≤ w .returned q
+    pub pending : (p q : ℕ) → T (isHonest B q) → w .helped p q + asking q p (w .requests) ≤ w .returned q
 
   pub record Inv (s : View) : Type 0 where
     pub books : Books s
@@ -119,16 +119,16 @@ module _ (B : Wall) (j c : ℕ) where
 
   -- a call at house r on this entry, with outcome o, that a run may make; `mail` is the mail as the call finds it
   pub record Act (s : View) (r : ℕ) (a : Call) (o : Out) (mail : List Copy) : Type 0 where
-    pub here : T (right B r)
+    pub here : T (isHonest B r)
     pub done : Done (B .rules) j r a (s .house r) o
     pub booked : (m : Say) → o .message ≡ some m → T (inBook (B .rules) (B .numbers) j c)
-    pub honest : (k : Kind) (p : ℕ) (v : Decl) → Brings a k p v → T (right B p) → own k (s .house p) ≡ some v
+    pub honest : (k : Kind) (p : ℕ) (v : Decl) → Brings a k p v → T (isHonest B p) → outgoing k (s .house p) ≡ some v
     pub unmarked : (P : Copy → Bool) → ((m : Copy) → P (consumedCopy m) ≡ P m) → tally P mail ≡ tally P (s .mail)
     pub kept : (k : Kind) (p q : ℕ) → T (may j k p) → (x : ℕ)
         → 0 < bit (isSome (heard k p (s .house q))) + (unread j c k p q (s .mail) + x)
         → 0 < bit (isSome (heard k p (upd (s .house) r (o .entry) q))) + (unread j c k p q mail + x)
     pub marked : (k : Kind) (p q : ℕ) → came j c k p q (s .mail) ≤ came j c k p q mail
-    pub carried : (k : Kind) (p : ℕ) (v : Decl) → Brings a k p v → T (right B p) → 0 < came j c k p r mail
+    pub carried : (k : Kind) (p : ℕ) (v : Decl) → Brings a k p v → T (isHonest B p) → 0 < came j c k p r mail
 
   -- what the view sees of a call on this entry
   abbrev pub acted : View → ℕ → Call → Out → List Copy → View
@@ -145,17 +145,17 @@ module _ (B : Wall) (j c : ℕ) where
     H′ : ℕ → Entry
     H′ = upd (s .house) r (o .entry)
 
-    own-stays : (p : ℕ) (k : Kind) (v : Decl) → own k (s .house p) ≡ some v → own k (H′ p) ≡ some v
+    own-stays : (p : ℕ) (k : Kind) (v : Decl) → outgoing k (s .house p) ≡ some v → outgoing k (H′ p) ≡ some v
     unfolding H′
     own-stays p k v =
-        upd-all (λ p x. own k (s .house p) ≡ some v → own k x ≡ some v) (s .house) r (o .entry)
+        upd-all (λ p x. outgoing k (s .house p) ≡ some v → outgoing k x ≡ some v) (s .house) r (o .entry)
         (filled-own (A .done .moves .filled) k v) (λ p e. e) p
 
-    act-owner : (p : ℕ) (k : Kind) (v : Decl) → own k (H′ p) ≡ some v
-        → T (right B p) × T (B .rules .ok v) × T (may j k p) × T (inBook (B .rules) (B .numbers) j c)
+    act-owner : (p : ℕ) (k : Kind) (v : Decl) → outgoing k (H′ p) ≡ some v
+        → T (isHonest B p) × T (B .rules .ok v) × T (may j k p) × T (inBook (B .rules) (B .numbers) j c)
     unfolding H′
     act-owner p k v =
-        upd-all (λ p x. own k x ≡ some v → T (right B p) × T (B .rules .ok v) × T (may j k p) × T (inBook (B .rules) (B .numbers) j c))
+        upd-all (λ p x. outgoing k x ≡ some v → T (isHonest B p) × T (B .rules .ok v) × T (may j k p) × T (inBook (B .rules) (B .numbers) j c))
         (s .house) r (o .entry)
         (λ e. ⊎-elim (I .books .owner r k v)
         (λ m. let y = A .done .moves .says k v m in (A .here, y .2, y .3, A .booked (say k v) m))
@@ -163,14 +163,14 @@ module _ (B : Wall) (j c : ℕ) where
         (λ p. I .books .owner p k v) p
 
     -- what the call leaves as heard from an honest house, that house gave before
-    pub act-heard : (k : Kind) (p : ℕ) (v : Decl) → heard k p (o .entry) ≡ some v → T (may j k p) → T (right B p)
-        → own k (s .house p) ≡ some v
+    pub act-heard : (k : Kind) (p : ℕ) (v : Decl) → heard k p (o .entry) ≡ some v → T (may j k p) → T (isHonest B p)
+        → outgoing k (s .house p) ≡ some v
     act-heard k p v h m g = ⊎-elim (λ x. I .books .given r k p v x m g) (λ x. A .honest k p v x g) (A .done .hears k p v h m)
 
-    act-given : (q : ℕ) (k : Kind) (p : ℕ) (v : Decl) → heard k p (H′ q) ≡ some v → T (may j k p) → T (right B p) → own k (H′ p) ≡ some v
+    act-given : (q : ℕ) (k : Kind) (p : ℕ) (v : Decl) → heard k p (H′ q) ≡ some v → T (may j k p) → T (isHonest B p) → outgoing k (H′ p) ≡ some v
     unfolding H′
     act-given q k p v =
-        upd-all (λ q x. heard k p x ≡ some v → T (may j k p) → T (right B p) → own k (H′ p) ≡ some v) (s .house) r (o .entry)
+        upd-all (λ q x. heard k p x ≡ some v → T (may j k p) → T (isHonest B p) → outgoing k (H′ p) ≡ some v) (s .house) r (o .entry)
         (λ h m g. own-stays p k v (act-heard k p v h m g))
         (λ q h m g. own-stays p k v (I .books .given q k p v h m g)) q
 
@@ -199,12 +199,12 @@ module _ (B : Wall) (j c : ℕ) where
         new : (x : Option Say) → o .message ≡ x → tally untrue (posted j c r x (n B)) ≡ 0
         new none e = refl
         new (some (say k v)) e =
-            let gave : own k (H′ r) ≡ some v = rw (upd-same (s .house) r (o .entry)) (A .done .moves .says k v e .1) in
+            let gave : outgoing k (H′ r) ≡ some v = rw (upd-same (s .house) r (o .entry)) (A .done .moves .says k v e .1) in
             tally-toAll untrue j c r k v (n B)
-            ∙ count-none _ (n B) (λ q l. and-false (sameEntry j c j c) _ (ap not (true-of (holds (own k (H′ r)) v) (eq-holds _ v gave))))
+            ∙ count-none _ (n B) (λ q l. and-false (sameEntry j c j c) _ (ap not (true-of (holds (outgoing k (H′ r)) v) (eq-holds _ v gave))))
 
     act-at-least : (k : Kind) (F Q : ℕ → Bool)
-        → count Q (n B) * count (λ p. F p && isSome (own k (H′ p))) (n B)
+        → count Q (n B) * count (λ p. F p && isSome (outgoing k (H′ p))) (n B)
         ≤ copiesOf j c (way k F Q) (mail ++ posted j c r (o .message) (n B))
     unfolding H′
     act-at-least k F Q =
@@ -217,10 +217,10 @@ module _ (B : Wall) (j c : ℕ) where
         )
       where
         P : ℕ → Bool
-        P p = F p && isSome (own k (s .house p))
+        P p = F p && isSome (outgoing k (s .house p))
 
         P′ : ℕ → Bool
-        P′ p = F p && isSome (own k (H′ p))
+        P′ p = F p && isSome (outgoing k (H′ p))
 
         X : ℕ
         X = count Q (n B)
@@ -228,26 +228,26 @@ module _ (B : Wall) (j c : ℕ) where
         still : (T (F r) → (w : Decl) → o .message ≡ some (say k w) → ⊥) → X * count P (n B) ≡ X * count P′ (n B)
         still f =
             ap (λ (y : ℕ). X * y) (count-same P P′ (n B)
-            (λ p l. upd-all (λ p x. P p ≡ (F p && isSome (own k x))) (s .house) r (o .entry) at-r (λ p. refl) p))
+            (λ p l. upd-all (λ p x. P p ≡ (F p && isSome (outgoing k x))) (s .house) r (o .entry) at-r (λ p. refl) p))
           where
-            at-r : P r ≡ (F r && isSome (own k (o .entry)))
+            at-r : P r ≡ (F r && isSome (outgoing k (o .entry)))
             at-r =
-                both (P r) (F r && isSome (own k (o .entry)))
-                (λ t. let x = some-of (own k (s .house r)) (and-r (F r) _ t) in
+                both (P r) (F r && isSome (outgoing k (o .entry)))
+                (λ t. let x = some-of (outgoing k (s .house r)) (and-r (F r) _ t) in
                 and-mk (F r) _ (and-l (F r) _ t) (isSome-of _ (x .0) (filled-own (A .done .moves .filled) k (x .0) (x .1))))
-                (λ t. let x = some-of (own k (o .entry)) (and-r (F r) _ t) in
+                (λ t. let x = some-of (outgoing k (o .entry)) (and-r (F r) _ t) in
                 and-mk (F r) _ (and-l (F r) _ t)
                 (⊎-elim (isSome-of _ (x .0)) (λ m. absurd (f (and-l (F r) _ t) (x .0) m)) (A .done .moves .new k (x .0) (x .1))))
 
         go : (x : Option Say) → o .message ≡ x → copiesOf j c (way k F Q) (posted j c r x (n B)) + X * count P (n B) ≡ X * count P′ (n B)
         go none e = omega (arith, still (λ t w m. no-message (say k w) (sym e ∙ m)))
         go (some (say l w)) e =
-            omega (arith, way-toAll j c r k l F Q w (n B), split (isKind k l && F r) refl)
+            omega (arith, way-toAll j c r k l F Q w (n B), split (sameKind k l && F r) refl)
           where
-            split : (b : Bool) → (isKind k l && F r) ≡ b → count (λ q. b && Q q) (n B) + X * count P (n B) ≡ X * count P′ (n B)
+            split : (b : Bool) → (sameKind k l && F r) ≡ b → count (λ q. b && Q q) (n B) + X * count P (n B) ≡ X * count P′ (n B)
             split true t =
-                let z : k ≡ l = isKind-eq k l (and-l (isKind k l) (F r) (T-of t)) in
-                let f : T (F r) = and-r (isKind k l) (F r) (T-of t) in
+                let z : k ≡ l = isKind-eq k l (and-l (sameKind k l) (F r) (T-of t)) in
+                let f : T (F r) = and-r (sameKind k l) (F r) (T-of t) in
                 let y = A .done .moves .says k w (rw z e) in
                 let one-more : count P′ (n B) ≡ suc (count P (n B)) =
                 count-set P P′ (n B) r (ltb→lt r (n B) (and-l (ltb r (n B)) (B .honest r) (A .here)))
@@ -258,12 +258,12 @@ module _ (B : Wall) (j c : ℕ) where
                 omega (
                   arith,
                   count-none (λ q. false) (n B) (λ i h. refl),
-                  still (λ f x m. T-not-of t (and-mk (isKind k l) (F r) (let z : l ≡ k = cc in rw z (isKind-refl k)) f)),
+                  still (λ f x m. T-not-of t (and-mk (sameKind k l) (F r) (let z : l ≡ k = cc in rw z (isKind-refl k)) f)),
                 )
 
     act-at-most : (k : Kind) (F Q : ℕ → Bool)
         → copiesOf j c (way k F Q) (mail ++ posted j c r (o .message) (n B))
-        ≤ burden (s .power) (n B) Q (λ p. F p && isSome (own k (H′ p)))
+        ≤ burden (s .power) (n B) Q (λ p. F p && isSome (outgoing k (H′ p)))
     unfolding H′
     act-at-most k F Q =
         omega (
@@ -275,10 +275,10 @@ module _ (B : Wall) (j c : ℕ) where
         )
       where
         P : ℕ → Bool
-        P p = F p && isSome (own k (s .house p))
+        P p = F p && isSome (outgoing k (s .house p))
 
         P′ : ℕ → Bool
-        P′ p = F p && isSome (own k (H′ p))
+        P′ p = F p && isSome (outgoing k (H′ p))
 
         L : ℕ → ℕ
         L = load (s .power) (n B) Q
@@ -286,7 +286,7 @@ module _ (B : Wall) (j c : ℕ) where
         more : (p : ℕ) → cond (P p) (L p) 0 ≤ cond (P′ p) (L p) 0
         more p =
             cond-mono (P p) (P′ p) (L p) (L p)
-            (λ t. let x = some-of (own k (s .house p)) (and-r (F p) _ t) in
+            (λ t. let x = some-of (outgoing k (s .house p)) (and-r (F p) _ t) in
             and-mk (F p) _ (and-l (F p) _ t) (isSome-of _ (x .0) (own-stays p k (x .0) (x .1))))
             (omega arith)
 
@@ -294,13 +294,13 @@ module _ (B : Wall) (j c : ℕ) where
             → burden (s .power) (n B) Q P + copiesOf j c (way k F Q) (posted j c r x (n B)) ≤ burden (s .power) (n B) Q P′
         go none e = omega (arith, total-mono (λ p. cond (P p) (L p) 0) (λ p. cond (P′ p) (L p) 0) (n B) more)
         go (some (say l w)) e =
-            omega (arith, way-toAll j c r k l F Q w (n B), split (isKind k l && F r) refl)
+            omega (arith, way-toAll j c r k l F Q w (n B), split (sameKind k l && F r) refl)
           where
-            split : (b : Bool) → (isKind k l && F r) ≡ b
+            split : (b : Bool) → (sameKind k l && F r) ≡ b
                 → burden (s .power) (n B) Q P + count (λ q. b && Q q) (n B) ≤ burden (s .power) (n B) Q P′
             split true t =
-                let z : k ≡ l = isKind-eq k l (and-l (isKind k l) (F r) (T-of t)) in
-                let f : T (F r) = and-r (isKind k l) (F r) (T-of t) in
+                let z : k ≡ l = isKind-eq k l (and-l (sameKind k l) (F r) (T-of t)) in
+                let f : T (F r) = and-r (sameKind k l) (F r) (T-of t) in
                 let y = A .done .moves .says k w (rw z e) in
                 let was : P r ≡ false = and-false (F r) _ (ap isSome (y .0)) in
                 let now : P′ r ≡ true = true-of (P′ r) (and-mk (F r) _ f (rw (upd-same (s .house) r (o .entry), y .1) tt)) in
@@ -313,13 +313,13 @@ module _ (B : Wall) (j c : ℕ) where
                   total-mono (λ p. cond (P p) (L p) 0) (λ p. cond (P′ p) (L p) 0) (n B) more,
                 )
 
-    act-reaches : Limited B (s .power) → (k : Kind) (p q : ℕ) (v : Decl) → own k (H′ p) ≡ some v → T (right B q)
+    act-reaches : Limited B (s .power) → (k : Kind) (p q : ℕ) (v : Decl) → outgoing k (H′ p) ≡ some v → T (isHonest B q)
         → 0 < bit (isSome (heard k p (H′ q)))
         + (unread j c k p q (mail ++ posted j c r (o .message) (n B)) + excuse (s .power) q p)
     unfolding H′
     act-reaches L k p q v e g =
         ⊎-elim old new
-        (upd-all (λ p x. own k x ≡ some v → (own k (s .house p) ≡ some v) ⊎ ((p ≡ r) × (o .message ≡ some (say k v))))
+        (upd-all (λ p x. outgoing k x ≡ some v → (outgoing k (s .house p) ≡ some v) ⊎ ((p ≡ r) × (o .message ≡ some (say k v))))
         (s .house) r (o .entry)
         (λ e. ⊎-elim inl (λ m. inr (refl, m)) (A .done .moves .new k v e)) (λ p e. inl e) p e)
       where
@@ -329,7 +329,7 @@ module _ (B : Wall) (j c : ℕ) where
         append : tally test (mail ++ posted j c r (o .message) (n B)) ≡ tally test mail + tally test (posted j c r (o .message) (n B))
         append = tally-append test mail (posted j c r (o .message) (n B))
 
-        old : own k (s .house p) ≡ some v
+        old : outgoing k (s .house p) ≡ some v
             → 0 < bit (isSome (heard k p (H′ q)))
             + (unread j c k p q (mail ++ posted j c r (o .message) (n B)) + excuse (s .power) q p)
         old x =
@@ -352,10 +352,10 @@ module _ (B : Wall) (j c : ℕ) where
               count-pos (λ i. test (copyTo j c r k v i)) (n B) q (ltb→lt q (n B) (and-l (ltb q (n B)) (B .honest q) g))
                   (and-mk (sameEntry j c j c) _ (entry-refl j c)
                   (and-mk (way k (eqb p) (eqb q) (copyTo j c r k v q)) true
-                  (and-mk (isKind k k) _ (isKind-refl k) (and-mk (eqb p r) _ (rw (x .0) (eqb-refl r)) (eqb-refl q))) tt)),
+                  (and-mk (sameKind k k) _ (isKind-refl k) (and-mk (eqb p r) _ (rw (x .0) (eqb-refl r)) (eqb-refl q))) tt)),
             )
 
-    act-brought : (k : Kind) (p q : ℕ) → T (may j k p) → T (right B p)
+    act-brought : (k : Kind) (p q : ℕ) → T (may j k p) → T (isHonest B p)
         → bit (isSome (heard k p (H′ q))) ≤ came j c k p q (mail ++ posted j c r (o .message) (n B))
     unfolding H′
     act-brought k p q m g =
@@ -408,7 +408,7 @@ module _ (B : Wall) (j c : ℕ) where
 
   -- what a copy says, its sender gave
   pub true-copy : (s : View) → Inv s → (i : ℕ) (m : Copy) → at (s .mail) i ≡ some m → T (onIt j c m)
-      → own (m .kind) (s .house (m .from)) ≡ some (m .decl)
+      → outgoing (m .kind) (s .house (m .from)) ≡ some (m .decl)
   true-copy s I i m e t =
       bcase (true-to (s .house) m) (λ x. holds-eq _ (m .decl) (T-of x))
       (λ x. absurd (omega (

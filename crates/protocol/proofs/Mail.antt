@@ -8,8 +8,9 @@ use native.Mathlib.Omega.{arith}
 use lib.Dec.{T}
 use Rattle.card.specs.Count.{bit, count}
 use Rattle.card.proofs.Counting.{count-mono}
-use Rattle.entry.specs.Entry.{Decl, Kind, SEND, ECHO, READY, isKind}
-use Rattle.protocol.specs.Run.{Copy, at, changeAt, copyTo, toAll, tally, onIt, copiesOf}
+use Rattle.entry.specs.Entry.{Decl, Kind, SEND, ECHO, READY, sameKind}
+use Rattle.protocol.specs.Run.{Copy, copyTo, toAll, onIt, copiesOf}
+use Rattle.entry.specs.Lists.{at, changeAt, tally}
 
 pub bit-one : (a : Bool) → T a → bit a ≡ 1
 bit-one true t = refl
@@ -71,13 +72,13 @@ tally-toAll P j c r k v (suc n) =
 -- each copy is of one kind
 pub copies-kinds : (j c : ℕ) (P : Copy → Bool) (l : List Copy)
     → copiesOf j c P l
-    ≡ copiesOf j c (λ m. isKind SEND (m .kind) && P m) l + copiesOf j c (λ m. isKind ECHO (m .kind) && P m) l
-    + copiesOf j c (λ m. isKind READY (m .kind) && P m) l
+    ≡ copiesOf j c (λ m. sameKind SEND (m .kind) && P m) l + copiesOf j c (λ m. sameKind ECHO (m .kind) && P m) l
+    + copiesOf j c (λ m. sameKind READY (m .kind) && P m) l
 copies-kinds j c P [] = refl
 copies-kinds j c P (m ∷ l) = omega (arith, go (onIt j c m) (P m) (m .kind), copies-kinds j c P l)
   where
     go : (a p : Bool) (k : Kind)
-        → bit (a && p) ≡ bit (a && (isKind SEND k && p)) + bit (a && (isKind ECHO k && p)) + bit (a && (isKind READY k && p))
+        → bit (a && p) ≡ bit (a && (sameKind SEND k && p)) + bit (a && (sameKind ECHO k && p)) + bit (a && (sameKind READY k && p))
     go true p SEND = omega arith
     go true p ECHO = omega arith
     go true p READY = omega arith

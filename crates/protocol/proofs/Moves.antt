@@ -7,10 +7,10 @@ use mathlib.Core.List.{List, [], _∷_}
 use Prim.Native.Nat.{ℕ, _≤_}
 use native.Mathlib.Omega.{arith}
 use lib.Dec.{T, leb→le}
-use Rattle.entry.specs.Entry.{Decl, Kind, SEND, ECHO, READY, Entry, heard, own, isKind, isNone, upd, votes, mark, recorded, marked, Stays}
+use Rattle.entry.specs.Entry.{Decl, Kind, SEND, ECHO, READY, Entry, heard, outgoing, sameKind, isNone, votes, mark, recorded, marked, Stays}
 use Rattle.entry.specs.Entry.{Filled}
-use Rattle.protocol.specs.Steps.{Rules, Say, say, Out, refused, given, reached, may, takesSend, takesEcho, takesReady, takes}
-use Rattle.protocol.specs.Run.{push}
+use Rattle.entry.specs.Lists.{upd, push}
+use Rattle.protocol.specs.Steps.{Rules, Say, say, Out, refused, onlyIf, reached, may, takesSend, takesEcho, takesReady, takes}
 use Rattle.entry.proofs.Filled.{filled-refl, filled-trans, recorded-filled}
 use Rattle.entry.proofs.Basics.{T-not-of, and-l, and-r, isKind-refl, none-of, none-some, votes-up, mark-keeps, mark-new}
 use Rattle.protocol.proofs.Basics.{Heeded, heeds}
@@ -33,14 +33,14 @@ listOf (some v) = v ∷ []
 -- how a call at house r may change an entry of sender j, with x the publication that it accepted
 pub record Moves (R : Rules) (j r : ℕ) (e : Entry) (o : Out) (x : Option Decl) : Type 0 where
   pub filled : Filled e (o .entry)
-  pub new : (k : Kind) (v : Decl) → own k (o .entry) ≡ some v → (own k e ≡ some v) ⊎ (o .message ≡ some (say k v))
+  pub new : (k : Kind) (v : Decl) → outgoing k (o .entry) ≡ some v → (outgoing k e ≡ some v) ⊎ (o .message ≡ some (say k v))
   pub says : (k : Kind) (v : Decl) → o .message ≡ some (say k v)
-      → (own k e ≡ none) × (own k (o .entry) ≡ some v) × T (R .ok v) × T (may j k r)
+      → (outgoing k e ≡ none) × (outgoing k (o .entry) ≡ some v) × T (R .ok v) × T (may j k r)
   pub delivers : push (o .delivery) (listOf (e .delivered)) ≡ listOf (o .entry .delivered)
   pub publishes : push x (listOf (e .published)) ≡ listOf (o .entry .published)
 
 -- a message of one kind says nothing of another
-pub other-kind : {A : Type 0} (k l : Kind) (v w : Decl) → isKind k l ≡ false → some (say k v) ≡ some (say l w) → A
+pub other-kind : {A : Type 0} (k l : Kind) (v w : Decl) → sameKind k l ≡ false → some (say k v) ≡ some (say l w) → A
 other-kind k l v w d e = let z : k ≡ l = cc in absurd (T-not-of d (rw z (isKind-refl l)))
 
 pub no-message : {A : Type 0} (m : Say) → none ≡ some m → A
@@ -84,9 +84,9 @@ local-same R e x y L =
 
 module _ (R : Rules) (j : ℕ) where
   -- a voucher is recorded; a READY is marked and given where b says so, a delivery made where d does
-  voucher-moves : (r : ℕ) (e now : Entry) (b d : Bool) (v : Decl) → Filled e now → ((l : Kind) → own l now ≡ own l e)
+  voucher-moves : (r : ℕ) (e now : Entry) (b d : Bool) (v : Decl) → Filled e now → ((l : Kind) → outgoing l now ≡ outgoing l e)
       → now .delivered ≡ e .delivered → T (R .ok v) → (T b → T (isNone (now .readySent))) → (T d → T (isNone (now .delivered)))
-      → Moves R j r e (record { answer = 0; entry = marked b d v now; message = given b (say READY v); delivery = given d v }) none
+      → Moves R j r e (record { answer = 0; entry = marked b d v now; message = onlyIf b (say READY v); delivery = onlyIf d v }) none
   voucher-moves r e now b d v fl same ds g f f₂ =
       record {
         filled = filled-trans fl (marked-filled b d v now f f₂);
@@ -97,17 +97,17 @@ module _ (R : Rules) (j : ℕ) where
       }
     where
       ready′ : (b : Bool) (w : Decl) → mark b v (now .readySent) ≡ some w
-          → (e .readySent ≡ some w) ⊎ (given b (say READY v) ≡ some (say READY w))
+          → (e .readySent ≡ some w) ⊎ (onlyIf b (say READY v) ≡ some (say READY w))
       ready′ true w x = inr (let z : v ≡ w = cc in cc)
       ready′ false w x = inl (sym (same READY) ∙ x)
 
-      new′ : (k : Kind) (w : Decl) → own k (marked b d v now) ≡ some w → (own k e ≡ some w) ⊎ (given b (say READY v) ≡ some (say k w))
+      new′ : (k : Kind) (w : Decl) → outgoing k (marked b d v now) ≡ some w → (outgoing k e ≡ some w) ⊎ (onlyIf b (say READY v) ≡ some (say k w))
       new′ SEND w x = inl (sym (same SEND) ∙ x)
       new′ ECHO w x = inl (sym (same ECHO) ∙ x)
       new′ READY w x = ready′ b w x
 
-      says′ : (b : Bool) → (T b → T (isNone (now .readySent))) → (k : Kind) (w : Decl) → given b (say READY v) ≡ some (say k w)
-          → (own k e ≡ none) × (own k (marked b d v now) ≡ some w) × T (R .ok w) × T (may j k r)
+      says′ : (b : Bool) → (T b → T (isNone (now .readySent))) → (k : Kind) (w : Decl) → onlyIf b (say READY v) ≡ some (say k w)
+          → (outgoing k e ≡ none) × (outgoing k (marked b d v now) ≡ some w) × T (R .ok w) × T (may j k r)
       says′ true f SEND w m = other-kind READY SEND v w refl m
       says′ true f ECHO w m = other-kind READY ECHO v w refl m
       says′ true f READY w m =
@@ -115,7 +115,7 @@ module _ (R : Rules) (j : ℕ) where
       says′ false f k w m = no-message (say k w) m
 
       delivers′ : (d : Bool) → (T d → T (isNone (now .delivered)))
-          → push (given d v) (listOf (e .delivered)) ≡ listOf (mark d v (now .delivered))
+          → push (onlyIf d v) (listOf (e .delivered)) ≡ listOf (mark d v (now .delivered))
       delivers′ true f = rw (sym ds ∙ none-of (now .delivered) (f tt))
       delivers′ false f = ap listOf (sym ds)
 
@@ -125,13 +125,13 @@ module _ (R : Rules) (j : ℕ) where
   takes-moves r SEND p v e g h =
       record { filled = recorded-filled SEND p v e h; new = new′; says = says′; delivers = refl; publishes = refl }
     where
-      new′ : (k : Kind) (w : Decl) → own k (recorded SEND p v e) ≡ some w → (own k e ≡ some w) ⊎ (some (say ECHO v) ≡ some (say k w))
+      new′ : (k : Kind) (w : Decl) → outgoing k (recorded SEND p v e) ≡ some w → (outgoing k e ≡ some w) ⊎ (some (say ECHO v) ≡ some (say k w))
       new′ SEND w x = inl x
       new′ ECHO w x = inr (let z : v ≡ w = cc in cc)
       new′ READY w x = inl x
 
       says′ : (k : Kind) (w : Decl) → some (say ECHO v) ≡ some (say k w)
-          → (own k e ≡ none) × (own k (recorded SEND p v e) ≡ some w) × T (R .ok w) × T (may j k r)
+          → (outgoing k e ≡ none) × (outgoing k (recorded SEND p v e) ≡ some w) × T (R .ok w) × T (may j k r)
       says′ SEND w m = other-kind ECHO SEND v w refl m
       says′ ECHO w m = let z : v ≡ w = cc in (h, cc, rw z at g, tt)
       says′ READY w m = other-kind ECHO READY v w refl m
@@ -139,7 +139,7 @@ module _ (R : Rules) (j : ℕ) where
       voucher-moves r e (recorded ECHO p v e) (reached (R .quorum) (e .readySent) (upd (e .echo) p (some v)) v (R .n)) false v
       (recorded-filled ECHO p v e h) same refl g (λ t. and-l (isNone (e .readySent)) _ t) (λ t. absurd t)
     where
-      same : (l : Kind) → own l (recorded ECHO p v e) ≡ own l e
+      same : (l : Kind) → outgoing l (recorded ECHO p v e) ≡ outgoing l e
       same SEND = refl
       same ECHO = refl
       same READY = refl
@@ -148,7 +148,7 @@ module _ (R : Rules) (j : ℕ) where
       (reached (R .deliver) (e .delivered) (upd (e .ready) p (some v)) v (R .n)) v
       (recorded-filled READY p v e h) same refl g (λ t. and-l (isNone (e .readySent)) _ t) (λ t. and-l (isNone (e .delivered)) _ t)
     where
-      same : (l : Kind) → own l (recorded READY p v e) ≡ own l e
+      same : (l : Kind) → outgoing l (recorded READY p v e) ≡ outgoing l e
       same SEND = refl
       same ECHO = refl
       same READY = refl

@@ -8,12 +8,12 @@ use native.Mathlib.Omega.{arith}
 use lib.Dec.{T, eqb, ltb, eqb→eq, eqb-refl, ltb→lt, lt→ltb}
 use Rattle.card.specs.Count.{bit, count}
 use Rattle.card.proofs.Counting.{count-none, count-one, count-pos}
-use Rattle.entry.specs.Entry.{Decl, Kind, Entry, heard, own, isKind, isSome, holds, upd, sameEntry}
+use Rattle.entry.specs.Entry.{Decl, Kind, Entry, heard, outgoing, sameKind, isSome, holds, sameEntry}
+use Rattle.entry.specs.Lists.{upd, at, changeAt, each, tally}
 use Rattle.protocol.specs.Steps.{may}
 use Rattle.protocol.specs.Book.{Book}
-use Rattle.protocol.specs.Run.{n, Wall, Copy, Request, Power, State, Limited, right, at, changeAt, consumeAt, consumedCopy, each}
-use Rattle.protocol.specs.Run.{againOn, again, requestTo, setDown, comes, helpAnswer, oneMore, helps, consumedRequest, taken, tally}
-use Rattle.protocol.specs.Run.{onIt, copiesOf}
+use Rattle.protocol.specs.Run.{n, Wall, Copy, Request, Power, State, Limited, isHonest, consumeAt, consumedCopy, againOn, again}
+use Rattle.protocol.specs.Run.{requestTo, setDown, comes, helpAnswer, oneMore, helps, consumedRequest, requestTaken, onIt, copiesOf}
 use Rattle.entry.proofs.Basics.{bcase, T-of, T-not-of, true-of, and-l, and-r, and-mk, and-false, isSome-of, eq-holds, upd-all, upd-same}
 use Rattle.protocol.proofs.Basics.{must-zero, must-pass}
 use Rattle.protocol.proofs.Mail.{tally-append, tally-change}
@@ -142,7 +142,7 @@ module _ (w : Power) (n r : ℕ) (Q : ℕ → Bool) where
 -- ---- the steps
 
 module _ (B : Wall) (j c : ℕ) where
-  below : (p : ℕ) → T (right B p) → p < n B
+  below : (p : ℕ) → T (isHonest B p) → p < n B
   below p g = ltb→lt p (n B) (and-l (ltb p (n B)) (B .honest p) g)
 
   abbrev Reached : View → Kind → ℕ → ℕ → Type 0
@@ -182,7 +182,7 @@ module _ (B : Wall) (j c : ℕ) where
       go : (k : Kind) (p q : ℕ) → Reached u k p q → (b : Bool) → way k (eqb p) (eqb q) m ≡ b
           → Reached (reset B j c u (consumeAt (u .mail) i) (u .power)) k p q
       go k p q l true t =
-          let y : T (eqb p (m .from) && eqb q (m .to)) = and-r (isKind k (m .kind)) _ (T-of t) in
+          let y : T (eqb p (m .from) && eqb q (m .to)) = and-r (sameKind k (m .kind)) _ (T-of t) in
           let z : q ≡ m .to = eqb→eq q (m .to) (and-r (eqb p (m .from)) _ y) in
           let one : bit (u .power .down q) ≡ 1 = rw (z, d) in
           omega arith
@@ -225,27 +225,27 @@ module _ (B : Wall) (j c : ℕ) where
           again-le Q r (n B) (B .numbers) b j c (λ m. not (true-to (u .house) m)),
           again-none Q r (n B) (λ m. onIt j c m && not (true-to (u .house) m)) j c (b j c)
               (λ l v q e. and-false (sameEntry j c j c) _
-              (ap not (true-of (holds (own l (u .house r)) v) (eq-holds _ v (ap (own l) (sym it) ∙ e))))),
+              (ap not (true-of (holds (outgoing l (u .house r)) v) (eq-holds _ v (ap (outgoing l) (sym it) ∙ e))))),
         )
 
     sent-way : (k : Kind) (F Q₂ : ℕ → Bool)
-        → copiesOf j c (way k F Q₂) sent ≤ cond (F r && isSome (own k (u .house r))) (count (λ q. Q q && Q₂ q) (n B)) 0
+        → copiesOf j c (way k F Q₂) sent ≤ cond (F r && isSome (outgoing k (u .house r))) (count (λ q. Q q && Q₂ q) (n B)) 0
     sent-way k F Q₂ =
         let x = on-way Q r (n B) j c k F Q₂ (way k F Q₂) (λ l v q. refl) (b j c) in
         let X : ℕ = count (λ q. Q q && Q₂ q) (n B) in
         omega (
           arith,
           again-le Q r (n B) (B .numbers) b j c (way k F Q₂),
-          x ∙ ap (λ (e : Entry). cond (F r && isSome (own k e)) X 0) it,
+          x ∙ ap (λ (e : Entry). cond (F r && isSome (outgoing k e)) X 0) it,
         )
 
     -- of what it gave, one is on its way
-    sent-unread : (k : Kind) (v : Decl) (q : ℕ) → own k (u .house r) ≡ some v → T (right B q) → T (Q q) → 0 < unread j c k r q sent
+    sent-unread : (k : Kind) (v : Decl) (q : ℕ) → outgoing k (u .house r) ≡ some v → T (isHonest B q) → T (Q q) → 0 < unread j c k r q sent
     sent-unread k v q e g t =
         let P : Copy → Bool = λ m. way k (eqb r) (eqb q) m && not (m .consumed) in
         let x = on-way Q r (n B) j c k (eqb r) (eqb q) P (λ l v q. and-true _) (b j c) in
-        let y : (eqb r r && isSome (own k (b j c))) ≡ true =
-        true-of _ (and-mk (eqb r r) _ (eqb-refl r) (isSome-of _ v (ap (own k) it ∙ e))) in
+        let y : (eqb r r && isSome (outgoing k (b j c))) ≡ true =
+        true-of _ (and-mk (eqb r r) _ (eqb-refl r) (isSome-of _ v (ap (outgoing k) it ∙ e))) in
         let z : copiesOf j c P (againOn Q r (n B) j c (b j c)) ≡ count (λ i. Q i && eqb q i) (n B) = rw y at x in
         omega (
           arith,
@@ -255,7 +255,7 @@ module _ (B : Wall) (j c : ℕ) where
         )
 
   -- a house returns
-  pub comes-inv : (s : State) (r : ℕ) → T (right B r) → Inv B j c (view j c s) → Inv B j c (view j c (comes B r s))
+  pub comes-inv : (s : State) (r : ℕ) → T (isHonest B r) → Inv B j c (view j c s) → Inv B j c (view j c (comes B r s))
   unfolding comes
   comes-inv s r g₀ I =
       record {
@@ -273,7 +273,7 @@ module _ (B : Wall) (j c : ℕ) where
             tally-append (λ m. onIt j c m && way k F Q m) (s .mail) new,
             I .post .at-most k F Q,
             sent-way u (I .books) all r b refl k F Q,
-            back-burden (s .power) (n B) r Q (λ p. F p && isSome (own k (u .house p))) (below r g₀),
+            back-burden (s .power) (n B) r Q (λ p. F p && isSome (outgoing k (u .house p))) (below r g₀),
           );
           reaches = reaches′;
           brought = λ k p q y g. omega (arith, more-came j c k p q (s .mail) new, I .post .brought k p q y g);
@@ -302,7 +302,7 @@ module _ (B : Wall) (j c : ℕ) where
           let P : Request → Bool = λ m. (eqb q (m .from) && eqb p (m .to)) && not (m .consumed) in
           omega (arith, tally-append P (w .requests) (each (λ q. requestTo r q ∷ []) (n B)), requests-to P r (n B))
 
-      pending′ : (p q : ℕ) → T (right B q) → w .helped p q + asking q p (back w (n B) r .requests) ≤ back w (n B) r .returned q
+      pending′ : (p q : ℕ) → T (isHonest B q) → w .helped p q + asking q p (back w (n B) r .requests) ≤ back w (n B) r .returned q
       pending′ p q g =
           bcase (eqb q r)
           (λ t. let z : q ≡ r = eqb→eq q r (T-of t) in
@@ -323,7 +323,7 @@ module _ (B : Wall) (j c : ℕ) where
             count-none (λ i. (eqb q r && eqb p i) && true) (n B) (λ i l. rw t),
           ))
 
-      reaches′ : Limited B (back w (n B) r) → (k : Kind) (p q : ℕ) (v : Decl) → own k (u .house p) ≡ some v → T (right B q)
+      reaches′ : Limited B (back w (n B) r) → (k : Kind) (p q : ℕ) (v : Decl) → outgoing k (u .house p) ≡ some v → T (isHonest B q)
           → Reached (view j c (comes B r s)) k p q
       reaches′ L k p q v e g =
           bcase (eqb q r)
@@ -356,18 +356,18 @@ module _ (B : Wall) (j c : ℕ) where
     pub books : Books B j c (view j c s)
     pub truthful : copiesOf j c (λ m. not (true-to (view j c s .house) m)) (s .mail) ≡ 0
     pub at-least : (k : Kind) (F Q : ℕ → Bool)
-        → count Q (n B) * count (λ p. F p && isSome (own k (view j c s .house p))) (n B) ≤ copiesOf j c (way k F Q) (s .mail)
+        → count Q (n B) * count (λ p. F p && isSome (outgoing k (view j c s .house p))) (n B) ≤ copiesOf j c (way k F Q) (s .mail)
     pub at-most : (k : Kind) (F Q : ℕ → Bool)
-        → copiesOf j c (way k F Q) (s .mail) ≤ burden (s .power) (n B) Q (λ p. F p && isSome (own k (view j c s .house p)))
-    pub almost : Limited B (s .power) → (k : Kind) (p₂ q : ℕ) (v : Decl) → own k (view j c s .house p₂) ≡ some v → T (right B q)
+        → copiesOf j c (way k F Q) (s .mail) ≤ burden (s .power) (n B) Q (λ p. F p && isSome (outgoing k (view j c s .house p)))
+    pub almost : Limited B (s .power) → (k : Kind) (p₂ q : ℕ) (v : Decl) → outgoing k (view j c s .house p₂) ≡ some v → T (isHonest B q)
         → ((p₂ ≡ r) × (q ≡ p) → ⊥) → Reached (view j c s) k p₂ q
-    pub brought : (k : Kind) (p₂ q : ℕ) → T (may j k p₂) → T (right B p₂)
+    pub brought : (k : Kind) (p₂ q : ℕ) → T (may j k p₂) → T (isHonest B p₂)
         → bit (isSome (heard k p₂ (view j c s .house q))) ≤ came j c k p₂ q (s .mail)
     pub helping : Helping B j c (s .power)
     -- an honest asker has a return for each help and each request, and one more
-    pub room : T (right B p) → suc (s .power .helped r p + asking p r (s .power .requests)) ≤ s .power .returned p
+    pub room : T (isHonest B p) → suc (s .power .helped r p + asking p r (s .power .requests)) ≤ s .power .returned p
 
-  module _ (s : State) (r p : ℕ) (g₀ : T (right B r)) (N : Nearly s r p) where
+  module _ (s : State) (r p : ℕ) (g₀ : T (isHonest B r)) (N : Nearly s r p) where
     w : Power
     w = s .power
 
@@ -402,7 +402,7 @@ module _ (B : Wall) (j c : ℕ) where
               tally-append (λ m. onIt j c m && way k F Q m) (s .mail) new,
               N .at-most k F Q,
               sent-way u (N .books) (eqb p) r b refl k F Q,
-              aid-burden w (n B) r Q p (below r g₀) l (λ p. F p && isSome (own k (u .house p))),
+              aid-burden w (n B) r Q p (below r g₀) l (λ p. F p && isSome (outgoing k (u .house p))),
             );
             reaches = reaches′;
             brought = λ k x y z g. omega (arith, more-came j c k x y (s .mail) new, N .brought k x y z g);
@@ -416,17 +416,17 @@ module _ (B : Wall) (j c : ℕ) where
             (upd-all (λ y z. z ≤ B .limit) (w .helped r) p (suc (w .helped r p)) (omega arith) (N .helping .limited r) y)
             (λ x. N .helping .limited x y) x
 
-        pending′ : (x y : ℕ) → T (right B y) → oneMore (w .helped) r p x y + asking y x (w .requests) ≤ w .returned y
+        pending′ : (x y : ℕ) → T (isHonest B y) → oneMore (w .helped) r p x y + asking y x (w .requests) ≤ w .returned y
         pending′ x y g =
             upd-all (λ x f. f y + asking y x (w .requests) ≤ w .returned y) (w .helped) r (upd (w .helped r) p (suc (w .helped r p)))
-            (upd-all (λ y z. T (right B y) → z + asking y r (w .requests) ≤ w .returned y) (w .helped r) p (suc (w .helped r p))
+            (upd-all (λ y z. T (isHonest B y) → z + asking y r (w .requests) ≤ w .returned y) (w .helped r) p (suc (w .helped r p))
             (λ g. omega (arith, N .room g)) (λ y g. N .helping .pending r y g) y g)
             (λ x. N .helping .pending x y g) x
 
         more : (k : Kind) (x y : ℕ) → unread j c k x y (s .mail ++ new) ≡ unread j c k x y (s .mail) + unread j c k x y new
         more k x y = tally-append (λ m. onIt j c m && (way k (eqb x) (eqb y) m && not (m .consumed))) (s .mail) new
 
-        reaches′ : Limited B w → (k : Kind) (x y : ℕ) (v : Decl) → own k (u .house x) ≡ some v → T (right B y)
+        reaches′ : Limited B w → (k : Kind) (x y : ℕ) (v : Decl) → outgoing k (u .house x) ≡ some v → T (isHonest B y)
             → Reached (view j c aided) k x y
         reaches′ L k x y v e g =
             bcase (eqb x r && eqb y p)
@@ -455,7 +455,7 @@ module _ (B : Wall) (j c : ℕ) where
                 at-least = N .at-least;
                 at-most = N .at-most;
                 reaches = λ L k x y v e g. N .almost L k x y v e g (λ d.
-                    let h : T (right B p) = rw (d .1) at g in
+                    let h : T (isHonest B p) = rw (d .1) at g in
                     f (help-passes (n B) (B .limit) p (w .helped r p) (below p h) (omega (arith, N .room h, L p h))));
                 brought = N .brought;
               };
@@ -469,7 +469,7 @@ module _ (B : Wall) (j c : ℕ) where
         go false t = refused (λ e. T-not-of t (rw e tt))
 
   -- a request from a wrong house
-  pub pleaded : (s : State) (r p : ℕ) → (T (right B p) → ⊥) → Inv B j c (view j c s) → Nearly s r p
+  pub pleaded : (s : State) (r p : ℕ) → (T (isHonest B p) → ⊥) → Inv B j c (view j c s) → Nearly s r p
   pleaded s r p f I =
       record {
         books = I .books;
@@ -489,18 +489,18 @@ module _ (B : Wall) (j c : ℕ) where
         ≡ asking q p (s .power .requests)
     less = asking-less (s .power .requests) i m e₀
 
-    almost′ : Limited B (s .power) → (k : Kind) (x y : ℕ) (v : Decl) → own k (view j c s .house x) ≡ some v → T (right B y)
-        → ((x ≡ m .to) × (y ≡ m .from) → ⊥) → Reached (view j c (taken i s)) k x y
+    almost′ : Limited B (s .power) → (k : Kind) (x y : ℕ) (v : Decl) → outgoing k (view j c s .house x) ≡ some v → T (isHonest B y)
+        → ((x ≡ m .to) × (y ≡ m .from) → ⊥) → Reached (view j c (requestTaken i s)) k x y
     almost′ L k x y v e g f =
         bcase (eqb y (m .from) && eqb x (m .to))
         (λ t. absurd (f (eqb→eq x (m .to) (and-r (eqb y (m .from)) _ (T-of t)), eqb→eq y (m .from) (and-l (eqb y (m .from)) _ (T-of t)))))
         (λ t. let z : bit ((eqb y (m .from) && eqb x (m .to)) && not (m .consumed)) ≡ 0 = rw t in
         omega (arith, less y x, I .post .reaches L k x y v e g))
 
-    helping′ : Helping B j c (taken i s .power)
+    helping′ : Helping B j c (requestTaken i s .power)
     helping′ = record { limited = I .helping .limited; pending = λ x y g. omega (arith, less y x, I .helping .pending x y g) }
 
-    pub taken-nearly : m .consumed ≡ false → Nearly (taken i s) (m .to) (m .from)
+    pub taken-nearly : m .consumed ≡ false → Nearly (requestTaken i s) (m .to) (m .from)
     taken-nearly un =
         record {
           books = books-stay B j c (view j c s) _ _ (I .books);
@@ -518,7 +518,7 @@ module _ (B : Wall) (j c : ℕ) where
         }
 
     -- at a house that is down
-    pub taken-inv : s .power .down (m .to) ≡ true → Inv B j c (view j c (taken i s))
+    pub taken-inv : s .power .down (m .to) ≡ true → Inv B j c (view j c (requestTaken i s))
     taken-inv d =
         record {
           books = books-stay B j c (view j c s) _ _ (I .books);

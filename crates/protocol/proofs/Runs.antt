@@ -8,12 +8,13 @@ use native.Mathlib.Omega.{arith}
 use lib.Dec.{T, T-not, eqb, eqb→eq}
 use Rattle.card.specs.Count.{bit, count}
 use Rattle.card.proofs.Counting.{count-none}
-use Rattle.entry.specs.Entry.{Decl, Kind, SEND, ECHO, READY, Entry, fresh, heard, own, isSome, upd, sameEntry}
+use Rattle.entry.specs.Entry.{Decl, Kind, SEND, ECHO, READY, Entry, fresh, heard, outgoing, isSome, sameEntry}
+use Rattle.entry.specs.Lists.{upd, at}
 use Rattle.protocol.specs.Steps.{Out}
 use Rattle.protocol.specs.Book.{Call, publishing, receiving, senderOf, numberOf}
 use Rattle.protocol.specs.Run.{n, isUp, Wall, Copy, Request, State, Step, publish, consume, wrong, crash, comeback, help, plead}
-use Rattle.protocol.specs.Run.{right, start, at, consumedCopy, consumeAt, posted, opens, called, arrives, consumes, comes, helpAnswer}
-use Rattle.protocol.specs.Run.{helps, taken, asked, underWrong, step, run, onIt, copiesOf}
+use Rattle.protocol.specs.Run.{isHonest, start, consumedCopy, consumeAt, posted, callOf, called, arrives, consumes, comes, helpAnswer}
+use Rattle.protocol.specs.Run.{helps, requestTaken, asked, underWrong, step, run, onIt, copiesOf}
 use Rattle.entry.proofs.Basics.{bcase, T-of, false-of, and-l, and-r, and-false, none-some}
 use Rattle.protocol.proofs.Basics.{Heeded}
 use Rattle.protocol.proofs.Mail.{tally-append, tally-change}
@@ -70,7 +71,7 @@ module _ (B : Wall) (j c : ℕ) (Ψ : (ℕ → Entry) → Type 0)
   if-holds true s₂ s₃ f g = f refl
   if-holds false s₂ s₃ f g = g refl
 
-  helps-holds : (r p : ℕ) (s s₂ : State) → T (right B r) → Ψ (view j c s₂ .house) → Nearly B j c s₂ r p → Holds (helps B r p s₂)
+  helps-holds : (r p : ℕ) (s s₂ : State) → T (isHonest B r) → Ψ (view j c s₂ .house) → Nearly B j c s₂ r p → Holds (helps B r p s₂)
   unfolding helps
   helps-holds r p s s₂ g z N =
       (helps-inv B j c s₂ r p g N, same (eqb (helpAnswer (n B) (B .limit) p (s₂ .power .helped r p)) 0) _ s₂ z z)
@@ -83,7 +84,7 @@ module _ (B : Wall) (j c : ℕ) (Ψ : (ℕ → Entry) → Type 0)
   unfolding step consumes arrives asked comes
   step-holds (publish r c₂ v) s H =
       if-holds (isUp B s r) _ s
-      (λ t. call-holds r (publishing c₂ v) s (s .mail) (plain-act B r (publishing c₂ v) s (and-l (right B r) _ (T-of t)) (λ k p w b g. b))
+      (λ t. call-holds r (publishing c₂ v) s (s .mail) (plain-act B r (publishing c₂ v) s (and-l (isHonest B r) _ (T-of t)) (λ k p w b g. b))
       (λ t P. refl) H)
       (λ t. H)
   step-holds (consume i) s H = go (at (s .mail) i) refl
@@ -99,39 +100,39 @@ module _ (B : Wall) (j c : ℕ) (Ψ : (ℕ → Entry) → Type 0)
       go : (x : Option Copy) → at (s .mail) i ≡ x → Holds (consumes B i x s)
       go none e = H
       go (some m) e =
-          if-holds (right B (m .to) && not (m .consumed)) _ s
+          if-holds (isHonest B (m .to) && not (m .consumed)) _ s
           (λ t. if-holds (s .power .down (m .to)) _ _
           (λ d. (lost-inv B j c (view j c s) i m e d (H .0), H .1))
-          (λ d. call-holds (m .to) (opens m) s (consumeAt (s .mail) i)
-          (consumption B s i m e (and-l (right B (m .to)) _ (T-of t)))
+          (λ d. call-holds (m .to) (callOf m) s (consumeAt (s .mail) i)
+          (consumption B s i m e (and-l (isHonest B (m .to)) _ (T-of t)))
           (unused m e) H))
           (λ t. H)
   step-holds (wrong p r k j₂ c₂ v) s H =
       if-holds (underWrong B s p r) _ s
       (λ t. call-holds r (receiving p k j₂ c₂ v) s (s .mail)
-      (plain-act B r (receiving p k j₂ c₂ v) s (and-l (right B r) _ (and-l (isUp B s r) _ (T-of t)))
-      (λ l q w b g. T-not (right B p) (and-r (isUp B s r) _ (T-of t)) (rw (b .1) at g)))
+      (plain-act B r (receiving p k j₂ c₂ v) s (and-l (isHonest B r) _ (and-l (isUp B s r) _ (T-of t)))
+      (λ l q w b g. T-not (isHonest B p) (and-r (isUp B s r) _ (T-of t)) (rw (b .1) at g)))
       (λ t P. refl) H)
       (λ t. H)
   step-holds (crash r) s H = if-holds (isUp B s r) _ s (λ t. (crash-inv B j c (view j c s) r (H .0), H .1)) (λ t. H)
   step-holds (comeback r) s H =
-      if-holds (right B r && s .power .down r) _ s
-      (λ t. (comes-inv B j c s r (and-l (right B r) _ (T-of t)) (H .0), H .1)) (λ t. H)
+      if-holds (isHonest B r && s .power .down r) _ s
+      (λ t. (comes-inv B j c s r (and-l (isHonest B r) _ (T-of t)) (H .0), H .1)) (λ t. H)
   step-holds (help i) s H = go (at (s .power .requests) i) refl
     where
       go : (x : Option Request) → at (s .power .requests) i ≡ x → Holds (asked B i x s)
       go none e = H
       go (some m) e =
-          if-holds (right B (m .to) && not (m .consumed)) _ s
+          if-holds (isHonest B (m .to) && not (m .consumed)) _ s
           (λ t. if-holds (s .power .down (m .to)) _ _
           (λ d. (taken-inv B j c s i m e (H .0) d, H .1))
-          (λ d. helps-holds (m .to) (m .from) s (taken i s) (and-l (right B (m .to)) _ (T-of t)) (H .1)
-          (taken-nearly B j c s i m e (H .0) (false-of (m .consumed) (and-r (right B (m .to)) _ (T-of t))))))
+          (λ d. helps-holds (m .to) (m .from) s (requestTaken i s) (and-l (isHonest B (m .to)) _ (T-of t)) (H .1)
+          (taken-nearly B j c s i m e (H .0) (false-of (m .consumed) (and-r (isHonest B (m .to)) _ (T-of t))))))
           (λ t. H)
   step-holds (plead p r) s H =
       if-holds (underWrong B s p r) _ s
-      (λ t. helps-holds r p s s (and-l (right B r) _ (and-l (isUp B s r) _ (T-of t))) (H .1)
-      (pleaded B j c s r p (T-not (right B p) (and-r (isUp B s r) _ (T-of t))) (H .0)))
+      (λ t. helps-holds r p s s (and-l (isHonest B r) _ (and-l (isUp B s r) _ (T-of t))) (H .1)
+      (pleaded B j c s r p (T-not (isHonest B p) (and-r (isUp B s r) _ (T-of t))) (H .0)))
       (λ t. H)
 
   run-holds : (l : List Step) (s : State) → Holds s → Holds (run B l s)
@@ -142,7 +143,7 @@ module _ (B : Wall) (j c : ℕ) (Ψ : (ℕ → Entry) → Type 0)
   pub holds-from-start : Ψ (λ r. fresh) → (l : List Step) → Holds (run B l start)
   holds-from-start z l = run-holds l start (start-inv, z)
     where
-      fresh-own : (k : Kind) → own k fresh ≡ none
+      fresh-own : (k : Kind) → outgoing k fresh ≡ none
       fresh-own SEND = refl
       fresh-own ECHO = refl
       fresh-own READY = refl
@@ -155,7 +156,7 @@ module _ (B : Wall) (j c : ℕ) (Ψ : (ℕ → Entry) → Type 0)
       unheeded : (m : ℕ) (o : Option Decl) → Heeded m (n B) (λ p. none) o
       unheeded m o v a = absurd (omega (arith, count-none (λ p. false) (n B) (λ i l. refl)))
 
-      unsaid : (k : Kind) (F : ℕ → Bool) → count (λ p. F p && isSome (own k fresh)) (n B) ≡ 0
+      unsaid : (k : Kind) (F : ℕ → Bool) → count (λ p. F p && isSome (outgoing k fresh)) (n B) ≡ 0
       unsaid k F = count-none _ (n B) (λ i l. and-false (F i) _ (ap isSome (fresh-own k)))
 
       start-inv : Inv B j c (view j c start)
@@ -170,7 +171,7 @@ module _ (B : Wall) (j c : ℕ) (Ψ : (ℕ → Entry) → Type 0)
                 delivery-backed = λ v e. absurd (none-some none v refl e);
                 delivery-ok = λ v e. absurd (none-some none v refl e);
               };
-              owner = λ p k v e. absurd (none-some (own k fresh) v (fresh-own k) e);
+              owner = λ p k v e. absurd (none-some (outgoing k fresh) v (fresh-own k) e);
               given = λ r k p v e m g. absurd (none-some (heard k p fresh) v (fresh-heard k p) e);
               delivered = λ r. refl;
               published = λ r. refl;
@@ -179,7 +180,7 @@ module _ (B : Wall) (j c : ℕ) (Ψ : (ℕ → Entry) → Type 0)
               truthful = refl;
               at-least = λ k F Q. rw (unsaid k F) (omega arith);
               at-most = λ k F Q. omega arith;
-              reaches = λ L k p q v e g. absurd (none-some (own k fresh) v (fresh-own k) e);
+              reaches = λ L k p q v e g. absurd (none-some (outgoing k fresh) v (fresh-own k) e);
               brought = λ k p q m g. rw (fresh-heard k p) (omega arith);
             };
             helping = record { limited = λ p q. omega arith; pending = λ p q g. omega arith };

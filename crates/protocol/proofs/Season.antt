@@ -11,8 +11,9 @@ use Rattle.card.specs.Count.{bit, count}
 use Rattle.card.proofs.Counting.{count-not, count-pos}
 use Rattle.card.proofs.Overlap.{quorum-more}
 use Rattle.entry.specs.Entry.{Decl, SEND}
-use Rattle.protocol.specs.Run.{n, Wall, State, Step, right, isWrong, isUp, h, start, run, at, tally, onIt, isBetween, copiesOf}
-use Rattle.protocol.specs.Run.{upCopy, upRequest, Drained, Limited}
+use Rattle.protocol.specs.Run.{n, Wall, State, Step, isHonest, isWrong, isUp, h, start, run, onIt, isBetween, copiesOf, upCopy}
+use Rattle.protocol.specs.Run.{upRequest, Drained, Limited}
+use Rattle.entry.specs.Lists.{at, tally}
 use Rattle.protocol.specs.Thresholds.{rulesOf, wallOf, AtMost, Tolerated, TakePart, downs}
 use Rattle.protocol.specs.Claims.{Agreed, Complete, Exact, Delivered, Published, Everywhere, Season, Claims}
 use Rattle.entry.proofs.Basics.{bcase, T-of, not-of, and-l, and-r, and-mk, none-some}
@@ -81,19 +82,19 @@ module _ (B : Wall) (j c t : ℕ) (s : State)
               nothing : (o : Option Decl) → v .house r .delivered ≡ o → listOf (v .house r .delivered) ≡ []
               nothing none d = ap listOf d
               nothing (some x) d =
-                  absurd (none-some _ x e (deliver-authentic B t Y j c v (I .books) K (and-l (right B j) _ g) r x d))
+                  absurd (none-some _ x e (deliver-authentic B t Y j c v (I .books) K (and-l (isHonest B j) _ g) r x d))
           equal′ g r y (some x) e = let p = I .books .published j ∙ ap listOf e in full g x p r y ∙ sym p
 
     -- 01's exact counts, where no house returned and none is down
     module _ (still : B .limit ≡ 0) (high : downs B s ≡ 0) where
-      up : (r : ℕ) → T (right B r) → T (isUp B s r)
+      up : (r : ℕ) → T (isHonest B r) → T (isUp B s r)
       up r g =
-          and-mk (right B r) _ g (bcase (s .power .down r)
+          and-mk (isHonest B r) _ g (bcase (s .power .down r)
           (λ t. absurd (omega (
             arith,
             high,
-            count-pos (λ p. right B p && s .power .down p) (n B) r (ltb→lt r (n B) (and-l (ltb r (n B)) _ g))
-                (and-mk (right B r) _ g (T-of t)),
+            count-pos (λ p. isHonest B p && s .power .down p) (n B) r (ltb→lt r (n B) (and-l (ltb r (n B)) _ g))
+                (and-mk (isHonest B r) _ g (T-of t)),
           )))
           (λ t. not-of (s .power .down r) t))
 
@@ -101,7 +102,7 @@ module _ (B : Wall) (j c t : ℕ) (s : State)
       no-requests =
           tally-nothing _ (s .power .requests) (λ i m e t.
           let t₁ = and-l (upRequest B s m) _ t in
-          let g = and-l (right B (m .from)) _ (and-l (isUp B s (m .from)) _ t₁) in
+          let g = and-l (isHonest B (m .from)) _ (and-l (isUp B s (m .from)) _ t₁) in
           omega (
             arith,
             L (m .from) g,
@@ -111,7 +112,7 @@ module _ (B : Wall) (j c t : ℕ) (s : State)
                 (and-mk (eqb (m .from) (m .from)) _ (eqb-refl (m .from)) (eqb-refl (m .to))) (and-r (upRequest B s m) _ t)),
           ))
 
-      costs : (F Q : ℕ → Bool) → ((p : ℕ) → T (right B p) → T (F p)) → Drained B j c s → T (right B j) → (x : Decl)
+      costs : (F Q : ℕ → Bool) → ((p : ℕ) → T (isHonest B p) → T (F p)) → Drained B j c s → T (isHonest B j) → (x : Decl)
           → Published B j c s x → copiesOf j c (λ m. F (m .from) && Q (m .to)) (s .mail) ≡ count Q (n B) + 2 * (h B * count Q (n B))
       costs F Q f D g x e =
           cost-is B j c v I still L F Q x f g (published-is x e)
@@ -131,8 +132,8 @@ module _ (B : Wall) (j c t : ℕ) (s : State)
                   let t₂ = and-l (upCopy B s m) _ t₁ in
                   and-mk (onIt j c m) _ (and-l (onIt j c m) _ t)
                   (and-mk (isBetween B m) _
-                  (and-mk (right B (m .from)) _ (and-l (right B (m .from)) _ (and-l (isUp B s (m .from)) _ t₂))
-                  (and-l (right B (m .to)) _ (and-r (isUp B s (m .from)) _ t₂)))
+                  (and-mk (isHonest B (m .from)) _ (and-l (isHonest B (m .from)) _ (and-l (isUp B s (m .from)) _ t₂))
+                  (and-l (isHonest B (m .to)) _ (and-r (isUp B s (m .from)) _ t₂)))
                   (and-r (upCopy B s m) _ t₁))),
             );
             requests = no-requests;
@@ -145,10 +146,10 @@ module _ (B : Wall) (j c t : ℕ) (s : State)
             by-count = λ g x e l. full (all-consumed (omega (
               arith,
               copies-split j c (isBetween B) (λ m. m .consumed) (s .mail),
-              sent-le B j c v I (right B) (right B) still L,
+              sent-le B j c v I (isHonest B) (isHonest B) still L,
             ))) (up j g) x e;
             cost = λ D g x e. rw (count-all (n B)) at (costs (λ p. true) (λ q. true) (λ p y. tt) D g x e);
-            cost-between = costs (right B) (right B) (λ p y. y);
+            cost-between = costs (isHonest B) (isHonest B) (λ p y. y);
             all-readies = λ D q x e. readies-are B j c v I still L x (λ r y. followed D q x e r (up r y));
           }
 
@@ -202,8 +203,8 @@ module _ (n t f d numbers : ℕ) (ok : Decl → Bool) (honest : ℕ → Bool) (f
         arith,
         few,
         low,
-        count-or (λ p. not (isUp B s p)) (isWrong B) (λ p. right B p && s .power .down p) n
-            (λ p l. lacking (right B p) (s .power .down p)),
+        count-or (λ p. not (isUp B s p)) (isWrong B) (λ p. isHonest B p && s .power .down p) n
+            (λ p l. lacking (isHonest B p) (s .power .down p)),
       ) in
       record {
         delivered = omega (arith, out);

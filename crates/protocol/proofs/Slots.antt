@@ -5,11 +5,12 @@ use mathlib.Core.Option.{Option, none, some}
 use mathlib.Core.List.{List, [], _∷_}
 use Prim.Native.Nat.{ℕ}
 use lib.Dec.{eqb, eqb→eq}
-use Rattle.entry.specs.Entry.{PerEntry, sameEntry, place, Filled}
+use Rattle.entry.specs.Entry.{PerEntry, sameEntry, putAt, Filled}
 use Rattle.protocol.specs.Book.{Book, Call, publishing, receiving, senderOf, numberOf, outcome, after}
-use Rattle.protocol.specs.Run.{n, Wall, Copy, Request, State, Step, publish, consume, wrong, crash, comeback, help, plead, right}
-use Rattle.protocol.specs.Run.{isUp, at, consumeAt, opens, called, arrives, consumes, comes, helpAnswer, helps, taken, asked}
+use Rattle.protocol.specs.Run.{n, Wall, Copy, Request, State, Step, publish, consume, wrong, crash, comeback, help, plead, isHonest}
+use Rattle.protocol.specs.Run.{isUp, consumeAt, callOf, called, arrives, consumes, comes, helpAnswer, helps, requestTaken, asked}
 use Rattle.protocol.specs.Run.{underWrong, step, run}
+use Rattle.entry.specs.Lists.{at}
 use Rattle.entry.proofs.Basics.{T-of, and-l, and-r, upd-all}
 use Rattle.entry.proofs.Filled.{filled-refl, filled-trans}
 use Rattle.protocol.proofs.Calls.{outcome-done}
@@ -19,7 +20,7 @@ abbrev Fills : State → State → Type 0
 Fills s s₂ = (r j c : ℕ) → Filled (s .gave .books r j c) (s₂ .gave .books r j c)
 
 place-all : {A : Type 0} (Φ : A → A → Type 0) (b : PerEntry A) (j c : ℕ) (x : A) → ((y : A) → Φ y y) → Φ (b j c) x → (j₂ c₂ : ℕ)
-    → Φ (b j₂ c₂) (place b j c x j₂ c₂)
+    → Φ (b j₂ c₂) (putAt b j c x j₂ c₂)
 place-all {A = A} Φ b j c x f g j₂ c₂ = go (sameEntry j c j₂ c₂) refl
   where
     go : (y : Bool) → sameEntry j c j₂ c₂ ≡ y → Φ (b j₂ c₂) (cond y x (b j₂ c₂))
@@ -57,20 +58,20 @@ module _ (B : Wall) where
       go : (x : Option Copy) → Fills s (consumes B i x s)
       go none = same-fills s
       go (some m) =
-          if-fills (right B (m .to) && not (m .consumed)) s _ s
-          (if-fills (s .power .down (m .to)) s _ _ (same-fills s) (called-fills (m .to) (opens m) s (consumeAt (s .mail) i)))
+          if-fills (isHonest B (m .to) && not (m .consumed)) s _ s
+          (if-fills (s .power .down (m .to)) s _ _ (same-fills s) (called-fills (m .to) (callOf m) s (consumeAt (s .mail) i)))
           (same-fills s)
   step-fills (wrong p r k j c v) s =
       if-fills (underWrong B s p r) s _ s (called-fills r (receiving p k j c v) s (s .mail)) (same-fills s)
   step-fills (crash r) s = if-fills (isUp B s r) s _ s (same-fills s) (same-fills s)
-  step-fills (comeback r) s = if-fills (right B r && s .power .down r) s _ s (same-fills s) (same-fills s)
+  step-fills (comeback r) s = if-fills (isHonest B r && s .power .down r) s _ s (same-fills s) (same-fills s)
   step-fills (help i) s = go (at (s .power .requests) i)
     where
       go : (x : Option Request) → Fills s (asked B i x s)
       go none = same-fills s
       go (some m) =
-          if-fills (right B (m .to) && not (m .consumed)) s _ s
-          (if-fills (s .power .down (m .to)) s _ _ (same-fills s) (helps-fills (m .to) (m .from) (taken i s))) (same-fills s)
+          if-fills (isHonest B (m .to) && not (m .consumed)) s _ s
+          (if-fills (s .power .down (m .to)) s _ _ (same-fills s) (helps-fills (m .to) (m .from) (requestTaken i s))) (same-fills s)
   step-fills (plead p r) s = if-fills (underWrong B s p r) s _ s (helps-fills r p s) (same-fills s)
 
   pub run-fills : (l : List Step) (s : State) → Fills s (run B l s)

@@ -7,7 +7,7 @@ use Prim.Native.Nat.{ℕ, zero, suc, _+_, _*_, _≤_, _<_}
 use native.Mathlib.Omega.{arith}
 use native.Mathlib.Decide.{ℕ-discrete}
 use Rattle.card.specs.Count.{bit, count}
-use Rattle.protocol.specs.Run.{each, tally}
+use Rattle.entry.specs.Lists.{each, tally}
 use Rattle.protocol.proofs.Mail.{tally-append}
 
 abbrev pub total : (ℕ → ℕ) → ℕ → ℕ

@@ -8,8 +8,8 @@ use native.Mathlib.Omega.{arith}
 use lib.Dec.{T, eqb, ltb, eqb→eq, ltb→lt}
 use Rattle.card.specs.Count.{bit, count}
 use Rattle.card.proofs.Counting.{count-mono, count-and, count-not, count-pos}
-use Rattle.entry.specs.Entry.{Decl, Kind, SEND, ECHO, READY, heard, own, isKind, isSome, holds, votes}
-use Rattle.protocol.specs.Run.{n, Wall, Copy, Request, State, Limited, Drained, right, isUp, upCopy, upRequest, h, onIt, copiesOf}
+use Rattle.entry.specs.Entry.{Decl, Kind, SEND, ECHO, READY, heard, outgoing, sameKind, isSome, holds, votes}
+use Rattle.protocol.specs.Run.{n, Wall, Copy, Request, State, Limited, Drained, isHonest, isUp, upCopy, upRequest, h, onIt, copiesOf}
 use Rattle.protocol.specs.Thresholds.{Tolerated, TakePart}
 use Rattle.entry.proofs.Basics.{false-of, and-l, and-r, and-mk, holds-eq, eq-holds, some-of, isSome-of}
 use Rattle.protocol.proofs.Mail.{tally-mono}
@@ -19,7 +19,7 @@ use Rattle.protocol.proofs.Views.{view}
 use Rattle.protocol.proofs.Agreement.{Backed, deliver-ready-agree, ready-authentic}
 use Rattle.protocol.proofs.Bound.{count-all, readies-way, gave, gave-le, gave-send, way-le, no-more, kinds-ge, sent-le}
 
-below : (B : Wall) (p : ℕ) → T (right B p) → p < n B
+below : (B : Wall) (p : ℕ) → T (isHonest B p) → p < n B
 below B p g = ltb→lt p (n B) (and-l (ltb p (n B)) (B .honest p) g)
 
 module _ (B : Wall) (t : ℕ) (Y : Tolerated B t) (j c : ℕ) (s : State) (I : Inv B j c (view j c s))
@@ -32,18 +32,18 @@ module _ (B : Wall) (t : ℕ) (Y : Tolerated B t) (j c : ℕ) (s : State) (I : I
 
   module _ (Z : TakePart B (isUp B s)) (L : Limited B (s .power)) (drained : Drained B j c s) where
     -- what a house that is up gave, all that are up heard
-    pub reach : (p : ℕ) (k : Kind) (v : Decl) → own k (v₀ .house p) ≡ some v → T (up p) → (r : ℕ) → T (up r)
+    pub reach : (p : ℕ) (k : Kind) (v : Decl) → outgoing k (v₀ .house p) ≡ some v → T (up p) → (r : ℕ) → T (up r)
         → heard k p (v₀ .house r) ≡ some v
     reach p k v e u r g =
         let o = I .books .owner p k v e in
         let w = some-of (heard k p (v₀ .house r)) (one (heard k p (v₀ .house r)) (omega (
           arith,
-          I .post .reaches L k p r v e (and-l (right B r) _ g),
+          I .post .reaches L k p r v e (and-l (isHonest B r) _ g),
           tally-mono (λ m. onIt j c m && (way k (eqb p) (eqb r) m && not (m .consumed)))
               (λ m. onIt j c m && (upCopy B s m && not (m .consumed))) (s .mail) unread-up,
           drained .copies,
-          ap bit (false-of (s .power .down r) (and-r (right B r) _ g)),
-          ap bit (false-of (s .power .down p) (and-r (right B p) _ u)),
+          ap bit (false-of (s .power .down r) (and-r (isHonest B r) _ g)),
+          ap bit (false-of (s .power .down p) (and-r (isHonest B p) _ u)),
           tally-mono (λ m. (eqb r (m .from) && eqb p (m .to)) && not (m .consumed))
               (λ m. upRequest B s m && not (m .consumed)) (s .power .requests) asking-up,
           drained .requests,
@@ -58,7 +58,7 @@ module _ (B : Wall) (t : ℕ) (Y : Tolerated B t) (j c : ℕ) (s : State) (I : I
             → T (onIt j c m && (upCopy B s m && not (m .consumed)))
         unread-up m t =
             let t₁ = and-r (onIt j c m) _ t in
-            let t₂ = and-r (isKind k (m .kind)) _ (and-l (way k (eqb p) (eqb r) m) _ t₁) in
+            let t₂ = and-r (sameKind k (m .kind)) _ (and-l (way k (eqb p) (eqb r) m) _ t₁) in
             let e₁ = eqb→eq p (m .from) (and-l (eqb p (m .from)) _ t₂) in
             let e₂ = eqb→eq r (m .to) (and-r (eqb p (m .from)) _ t₂) in
             and-mk (onIt j c m) _ (and-l (onIt j c m) _ t)
@@ -73,7 +73,7 @@ module _ (B : Wall) (t : ℕ) (Y : Tolerated B t) (j c : ℕ) (s : State) (I : I
             (and-r (eqb r (m .from) && eqb p (m .to)) _ t)
 
     -- what all that take part gave, each of them heard from that many
-    heard-up : (k : Kind) (v : Decl) → ((p : ℕ) → T (up p) → own k (v₀ .house p) ≡ some v) → (r : ℕ) → T (up r)
+    heard-up : (k : Kind) (v : Decl) → ((p : ℕ) → T (up p) → outgoing k (v₀ .house p) ≡ some v) → (r : ℕ) → T (up r)
         → count up (n B) ≤ count (λ p. holds (heard k p (v₀ .house r)) v) (n B)
     heard-up k v f r g =
         count-mono up (λ p. holds (heard k p (v₀ .house r)) v) (n B)
@@ -85,7 +85,7 @@ module _ (B : Wall) (t : ℕ) (Y : Tolerated B t) (j c : ℕ) (s : State) (I : I
         let enough = heard-up ECHO v (λ p y. reach j SEND v e g p y) r x in
         let w = some-of (v₀ .house r .readySent)
         (I .books .local r .echoes-heeded v (omega (arith, enough, Z .echoed, Y .thresholds .quorate))) in
-        w .1 ∙ sym (ready-authentic B t Y j c v₀ (I .books) K (and-l (right B j) _ g) r (w .0) (w .1)) ∙ e
+        w .1 ∙ sym (ready-authentic B t Y j c v₀ (I .books) K (and-l (isHonest B j) _ g) r (w .0) (w .1)) ∙ e
 
     -- a delivery at one honest house: all that take part give a READY of it
     pub delivered-ready-up : (q : ℕ) (v : Decl) → v₀ .house q .delivered ≡ some v → (r : ℕ) → T (up r) → v₀ .house r .readySent ≡ some v
@@ -100,7 +100,7 @@ module _ (B : Wall) (t : ℕ) (Y : Tolerated B t) (j c : ℕ) (s : State) (I : I
         again p y =
             let g = and-r (heard-at-q p) (up p) y in
             let h = holds-eq (v₀ .house q .ready p) v (and-l (heard-at-q p) (up p) y) in
-            eq-holds (v₀ .house r .ready p) v (reach p READY v (I .books .given q READY p v h tt (and-l (right B p) _ g)) g r x)
+            eq-holds (v₀ .house r .ready p) v (reach p READY v (I .books .given q READY p v h tt (and-l (isHonest B p) _ g)) g r x)
 
         enough : B .rules .amplify ≤ votes (v₀ .house r .ready) v (n B)
         enough =
@@ -125,25 +125,25 @@ module _ (B : Wall) (t : ℕ) (Y : Tolerated B t) (j c : ℕ) (s : State) (I : I
 module _ (B : Wall) (j c : ℕ) (s : View) (I : Inv B j c s)
     (still : B .limit ≡ 0) (L : Limited B (s .power)) where
   -- a kind that all honest houses gave, h of them gave
-  gave-all : (k : Kind) (F : ℕ → Bool) (v : Decl) → ((p : ℕ) → T (right B p) → T (F p))
-      → ((p : ℕ) → T (right B p) → own k (s .house p) ≡ some v) → gave B j c s I k F ≡ h B
+  gave-all : (k : Kind) (F : ℕ → Bool) (v : Decl) → ((p : ℕ) → T (isHonest B p) → T (F p))
+      → ((p : ℕ) → T (isHonest B p) → outgoing k (s .house p) ≡ some v) → gave B j c s I k F ≡ h B
   gave-all k F v f g =
       omega (
         arith,
         gave-le B j c s I k F,
-        count-mono (right B) (λ p. F p && isSome (own k (s .house p))) (n B)
-            (λ p l x. and-mk (F p) _ (f p x) (isSome-of (own k (s .house p)) v (g p x))),
+        count-mono (isHonest B) (λ p. F p && isSome (outgoing k (s .house p))) (n B)
+            (λ p l x. and-mk (F p) _ (f p x) (isSome-of (outgoing k (s .house p)) v (g p x))),
       )
 
   -- the sender's message and two of each honest house, to each house that passes Q
-  pub cost-is : (F Q : ℕ → Bool) (v : Decl) → ((p : ℕ) → T (right B p) → T (F p)) → T (right B j) → s .house j .published ≡ some v
-      → ((p : ℕ) → T (right B p) → s .house p .send ≡ some v) → ((p : ℕ) → T (right B p) → s .house p .readySent ≡ some v)
+  pub cost-is : (F Q : ℕ → Bool) (v : Decl) → ((p : ℕ) → T (isHonest B p) → T (F p)) → T (isHonest B j) → s .house j .published ≡ some v
+      → ((p : ℕ) → T (isHonest B p) → s .house p .send ≡ some v) → ((p : ℕ) → T (isHonest B p) → s .house p .readySent ≡ some v)
       → copiesOf j c (λ m. F (m .from) && Q (m .to)) (s .mail) ≡ count Q (n B) + 2 * (h B * count Q (n B))
   cost-is F Q v f g e echo ready =
       let one : gave B j c s I SEND F ≡ 1 = omega (
         arith,
         gave-send B j c s I F,
-        count-pos (λ p. F p && isSome (own SEND (s .house p))) (n B) j (below B j g)
+        count-pos (λ p. F p && isSome (outgoing SEND (s .house p))) (n B) j (below B j g)
             (and-mk (F j) _ (f j g) (isSome-of (s .house j .published) v e)),
       ) in
       let X : ℕ = count Q (n B) in
@@ -152,8 +152,8 @@ module _ (B : Wall) (j c : ℕ) (s : View) (I : Inv B j c s)
       omega (arith, all, kinds-ge B j c s I F Q, sent-le B j c s I F Q still L)
 
   -- a READY of each honest house, to all
-  pub readies-are : (v : Decl) → ((p : ℕ) → T (right B p) → s .house p .readySent ≡ some v)
-      → copiesOf j c (λ m. isKind READY (m .kind)) (s .mail) ≡ h B * n B
+  pub readies-are : (v : Decl) → ((p : ℕ) → T (isHonest B p) → s .house p .readySent ≡ some v)
+      → copiesOf j c (λ m. sameKind READY (m .kind)) (s .mail) ≡ h B * n B
   readies-are v ready =
       let all : n B * gave B j c s I READY (λ p. true) ≡ h B * n B = rw (gave-all READY (λ p. true) v (λ p x. tt) ready) (omega arith) in
       let e : count (λ q. true) (n B) ≡ n B = count-all (n B) in

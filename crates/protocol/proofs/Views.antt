@@ -6,10 +6,11 @@ use mathlib.Core.List.{List, _++_}
 use Prim.Native.Nat.{ℕ}
 use lib.Dec.{T, eqb, eqb→eq}
 use Rattle.card.proofs.Counting.{count-none}
-use Rattle.entry.specs.Entry.{Decl, upd, PerEntry, sameEntry, place}
+use Rattle.entry.specs.Entry.{Decl, PerEntry, sameEntry, putAt}
+use Rattle.entry.specs.Lists.{upd, push}
 use Rattle.protocol.specs.Steps.{Say, say, Out}
-use Rattle.protocol.specs.Book.{Call, inBook, senderOf, numberOf, outcome, after, publication}
-use Rattle.protocol.specs.Run.{n, Wall, Copy, State, posted, push, noted, called, onIt, copiesOf}
+use Rattle.protocol.specs.Book.{Call, inBook, senderOf, numberOf, outcome, after, publication, noted}
+use Rattle.protocol.specs.Run.{n, Wall, Copy, State, posted, called, onIt, copiesOf}
 use Rattle.entry.proofs.Basics.{T-of, true-of, and-l, and-r, upd-all, entry-refl}
 use Rattle.protocol.proofs.Calls.{Done, outcome-done, outcome-booked}
 use Rattle.protocol.proofs.Mail.{tally-toAll}
@@ -31,12 +32,12 @@ with-mail u l = record { house = u .house; deliveries = u .deliveries; publicati
 
 -- house r's table with x at sender j and number c
 abbrev put : {A : Type 0} → (ℕ → PerEntry A) → ℕ → ℕ → ℕ → A → ℕ → PerEntry A
-put f r j c x = upd f r (place (f r) j c x)
+put f r j c x = upd f r (putAt (f r) j c x)
 
 put-here : {A : Type 0} (f : ℕ → PerEntry A) (r j c : ℕ) (x : A) → _≡_ {A = ℕ → A} (λ q. put f r j c x q j c) (upd (λ q. f q j c) r x)
 put-here {A = A} f r j c x = fun-ext λ q. go q (eqb q r)
   where
-    go : (q : ℕ) (b : Bool) → cond b (place (f r) j c x) (f q) j c ≡ cond b x (f q j c)
+    go : (q : ℕ) (b : Bool) → cond b (putAt (f r) j c x) (f q) j c ≡ cond b x (f q j c)
     go q true = rw (true-of (sameEntry j c j c) (entry-refl j c))
     go q false = refl
 
@@ -44,7 +45,7 @@ put-elsewhere : {A : Type 0} (f : ℕ → PerEntry A) (r j₂ c₂ : ℕ) (x : A
     → _≡_ {A = ℕ → A} (λ q. put f r j₂ c₂ x q j c) (λ q. f q j c)
 put-elsewhere {A = A} f r j₂ c₂ x j c e = fun-ext λ q. go q (eqb q r) refl
   where
-    go : (q : ℕ) (b : Bool) → eqb q r ≡ b → cond b (place (f r) j₂ c₂ x) (f q) j c ≡ f q j c
+    go : (q : ℕ) (b : Bool) → eqb q r ≡ b → cond b (putAt (f r) j₂ c₂ x) (f q) j c ≡ f q j c
     go q true t = rw (e, eqb→eq q r (T-of t))
     go q false t = refl
 
@@ -56,9 +57,9 @@ posted-elsewhere j₂ c₂ r (some (say k v)) n j c P e =
 
 -- noting nothing changes nothing
 pub noted-none : (f : ℕ → PerEntry (List Decl)) (r j c : ℕ) → noted f r j c none ≡ f
-noted-none f r j c = fun-ext (λ q. upd-all (λ q x. x ≡ f q) f r (place (f r) j c (f r j c)) same (λ q. refl) q)
+noted-none f r j c = fun-ext (λ q. upd-all (λ q x. x ≡ f q) f r (putAt (f r) j c (f r j c)) same (λ q. refl) q)
   where
-    same : place (f r) j c (f r j c) ≡ f r
+    same : putAt (f r) j c (f r j c) ≡ f r
     same = fun-ext (λ j₂. fun-ext (λ c₂. go j₂ c₂ (sameEntry j c j₂ c₂) refl))
       where
         go : (j₂ c₂ : ℕ) (t : Bool) → sameEntry j c j₂ c₂ ≡ t → cond t (f r j c) (f r j₂ c₂) ≡ f r j₂ c₂

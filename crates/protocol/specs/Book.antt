@@ -3,12 +3,18 @@ use mathlib.Core.Bool.{Bool, cond, _&&_}
 use mathlib.Core.Option.{Option, none, some}
 use Prim.Native.Nat.{ℕ, zero, suc}
 use lib.Dec.{ltb}
-use Rattle.entry.specs.Entry.{Decl, Kind, Entry, PerEntry, place}
+use Rattle.entry.specs.Entry.{Decl, Kind, Entry, PerEntry, putAt}
 use Rattle.protocol.specs.Steps.{Rules, Out, refused, receive, publish}
+use mathlib.Core.List.{List}
+use Rattle.entry.specs.Lists.{upd, push}
 
 -- A book has one entry for each sender and number.
 abbrev pub Book : Type 0
 Book = PerEntry Entry
+
+-- one more declaration, or none, on house r's list for an entry
+abbrev pub noted : (ℕ → PerEntry (List Decl)) → (house sender number : ℕ) → Option Decl → ℕ → PerEntry (List Decl)
+noted f r j c x = upd f r (putAt (f r) j c (push x (f r j c)))
 
 abbrev pub inBook : Rules → ℕ → ℕ → ℕ → Bool
 inBook R numbers j c = ltb j (R .n) && ltb c numbers
@@ -40,7 +46,7 @@ outcome R S own a b =
 
 -- the book after the call
 unfoldable pub after : Rules → (numbers own : ℕ) → Call → Book → Book
-after R S own a b = place b (senderOf own a) (numberOf a) (outcome R S own a b .entry)
+after R S own a b = putAt b (senderOf own a) (numberOf a) (outcome R S own a b .entry)
 
 -- the declaration of an accepted publication
 abbrev pub publication : Call → ℕ → Option Decl

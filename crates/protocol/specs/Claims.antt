@@ -10,8 +10,9 @@ use lib.ListN.{length}
 use Rattle.entry.specs.Entry.{Decl, heard, Filled, Kind}
 use Rattle.protocol.specs.Steps.{Rules, Out}
 use Rattle.protocol.specs.Book.{Book, Call, publishing, senderOf, numberOf, outcome, after}
-use Rattle.protocol.specs.Run.{n, Wall, Copy, State, Step, right, isUp, h, start, run, at, opens, onIt, copies, readies, between}
+use Rattle.protocol.specs.Run.{n, Wall, Copy, State, Step, isHonest, isUp, h, start, run, callOf, onIt, copies, readies, between}
 use Rattle.protocol.specs.Run.{consumedBetween, isBetween, copiesOf, consume, help, Drained, Limited}
+use Rattle.entry.specs.Lists.{at, inTurn}
 use Rattle.protocol.specs.Order.{ReceivingOrder, PublishingOrder}
 use Rattle.protocol.specs.Thresholds.{wallOf, AtMost, Tolerated, TakePart, downs}
 
@@ -26,9 +27,7 @@ pub record Alone (R : Rules) (numbers own : ℕ) (a : Call) : Type 0 where
 
 -- the steps that consume the requests at these places, and then the copies at those
 abbrev pub consumption : (requests copies : List ℕ) → List Step
-consumption [] [] = []
-consumption [] (i ∷ k) = consume i ∷ consumption [] k
-consumption (i ∷ l) k = help i ∷ consumption l k
+consumption requests copies = inTurn help consume requests copies
 
 module _ (B : Wall) (j c : ℕ) where
   -- house r delivered v on this entry, and nothing else
@@ -45,7 +44,7 @@ module _ (B : Wall) (j c : ℕ) where
 
   -- what consuming a copy gives
   abbrev pub consuming : State → Copy → Out
-  consuming s m = outcome (B .rules) (B .numbers) (m .to) (opens m) (s .gave .books (m .to))
+  consuming s m = outcome (B .rules) (B .numbers) (m .to) (callOf m) (s .gave .books (m .to))
 
   -- with any number of wrong houses, and however often houses crash and return
   pub record Safe (s : State) : Type 0 where
@@ -56,13 +55,13 @@ module _ (B : Wall) (j c : ℕ) where
     -- No honest house ever delivers an implausible declaration.
     pub plausible : (r : ℕ) (v : Decl) → Delivered s r v → T (B .rules .ok v)
     -- A copy that an honest house sent is accepted where it is consumed, or is a repeat of what was accepted.
-    pub accepted : (i : ℕ) (m : Copy) → at (s .mail) i ≡ some m → T (onIt j c m) → T (right B (m .to))
+    pub accepted : (i : ℕ) (m : Copy) → at (s .mail) i ≡ some m → T (onIt j c m) → T (isHonest B (m .to))
         → (consuming s m .answer ≡ 0)
         ⊎ ((consuming s m .answer ≡ 7) × (heard (m .kind) (m .from) (s .gave .books (m .to) j c) ≡ some (m .decl)))
     -- Calls only ever fill empty slots, whatever steps come.
     pub fills : (l : List Step) (r : ℕ) → Filled (s .gave .books r j c) (run B l s .gave .books r j c)
     -- An honest sender's first plausible declaration at a number of the book is accepted.
-    pub publishable : T (right B j) → c < B .numbers → (v : Decl) → T (B .rules .ok v) → s .gave .publications j j c ≡ []
+    pub publishable : T (isHonest B j) → c < B .numbers → (v : Decl) → T (B .rules .ok v) → s .gave .publications j j c ≡ []
         → outcome (B .rules) (B .numbers) j (publishing c v) (s .gave .books j) .answer ≡ 0
 
   -- Some requests and some copies consumed, the entry is drained; no house went down, returned or published for it.
@@ -86,7 +85,7 @@ module _ (B : Wall) (j c : ℕ) where
     -- The honest houses never deliver two declarations for it,
     pub agree : (r q : ℕ) (v w : Decl) → Delivered s r v → Delivered s q w → v ≡ w
     -- and from an honest sender only what it published.
-    pub authentic : T (right B j) → (r : ℕ) (v : Decl) → Delivered s r v → Published s v
+    pub authentic : T (isHonest B j) → (r : ℕ) (v : Decl) → Delivered s r v → Published s v
 
   -- and with at most f honest ones down, and no copy of this entry and no request between up houses left
   pub record Complete (s : State) : Type 0 where
@@ -100,16 +99,16 @@ module _ (B : Wall) (j c : ℕ) where
     pub bound : copies j c s ≤ n B + 2 * (h B * n B)
     pub bound-between : between B j c s ≤ h B + 2 * (h B * h B)
     -- A copy that an honest house sent is accepted where it is consumed: answered 0, so never 7.
-    pub accepted : (i : ℕ) (m : Copy) → at (s .mail) i ≡ some m → T (onIt j c m) → T (right B (m .to)) → m .consumed ≡ false
+    pub accepted : (i : ℕ) (m : Copy) → at (s .mail) i ≡ some m → T (onIt j c m) → T (isHonest B (m .to)) → m .consumed ≡ false
         → consuming s m .answer ≡ 0
 
   -- and with at most t wrong and no house down: 01's exact counts
   pub record Exact (s : State) : Type 0 where
     -- once every copy of this entry between honest houses is consumed, it is drained
     pub drained : copiesOf j c (λ m. isBetween B m && not (m .consumed)) (s .mail) ≡ 0 → Drained B j c s
-    pub by-count : T (right B j) → (v : Decl) → Published s v → consumedBetween B j c s ≡ h B + 2 * (h B * h B) → Everywhere s v
-    pub cost : Drained B j c s → T (right B j) → (v : Decl) → Published s v → copies j c s ≡ n B + 2 * (h B * n B)
-    pub cost-between : Drained B j c s → T (right B j) → (v : Decl) → Published s v → between B j c s ≡ h B + 2 * (h B * h B)
+    pub by-count : T (isHonest B j) → (v : Decl) → Published s v → consumedBetween B j c s ≡ h B + 2 * (h B * h B) → Everywhere s v
+    pub cost : Drained B j c s → T (isHonest B j) → (v : Decl) → Published s v → copies j c s ≡ n B + 2 * (h B * n B)
+    pub cost-between : Drained B j c s → T (isHonest B j) → (v : Decl) → Published s v → between B j c s ≡ h B + 2 * (h B * h B)
     pub all-readies : Drained B j c s → (q : ℕ) (v : Decl) → Delivered s q v → readies j c s ≡ h B * n B
 
   -- in any order of calls; `Few` says that at most t houses are wrong, `Part` that at most f honest ones are down

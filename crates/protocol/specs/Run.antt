@@ -5,10 +5,11 @@ use mathlib.Core.Option.{Option, none, some}
 use mathlib.Core.List.{List, [], _∷_, _++_}
 use Prim.Native.Nat.{ℕ, zero, suc, _+_, _≤_}
 use lib.Dec.{T, eqb, ltb}
-use Rattle.card.specs.Count.{bit, count}
-use Rattle.entry.specs.Entry.{Decl, Kind, SEND, ECHO, READY, Entry, fresh, own, isKind, upd, PerEntry, sameEntry, place}
+use Rattle.card.specs.Count.{count}
+use Rattle.entry.specs.Entry.{Decl, Kind, SEND, ECHO, READY, Entry, fresh, outgoing, sameKind, PerEntry, sameEntry}
+use Rattle.entry.specs.Lists.{upd, at, changeAt, each, tally}
 use Rattle.protocol.specs.Steps.{Rules, Say, say, Out, must}
-use Rattle.protocol.specs.Book.{Book, Call, publishing, receiving, senderOf, numberOf, outcome, after, publication}
+use Rattle.protocol.specs.Book.{Book, Call, publishing, receiving, senderOf, numberOf, outcome, after, publication, noted}
 
 -- what the honest books have in common, and which houses are honest
 pub record Wall : Type 0 where
@@ -23,16 +24,16 @@ abbrev pub n : Wall → ℕ
 n B = B .rules .n
 
 -- an honest house: a number below n
-abbrev pub right : Wall → ℕ → Bool
-right B p = ltb p (n B) && B .honest p
+abbrev pub isHonest : Wall → ℕ → Bool
+isHonest B p = ltb p (n B) && B .honest p
 
 -- a wrong house's number or a number not below n
 abbrev pub isWrong : Wall → ℕ → Bool
-isWrong B p = not (right B p)
+isWrong B p = not (isHonest B p)
 
 -- how many houses are honest
 abbrev pub h : Wall → ℕ
-h B = count (right B) (n B)
+h B = count (isHonest B) (n B)
 
 -- one copy of a message that an honest house gave, and whether it was consumed
 pub record Copy : Type 0 where
@@ -79,7 +80,7 @@ start =
 
 -- an honest house that is up
 abbrev pub isUp : Wall → State → ℕ → Bool
-isUp B s r = right B r && not (s .power .down r)
+isUp B s r = isHonest B r && not (s .power .down r)
 
 -- An honest house publishes (accepted or not); consumes, once, a copy an honest house sent to it; or receives anything under a wrong
 -- house's number or a number not below n. It goes down; returns; consumes, once, a request that an honest house sent to it; or receives
@@ -106,11 +107,6 @@ abbrev pub posted : (sender number house : ℕ) → Option Say → ℕ → List 
 posted j c r none n = []
 posted j c r (some (say k v)) n = toAll j c r k v n
 
--- f 0 to f (n - 1), one after the other
-abbrev pub each : {A : Type 0} → (ℕ → List A) → ℕ → List A
-each f zero = []
-each f (suc n) = each f n ++ f n
-
 -- a copy to each of n houses that passes Q
 abbrev pub toThose : (ℕ → Bool) → (sender number house : ℕ) → Kind → Decl → ℕ → List Copy
 toThose Q j c r k v n = each (λ q. cond (Q q) (copyTo j c r k v q ∷ []) []) n
@@ -122,8 +118,8 @@ againKind Q j c r k (some v) n = toThose Q j c r k v n
 -- what house r gave on an entry, sent again
 abbrev pub againOn : (ℕ → Bool) → (house n sender number : ℕ) → Entry → List Copy
 againOn Q r n j c e =
-    againKind Q j c r SEND (own SEND e) n
-    ++ (againKind Q j c r ECHO (own ECHO e) n ++ againKind Q j c r READY (own READY e) n)
+    againKind Q j c r SEND (outgoing SEND e) n
+    ++ (againKind Q j c r ECHO (outgoing ECHO e) n ++ againKind Q j c r READY (outgoing READY e) n)
 
 -- and on all entries of its book
 abbrev pub again : (ℕ → Bool) → (house n numbers : ℕ) → Book → List Copy
@@ -131,12 +127,6 @@ again Q r n S b = each (λ c. each (λ j. againOn Q r n j c (b j c)) n) S
 
 abbrev pub requestTo : ℕ → ℕ → Request
 requestTo r q = record { from = r; to = q; consumed = false }
-
--- the copy at a place of the mail, and the mail with that copy consumed
-abbrev pub at : {A : Type 0} → List A → ℕ → Option A
-at [] i = none
-at (m ∷ l) zero = some m
-at (m ∷ l) (suc i) = at l i
 
 abbrev pub consumedCopy : Copy → Copy
 consumedCopy m =
@@ -150,21 +140,8 @@ consumedCopy m =
       consumed = true;
     }
 
-abbrev pub changeAt : {A : Type 0} → (A → A) → List A → ℕ → List A
-changeAt f [] i = []
-changeAt f (m ∷ l) zero = f m ∷ l
-changeAt f (m ∷ l) (suc i) = m ∷ changeAt f l i
-
 abbrev pub consumeAt : List Copy → ℕ → List Copy
 consumeAt l i = changeAt consumedCopy l i
-
-abbrev pub push : Option Decl → List Decl → List Decl
-push none l = l
-push (some v) l = v ∷ l
-
--- one more declaration, or none, on house r's list for an entry
-abbrev pub noted : (ℕ → PerEntry (List Decl)) → (house sender number : ℕ) → Option Decl → ℕ → PerEntry (List Decl)
-noted f r j c x = upd f r (place (f r) j c (push x (f r j c)))
 
 -- house r makes a call; `mail` is the mail as the call finds it
 unfoldable pub called : Wall → ℕ → Call → State → List Copy → State
@@ -184,20 +161,20 @@ called B r a s mail =
     }
 
 -- the call that consumes a copy
-abbrev pub opens : Copy → Call
-opens m = receiving (m .from) (m .kind) (m .sender) (m .number) (m .decl)
+abbrev pub callOf : Copy → Call
+callOf m = receiving (m .from) (m .kind) (m .sender) (m .number) (m .decl)
 
 -- What arrives at a house that is down is lost: the copy is consumed and nothing else.
 unfoldable pub arrives : Wall → ℕ → Copy → State → State
 arrives B i m s =
     cond (s .power .down (m .to))
     (record { gave = s .gave; mail = consumeAt (s .mail) i; power = s .power })
-    (called B (m .to) (opens m) s (consumeAt (s .mail) i))
+    (called B (m .to) (callOf m) s (consumeAt (s .mail) i))
 
 unfoldable pub consumes : Wall → ℕ → Option Copy → State → State
 unfolding arrives
 consumes B i none s = s
-consumes B i (some m) s = cond (right B (m .to) && not (m .consumed)) (arrives B i m s) s
+consumes B i (some m) s = cond (isHonest B (m .to) && not (m .consumed)) (arrives B i m s) s
 
 abbrev pub setDown : Power → ℕ → Bool → Power
 setDown w r x =
@@ -246,8 +223,8 @@ abbrev pub consumedRequest : Request → Request
 consumedRequest m = record { from = m .from; to = m .to; consumed = true }
 
 -- the request consumed
-abbrev pub taken : ℕ → State → State
-taken i s =
+abbrev pub requestTaken : ℕ → State → State
+requestTaken i s =
     record {
       gave = s .gave;
       mail = s .mail;
@@ -263,8 +240,8 @@ unfoldable pub asked : Wall → ℕ → Option Request → State → State
 unfolding helps
 asked B i none s = s
 asked B i (some m) s =
-    cond (right B (m .to) && not (m .consumed))
-    (cond (s .power .down (m .to)) (taken i s) (helps B (m .to) (m .from) (taken i s))) s
+    cond (isHonest B (m .to) && not (m .consumed))
+    (cond (s .power .down (m .to)) (requestTaken i s) (helps B (m .to) (m .from) (requestTaken i s))) s
 
 -- house r is up, and p is a wrong house's number or a number not below n
 abbrev pub underWrong : Wall → State → (from house : ℕ) → Bool
@@ -279,7 +256,7 @@ step B (wrong p r k j c v) s =
     cond (underWrong B s p r) (called B r (receiving p k j c v) s (s .mail)) s
 step B (crash r) s =
     cond (isUp B s r) (record { gave = s .gave; mail = s .mail; power = setDown (s .power) r true }) s
-step B (comeback r) s = cond (right B r && s .power .down r) (comes B r s) s
+step B (comeback r) s = cond (isHonest B r && s .power .down r) (comes B r s) s
 step B (help i) s = asked B i (at (s .power .requests) i) s
 step B (plead p r) s = cond (underWrong B s p r) (helps B r p s) s
 
@@ -288,10 +265,6 @@ run B [] s = s
 run B (a ∷ l) s = run B l (step B a s)
 
 -- Sent messages are counted from the steps, copy by copy.
-abbrev pub tally : {A : Type 0} → (A → Bool) → List A → ℕ
-tally P [] = 0
-tally P (m ∷ l) = bit (P m) + tally P l
-
 -- a copy on the entry of sender j and number c
 abbrev pub onIt : ℕ → ℕ → Copy → Bool
 onIt j c m = sameEntry (m .sender) (m .number) j c
@@ -305,11 +278,11 @@ abbrev pub copies : ℕ → ℕ → State → ℕ
 copies j c s = copiesOf j c (λ m. true) (s .mail)
 
 abbrev pub readies : ℕ → ℕ → State → ℕ
-readies j c s = copiesOf j c (λ m. isKind READY (m .kind)) (s .mail)
+readies j c s = copiesOf j c (λ m. sameKind READY (m .kind)) (s .mail)
 
 -- between honest houses, a house's copy to itself included
 abbrev pub isBetween : Wall → Copy → Bool
-isBetween B m = right B (m .from) && right B (m .to)
+isBetween B m = isHonest B (m .from) && isHonest B (m .to)
 
 abbrev pub between : Wall → ℕ → ℕ → State → ℕ
 between B j c s = copiesOf j c (isBetween B) (s .mail)
@@ -331,4 +304,4 @@ pub record Drained (B : Wall) (j c : ℕ) (s : State) : Type 0 where
 
 -- each honest house returned at most d times
 abbrev pub Limited : Wall → Power → Type 0
-Limited B w = (r : ℕ) → T (right B r) → w .returned r ≤ B .limit
+Limited B w = (r : ℕ) → T (isHonest B r) → w .returned r ≤ B .limit

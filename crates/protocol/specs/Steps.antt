@@ -38,9 +38,9 @@ abbrev pub must : Bool → ℕ → ℕ → ℕ
 must true a rest = rest
 must false a rest = a
 
-abbrev pub given : {A : Type 0} → Bool → A → Option A
-given true x = some x
-given false x = none
+abbrev pub onlyIf : {A : Type 0} → Bool → A → Option A
+onlyIf true x = some x
+onlyIf false x = none
 
 -- nothing is marked yet, and the vouchers for v number at least m
 abbrev pub reached : ℕ → Option Decl → (ℕ → Option Decl) → Decl → ℕ → Bool
@@ -67,7 +67,7 @@ unfoldable pub takesEcho : Rules → ℕ → Decl → Entry → Out
 takesEcho R p v e =
     let now : Entry = recorded ECHO p v e in
     let b : Bool = reached (R .quorum) (now .readySent) (now .echo) v (R .n) in
-    record { answer = 0; entry = marked b false v now; message = given b (say READY v); delivery = none }
+    record { answer = 0; entry = marked b false v now; message = onlyIf b (say READY v); delivery = none }
 
 -- An accepted READY of v is recorded. If READYs of v now number at least t+1 and no READY was sent, mark and give READY of v. If they
 -- number at least 2t+f+1 and nothing is delivered, mark and deliver v. Both may come of one call.
@@ -76,7 +76,7 @@ takesReady R p v e =
     let now : Entry = recorded READY p v e in
     let b : Bool = reached (R .amplify) (now .readySent) (now .ready) v (R .n) in
     let d : Bool = reached (R .deliver) (now .delivered) (now .ready) v (R .n) in
-    record { answer = 0; entry = marked b d v now; message = given b (say READY v); delivery = given d v }
+    record { answer = 0; entry = marked b d v now; message = onlyIf b (say READY v); delivery = onlyIf d v }
 
 abbrev pub takes : Rules → Kind → ℕ → Decl → Entry → Out
 takes R SEND p v e = takesSend p v e

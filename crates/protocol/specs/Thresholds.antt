@@ -5,7 +5,7 @@ use Rattle.card.specs.Card.{quorum, amplify, deliver}
 use Rattle.card.specs.Count.{count}
 use Rattle.entry.specs.Entry.{Decl}
 use Rattle.protocol.specs.Steps.{Rules}
-use Rattle.protocol.specs.Run.{n, Wall, State, right, isWrong}
+use Rattle.protocol.specs.Run.{n, Wall, State, isHonest, isWrong}
 
 -- the rules for n houses of which t may be wrong and f down: delivery at 2t+f+1 READYs, the other counts as they are
 unfoldable pub rulesOf : (n t f : ℕ) → (Decl → Bool) → Rules
@@ -45,7 +45,7 @@ pub record Tolerated (B : Wall) (t : ℕ) : Type 0 where
 
 -- the honest houses that are down
 abbrev pub downs : Wall → State → ℕ
-downs B s = count (λ p. right B p && s .power .down p) (n B)
+downs B s = count (λ p. isHonest B p && s .power .down p) (n B)
 
 -- those that pass `up` take part
 abbrev pub TakePart : Wall → (ℕ → Bool) → Type 0

@@ -3,14 +3,14 @@ ghost use mathlib.Core.Path.{_≡_};
 ghost use mathlib.Core.Option.{none};
 ghost use lib.ListN.{length};
 ghost use Rattle.lot.specs.Declaration.{declarationAt};
-ghost use Rattle.protocol.specs.Steps.{given};
+ghost use Rattle.protocol.specs.Steps.{onlyIf};
 ghost use Rattle.meaning.specs.Legal.{IsDecl};
-ghost use Rattle.calls.specs.Entered.{giving, helping, orZeros, wired};
+ghost use Rattle.calls.specs.Entered.{handed, helping, orZeros, wired};
 use calls::Outcome;
 
 // A refusal: the number, no message, no delivery.
 pub fn refuse(answer: u8) -> Outcome
-    ensures { λ r. ⌜ r ≡ giving answer none none ⌝ }
+    ensures { λ r. ⌜ r ≡ handed answer none none ⌝ }
 {
     Outcome {
         answer,
@@ -39,7 +39,7 @@ pub fn help() -> Outcome
 // The writer's bytes, or none.
 fn letter_of(gives: bool, kind: u8, season: u32, sender: u8, number: u8, d: [u8; 20]) -> [u8; 36]
     requires { ⌜ IsDecl d ⌝ }
-    ensures { λ r. ⌜ r ≡ orZeros 36 (given gives (wired kind season sender number (declarationAt d 0))) ⌝ }
+    ensures { λ r. ⌜ r ≡ orZeros 36 (onlyIf gives (wired kind season sender number (declarationAt d 0))) ⌝ }
 {
     if gives {
         return codec::lay_message(kind, season, sender, number, d);
@@ -49,7 +49,7 @@ fn letter_of(gives: bool, kind: u8, season: u32, sender: u8, number: u8, d: [u8;
 
 // The declaration's bytes, or none.
 fn lot_of(delivers: bool, d: [u8; 20]) -> [u8; 20]
-    ensures { λ r. ⌜ r ≡ orZeros 20 (given delivers d) ⌝ }
+    ensures { λ r. ⌜ r ≡ orZeros 20 (onlyIf delivers d) ⌝ }
 {
     if delivers {
         return d;
@@ -68,7 +68,7 @@ pub fn accept(
     d: [u8; 20],
 ) -> Outcome
     requires { ⌜ IsDecl d ⌝ }
-    ensures { λ r. ⌜ r ≡ giving 0 (given gives (wired kind season sender number (declarationAt d 0))) (given delivers d) ⌝ }
+    ensures { λ r. ⌜ r ≡ handed 0 (onlyIf gives (wired kind season sender number (declarationAt d 0))) (onlyIf delivers d) ⌝ }
 {
     let message = letter_of(gives, kind, season, sender, number, d);
     let declaration = lot_of(delivers, d);

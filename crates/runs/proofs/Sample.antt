@@ -15,7 +15,7 @@ use Rattle.meaning.specs.Opening.{opened}
 use Rattle.season.specs.Run.{opens, Open}
 use Rattle.runs.specs.Sample.{sample}
 
-module _ (n f d : ℕ) (honest : ℕ → Bool) (a : card.houses n ≡ true) (b : card.downOk n f ≡ true) (c : leb d mostLimit ≡ true) where
+module _ (n f d : ℕ) (honest : ℕ → Bool) (a : card.housesOk n ≡ true) (b : card.downOk n f ≡ true) (c : leb d mostLimit ≡ true) where
   zero-is : (r : ℕ) → ltb r n ≡ true → opens (sample n f d honest) r .answer ≡ 0
   unfolding sample opened numbersOk isSheet
   zero-is r l = rw (a, b, c, l, eq-eqb _ _ (length-replicate {A = ℕ} (lengthOf n 1) 0))

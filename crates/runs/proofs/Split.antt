@@ -30,7 +30,7 @@ use Rattle.season.proofs.Season.{claims}
 use Rattle.runs.proofs.Sample.{sample-open}
 
 computed : seen end ≡ met
-unfolding end seen run published received opened card.houses numbersOk mostLimit downOk mostDown legal meant write sheetAt sheetBytes
+unfolding end seen run published received opened card.housesOk numbersOk mostLimit downOk mostDown legal meant write sheetAt sheetBytes
     isSheet slotAt entrySlot lengthOf helpedOf countHelp returned sentOf plausible declarationAt readOf requestOf requestWire wire
     bytesOf outcome publish publishes receive recording takesSend takesEcho takesReady helpAnswer rulesOf tolerated fitting quorum
     amplify deliver same le ofBits isKind
@@ -41,7 +41,7 @@ first [] = []
 first (x ∷ l) = x
 
 pub split : Met
-unfolding houses sample seen fitting tolerated card.houses downOk mostDown mostLimit
+unfolding houses sample seen fitting tolerated card.housesOk downOk mostDown mostLimit
 split =
     record {
       computed = computed;

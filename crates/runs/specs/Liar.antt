@@ -7,7 +7,7 @@ use mathlib.Core.List.{List, [], _∷_, _++_}
 use mathlib.Core.Option.{Option, some}
 use lib.Dec.{eqb, ltb}
 use Rattle.message.specs.Message.{requestWire}
-use Rattle.protocol.specs.Run.{tally}
+use Rattle.entry.specs.Lists.{tally}
 use Rattle.meaning.specs.Layout.{echoSlot}
 use Rattle.meaning.specs.Book.{slotIn, helpedOf}
 use Rattle.season.specs.Run.{Houses, State, Step, publish, consume, wrong, crash, comeback, help, start, run, copiesOf, copies, Open}

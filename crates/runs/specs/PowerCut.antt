@@ -6,7 +6,7 @@ use mathlib.Core.Bool.{true, not, cond, _&&_}
 use mathlib.Core.List.{List, [], _∷_}
 use lib.Dec.{eqb}
 use Rattle.message.specs.Message.{requestWire}
-use Rattle.protocol.specs.Run.{tally}
+use Rattle.entry.specs.Lists.{tally}
 use Rattle.meaning.specs.Book.{helpedOf}
 use Rattle.season.specs.Run.{Houses, Open, State, Step, publish, consume, wrong, crash, comeback, help, start, run, copiesOf, copies}
 use Rattle.season.specs.Run.{upBetween, Drained, Limited, downs}

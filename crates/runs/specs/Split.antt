@@ -6,7 +6,7 @@ use mathlib.Core.Bool.{not, _&&_}
 use mathlib.Core.List.{List, [], _∷_}
 use mathlib.Core.Option.{Option, some}
 use lib.Dec.{ltb}
-use Rattle.protocol.specs.Run.{tally}
+use Rattle.entry.specs.Lists.{tally}
 use Rattle.meaning.specs.Layout.{sendSlot}
 use Rattle.meaning.specs.Book.{slotIn}
 use Rattle.season.specs.Run.{Houses, Open, State, Step, wrong, start, run, copiesOf, copies, readies, upBetween, Drained, Limited, downs}

@@ -17,10 +17,11 @@ use Rattle.meaning.specs.Opening.{headed}
 use Rattle.meaning.specs.Legal.{legal, IsDecl, IsSlot, IsEntry}
 use Rattle.meaning.proofs.Meant.{meant-is-book}
 use Rattle.meaning.proofs.Stores.{Stored}
-use Rattle.entry.specs.Entry.{Decl, Kind, SEND, ECHO, READY, Entry, own, upd, place}
+use Rattle.entry.specs.Entry.{Decl, Kind, SEND, ECHO, READY, Entry, outgoing, putAt}
+use Rattle.entry.specs.Lists.{upd}
 use Rattle.protocol.specs.Steps.{say, Out}
-use Rattle.protocol.specs.Book.{Book, Call, publishing, senderOf, numberOf, outcome, after, publication}
-use Rattle.protocol.specs.Run.{Wall, noted}
+use Rattle.protocol.specs.Book.{Book, Call, publishing, senderOf, numberOf, outcome, after, publication, noted}
+use Rattle.protocol.specs.Run.{Wall}
 use Rattle.protocol.specs.Run as protocol
 use Rattle.protocol.specs.Thresholds.{rulesOf, wallOf}
 use Rattle.entry.proofs.Basics.{upd-all}
@@ -28,20 +29,20 @@ use Rattle.protocol.proofs.Calls.{outcome-done}
 use Rattle.protocol.proofs.Views.{noted-none}
 use Rattle.calls.proofs.KindNumber.{kind-is}
 use Rattle.calls.specs.declared.Outcome.{Outcome}
-use Rattle.calls.specs.Entered.{result, giving, helping, okBy, rulesBy, kindNumber, letters}
+use Rattle.calls.specs.Entered.{result, handed, helping, okBy, rulesBy, kindNumber, letters}
 use Rattle.calls.specs.Call.{refusal, stepOf, called, requestAnswer, requested}
 use Rattle.calls.specs.Again.{sending, saidOf, sentOn, sentOf}
-use Rattle.calls.specs.Kept.{Kept}
+use Rattle.calls.specs.Keeps.{Keeps}
 use Rattle.calls.proofs.Keeps.{plausible-decl, called-stored, called-given, called-keeps, helped-meant, helped-keeps}
 use Rattle.season.specs.Run.{Houses, isHonest, Copy, Noted, Given, State, messageOf, deliveryOf, publicationOf, Named, nothing, entry}
 use Rattle.season.specs.Run.{noting, posted, sentAgain, againOn, again, sends, ended}
 use Rattle.season.proofs.Mail.{Says, Asks, Mails, mails-append, mails-each, mails-to-those, mails-posted}
 
-message-of : (a : ℕ) (m : Option (List ℕ)) (d : Option Decl) → messageOf (giving a m d) ≡ m
+message-of : (a : ℕ) (m : Option (List ℕ)) (d : Option Decl) → messageOf (handed a m d) ≡ m
 message-of a none d = refl
 message-of a (some m) d = refl
 
-delivery-of : (a : ℕ) (m : Option (List ℕ)) (d : Option Decl) → deliveryOf (giving a m d) ≡ d
+delivery-of : (a : ℕ) (m : Option (List ℕ)) (d : Option Decl) → deliveryOf (handed a m d) ≡ d
 delivery-of a m none = refl
 delivery-of a m (some v) = refl
 
@@ -104,7 +105,7 @@ module _ (H : Houses) where
     season-is = ap (λ (h : Header). h .season) (K .header)
 
   -- and so is what a call leaves of it
-  is-kept : (r : ℕ) (b a : List ℕ) → IsOf r b → Kept b a → IsOf r a
+  is-kept : (r : ℕ) (b a : List ℕ) → IsOf r b → Keeps b a → IsOf r a
   is-kept r b a K k =
       record {
         legal = k .legal;
@@ -191,13 +192,13 @@ module _ (H : Houses) where
       entries-are : after (wall H .rules) (wall H .numbers) r a (y .books r) ≡ look (called b a .book)
       unfolding after
       entries-are =
-          (λ i. place (G .entries r honest i) (senderOf (sym (own-is r b K) i) a) c (sym step-is i .entry)) ∙ sym (stored .entries)
+          (λ i. putAt (G .entries r honest i) (senderOf (sym (own-is r b K) i) a) c (sym step-is i .entry)) ∙ sym (stored .entries)
 
-      given-is : called b a .given ≡ giving (o .answer) (letters (H .season) j c (o .message)) (o .delivery)
+      given-is : called b a .given ≡ handed (o .answer) (letters (H .season) j c (o .message)) (o .delivery)
       given-is =
           called-given b (K .legal) (K .bytes) a
           ∙ (λ i.
-          giving (step-is i .answer) (letters (season-is r b K i) (senderOf (own-is r b K i) a) c (step-is i .message))
+          handed (step-is i .answer) (letters (season-is r b K i) (senderOf (own-is r b K i) a) c (step-is i .message))
           (step-is i .delivery))
 
       pub answer-is : called b a .given .answer ≡ o .answer
@@ -265,20 +266,20 @@ module _ (H : Houses) where
 
     -- ---- what is sent again
 
-    own-slot : (n : ℕ) (k : Kind) (e : Entry) → IsEntry n e → IsSlot (own k e)
+    own-slot : (n : ℕ) (k : Kind) (e : Entry) → IsEntry n e → IsSlot (outgoing k e)
     own-slot n SEND e h = h .published
     own-slot n ECHO e h = h .send
     own-slot n READY e h = h .readySent
 
     module _ (d : List ℕ) (D : IsOf r d) (Q : ℕ → Bool) where
       pub sent-is : (k : Kind) (j c : ℕ) → j < H .n → c < H .numbers
-          → sentOf d (kindNumber k) j c ≡ sending 0 (letters (H .season) j c (saidOf k (own k (look d j c))))
+          → sentOf d (kindNumber k) j c ≡ sending 0 (letters (H .season) j c (saidOf k (outgoing k (look d j c))))
       unfolding sentOf sentOn
       sent-is k j c lj lc =
           let in-senders = lt-ltb j (nOf d) (omega (arith, n-is r d D)) in
           let in-numbers = lt-ltb c (numbersOf d) (omega (arith, numbers-is r d D)) in
           rw (D .legal, kind-is k, in-senders, in-numbers)
-          (ap (λ (x : ℕ). sending 0 (letters x j c (saidOf k (own k (look d j c))))) (season-is r d D))
+          (ap (λ (x : ℕ). sending 0 (letters x j c (saidOf k (outgoing k (look d j c))))) (season-is r d D))
 
       slot-again : (k : Kind) (j c : ℕ) (x : Option Decl) → IsSlot x
           → Mails (Says (H .season)) (sentAgain Q r (H .n) (sending 0 (letters (H .season) j c (saidOf k x))))
@@ -290,13 +291,13 @@ module _ (H : Houses) where
       mine k j c = sentAgain Q r (H .n) (sentOf d (kindNumber k) j c)
 
       abbrev theirs : Kind → ℕ → ℕ → List protocol.Copy
-      theirs k j c = protocol.againKind Q j c r k (own k (look d j c)) (H .n)
+      theirs k j c = protocol.againKind Q j c r k (outgoing k (look d j c)) (H .n)
 
       kind-again : (k : Kind) (j c : ℕ) → j < H .n → c < H .numbers → Mails (Says (H .season)) (mine k j c) (theirs k j c)
       unfolding meant
       kind-again k j c lj lc =
           rw (sent-is k j c lj lc)
-          (slot-again k j c (own k (look d j c))
+          (slot-again k j c (outgoing k (look d j c))
           (own-slot (nOf d) k (look d j c) (meant-is-book d (D .legal) (D .bytes) .entries .each j c)))
 
       entry-again : (j c : ℕ) → j < H .n → c < H .numbers

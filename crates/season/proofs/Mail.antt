@@ -14,17 +14,17 @@ use Rattle.message.specs.Message.{Five, Told, readOf, requestOf}
 use Rattle.message.specs.Message as message
 use Rattle.message.proofs.RoundTrip.{read-of-wire}
 use Rattle.meaning.specs.Legal.{IsDecl}
-use Rattle.entry.specs.Entry.{Decl, Kind, SEND, ECHO, READY, isKind}
+use Rattle.entry.specs.Entry.{Decl, Kind, SEND, ECHO, READY, sameKind}
 use Rattle.protocol.specs.Steps.{Say, say}
 use Rattle.protocol.specs.Book.{receiving}
-use Rattle.protocol.specs.Run.{at, changeAt, each, tally}
+use Rattle.entry.specs.Lists.{at, changeAt, each, tally}
 use Rattle.protocol.specs.Run as protocol
 use Rattle.calls.specs.Call.{askedAs, asked}
 use Rattle.calls.proofs.KindNumber.{kind-is, is-known}
 use Rattle.calls.specs.Entered.{kindNumber, fiveOf, letter, letters}
 use Rattle.season.specs.Run.{Copy, copyTo, toThose, toAll, posted, consumedCopy, onIt, isReady}
 
-ready-number : (k : Kind) → eqb (kindNumber k) 3 ≡ isKind READY k
+ready-number : (k : Kind) → eqb (kindNumber k) 3 ≡ sameKind READY k
 ready-number SEND = refl
 ready-number ECHO = refl
 ready-number READY = refl
@@ -107,7 +107,7 @@ module _ (season : ℕ) where
   pub says-on-it : (j c : ℕ) (m : Copy) (x : protocol.Copy) → Says m x → onIt j c m ≡ protocol.onIt j c x
   says-on-it j c m x s = rw (s .read)
 
-  pub says-ready : (m : Copy) (x : protocol.Copy) → Says m x → isReady m ≡ isKind READY (x .kind)
+  pub says-ready : (m : Copy) (x : protocol.Copy) → Says m x → isReady m ≡ sameKind READY (x .kind)
   says-ready m x s = rw (s .read) (ready-number (x .kind))
 
   pub says-consumed : (m : Copy) (x : protocol.Copy) → Says m x → Says (consumedCopy m) (protocol.consumedCopy x)

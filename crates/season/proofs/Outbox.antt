@@ -13,9 +13,9 @@ use Rattle.message.specs.Message.{readOf}
 use Rattle.message.specs.Message as message
 use Rattle.meaning.specs.Book.{look}
 use Rattle.meaning.specs.Legal.{legal}
-use Rattle.entry.specs.Entry.{Decl, Kind, SEND, ECHO, READY, Entry, own, isKind, isSome}
+use Rattle.entry.specs.Entry.{Decl, Kind, SEND, ECHO, READY, Entry, outgoing, sameKind, isSome}
 use Rattle.protocol.specs.Steps.{say}
-use Rattle.protocol.specs.Run.{at}
+use Rattle.entry.specs.Lists.{at}
 use Rattle.protocol.specs.Run as protocol
 use Rattle.protocol.specs.Thresholds.{rulesOf, wallOf}
 use Rattle.entry.proofs.Basics.{and-l, and-r, and-mk, isKind-eq, isSome-of, entry-refl}
@@ -54,11 +54,11 @@ module _ (H : Houses) (s : State) (z : protocol.State) (M : Means H s z)
     (held : (j c : ℕ) → Inv (wall H) j c (view j c z)) where
   -- what house r's book gives of what it gave
   gives : (r : ℕ) → T (isHonest H r) → (k : Kind) (j c : ℕ) → j < H .n → c < H .numbers → (v : Decl)
-      → own k (z .gave .books r j c) ≡ some v
+      → outgoing k (z .gave .books r j c) ≡ some v
       → sentOf (s .gave .books r) (kindNumber k) j c ≡ sending 0 (some (letter (H .season) j c (say k v)))
   gives r t k j c lj lc v e =
       let b = s .gave .books r in
-      let stands : own k (look b j c) ≡ some v = rw (← M .gave .entries r t) e in
+      let stands : outgoing k (look b j c) ≡ some v = rw (← M .gave .entries r t) e in
       sent-is H r s z M t b (M .gave .books r t) (λ q. true) k j c lj lc
       ∙ ap (λ (o : Option Decl). sending 0 (letters (H .season) j c (saidOf k o))) stands
 
@@ -108,16 +108,16 @@ module _ (H : Houses) (s : State) (z : protocol.State) (M : Means H s z)
 
   module _ (j c : ℕ) (lj : j < H .n) (lc : c < H .numbers) where
     -- of what house r gave, a copy to each house
-    copy-to : (r : ℕ) → T (isHonest H r) → (k : Kind) (v : Decl) → own k (z .gave .books r j c) ≡ some v → (q : ℕ) → q < H .n
+    copy-to : (r : ℕ) → T (isHonest H r) → (k : Kind) (v : Decl) → outgoing k (z .gave .books r j c) ≡ some v → (q : ℕ) → q < H .n
         → SentTo s r q (letter (H .season) j c (say k v))
     unfolding wallOf rulesOf
     copy-to r t k v e q lq =
         let I = held j c in
         let house : ℕ → Entry = λ p. z .gave .books p j c in
         let one = count-pos (eqb q) (H .n) q lq (eqb-refl q) in
-        let mine = count-pos (λ p. eqb r p && isSome (own k (house p))) (H .n) r
+        let mine = count-pos (λ p. eqb r p && isSome (outgoing k (house p))) (H .n) r
         (ltb→lt r (H .n) (and-l (ltb r (H .n)) (H .honest r) t))
-        (and-mk (eqb r r) _ (eqb-refl r) (isSome-of (own k (house r)) v e)) in
+        (and-mk (eqb r r) _ (eqb-refl r) (isSome-of (outgoing k (house r)) v e)) in
         let y = find (λ m. protocol.onIt j c m && way k (eqb r) (eqb q) m) (z .mail) (omega (
           arith,
           I .post .at-least k (eqb r) (eqb q),
@@ -132,17 +132,17 @@ module _ (H : Houses) (s : State) (z : protocol.State) (M : Means H s z)
         there i x f a w = go (at (s .mail) i) refl (rw f at (mails-at (Says (H .season)) (s .mail) (z .mail) (M .mail) i))
           where
             ends : T (eqb r (x .from) && eqb q (x .to))
-            ends = and-r (isKind k (x .kind)) _ w
+            ends = and-r (sameKind k (x .kind)) _ w
 
             from : r ≡ x .from
             from = eqb→eq r (x .from) (and-l (eqb r (x .from)) _ ends)
 
             kind : k ≡ x .kind
-            kind = isKind-eq k (x .kind) (and-l (isKind k (x .kind)) _ w)
+            kind = isKind-eq k (x .kind) (and-l (sameKind k (x .kind)) _ w)
 
             decl : some v ≡ some (x .decl)
             decl =
-                sym e ∙ (λ i. own (kind i) (z .gave .books (from i) j c))
+                sym e ∙ (λ i. outgoing (kind i) (z .gave .books (from i) j c))
                 ∙ true-copy (wall H) j c (view j c z) (held j c) i x f a
 
             go : (o : Option Copy) → at (s .mail) i ≡ o → Both (Says (H .season)) o (some x)
@@ -170,8 +170,8 @@ module _ (H : Houses) (s : State) (z : protocol.State) (M : Means H s z)
         let k : Kind = found .0 in
         let is = ap (λ (x : ℕ). sentOf b x j c) (number-of-kind kind k (found .1))
         ∙ sent-is H r s z M t b (M .gave .books r t) (λ q. true) k j c lj lc in
-        let y = said (H .season) j c k (own k (look b j c)) (sym (ap (λ (o : Sent). o .gives) is) ∙ e) in
+        let y = said (H .season) j c k (outgoing k (look b j c)) (sym (ap (λ (o : Sent). o .gives) is) ∙ e) in
         let message = ap (λ (o : Sent). o .message) is
         ∙ ap (λ (o : Option Decl). sending 0 (letters (H .season) j c (saidOf k o)) .message) (y .1) in
         subst (SentTo s r q) (sym message)
-        (copy-to r t k (y .0) (ap (λ (f : ℕ → ℕ → _). own k (f j c)) (M .gave .entries r t) ∙ y .1) q lq)
+        (copy-to r t k (y .0) (ap (λ (f : ℕ → ℕ → _). outgoing k (f j c)) (M .gave .entries r t) ∙ y .1) q lq)

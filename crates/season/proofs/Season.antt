@@ -21,9 +21,9 @@ use Rattle.sheet.specs.Kept.{sheetAt, isSheet, judged}
 use Rattle.message.specs.Message.{readOf}
 use Rattle.meaning.specs.Legal.{IsDecl}
 use Rattle.meaning.proofs.Opening.{opened-facts, allowed-facts}
-use Rattle.entry.specs.Entry.{READY, heard, isKind}
+use Rattle.entry.specs.Entry.{READY, heard, sameKind}
 use Rattle.protocol.specs.Book.{Call, publishing, receiving, outcome}
-use Rattle.protocol.specs.Run.{at, tally}
+use Rattle.entry.specs.Lists.{at, tally}
 use Rattle.protocol.specs.Run as protocol
 use Rattle.protocol.specs.Claims as protocol-claims
 use Rattle.protocol.specs.Thresholds.{rulesOf, wallOf, AtMost, downs}
@@ -89,7 +89,7 @@ module _ (H : Houses) (s : State) (z : protocol.State) (M : Means H s z) where
   -- a copy's consumption is answered as the protocol answers it
   copy-answered : (m : Copy) (x : protocol.Copy) → Says (H .season) m x → T (isHonest H (m .to))
       → received (s .gave .books (m .to)) (m .from) (m .message) .given .answer
-      ≡ outcome (wall H .rules) (wall H .numbers) (x .to) (protocol.opens x) (z .gave .books (x .to)) .answer
+      ≡ outcome (wall H .rules) (wall H .numbers) (x .to) (protocol.callOf x) (z .gave .books (x .to)) .answer
   copy-answered m x S t =
       ap (λ (o : Result). o .given .answer) (copy-called H (m .to) (m .from) (s .gave .books (m .to)) (M .gave .books (m .to) t) m x S)
       ∙ answer-is H (m .to) s z M t (call (m .from))
@@ -130,7 +130,7 @@ module _ (H : Houses) (s : State) (z : protocol.State) (M : Means H s z) where
         (λ m x S. ap₂ _&&_ (between-same m x S) (S .consumed))
 
     readies-counted : readies j c s ≡ protocol.readies j c z
-    readies-counted = counted isReady (λ x. isKind READY (x .kind)) (says-ready (H .season))
+    readies-counted = counted isReady (λ x. sameKind READY (x .kind)) (says-ready (H .season))
 
     copies-left : copiesOf j c (λ m. upBetween H s m && not (m .consumed)) s
         ≡ protocol.copiesOf j c (λ x. protocol.upCopy (wall H) z x && not (x .consumed)) (z .mail)

@@ -15,9 +15,9 @@ use Rattle.meaning.specs.Book.{Meaning, seasonOf, helpedOf, helpOf, look, meant
 use Rattle.meaning.specs.Legal.{legal}
 use Rattle.meaning.specs.Opening.{freshBook}
 use Rattle.meaning.proofs.Opening.{opened-legal, opened-bytes, opened-meant}
-use Rattle.entry.specs.Entry.{Decl, fresh, upd, Kind}
+use Rattle.entry.specs.Entry.{Decl, fresh, Kind}
+use Rattle.entry.specs.Lists.{upd, at, each}
 use Rattle.protocol.specs.Book.{Call, publishing, receiving, senderOf, numberOf, publication}
-use Rattle.protocol.specs.Run.{at}
 use Rattle.protocol.specs.Run as protocol
 use Rattle.protocol.specs.Claims as protocol-claims
 use Rattle.protocol.specs.Thresholds.{wallOf, rulesOf}
@@ -27,7 +27,7 @@ use Rattle.calls.specs.Entered.{kindOf}
 use Rattle.calls.specs.Again.{returned}
 use Rattle.season.specs.Run.{Houses, isHonest, isWrong, isUp, Open, opens, Copy, State, start, namedBy, nothing, entry, sends, ended}
 use Rattle.season.specs.Run.{publicationOf, Step, publish, consume, wrong, crash, comeback, help, publishes, receives, consumedCopy}
-use Rattle.season.specs.Run.{consumeAt, consumes, goesDown, toAll, again, comes, taken, asks, underWrong, step, run}
+use Rattle.season.specs.Run.{consumeAt, consumes, goesDown, toAll, again, comes, requestTaken, asks, underWrong, step, run}
 use Rattle.season.specs.Claims.{consumption}
 use Rattle.season.proofs.Mail.{asked-is, Says, says-consumed, Asks, asks-consumed, Mails, Both, mails-at, mails-append}
 use Rattle.season.proofs.Mail.{mails-changed, mails-requests}
@@ -159,7 +159,7 @@ module _ (H : Houses) where
         (cond t (record { gave = s .gave; mail = consumeAt (s .mail) i; power = s .power })
         (receives H (x .to) (x .from) (m .message) s (consumeAt (s .mail) i)))
         (cond t (record { gave = z .gave; mail = protocol.consumeAt (z .mail) i; power = z .power })
-        (protocol.called (wall H) (x .to) (protocol.opens x) z (protocol.consumeAt (z .mail) i)))
+        (protocol.called (wall H) (x .to) (protocol.callOf x) z (protocol.consumeAt (z .mail) i)))
     arrives-means i m x S honest true =
         record { gave = M .gave; mail = consumed-mail i; down = M .down; returned = M .returned; requests = M .requests }
     arrives-means i m x S honest false =
@@ -176,7 +176,7 @@ module _ (H : Houses) where
         (if-means (isHonest H (x .to) && not (x .consumed)) s _ z _ M
         (λ t. arrives-means i m x S (and-l (isHonest H (x .to)) (not (x .consumed)) (T-of t)) (s .power .down (x .to))))
 
-    taken-means : (i : ℕ) → Means H (taken i s) (protocol.taken i z)
+    taken-means : (i : ℕ) → Means H (requestTaken i s) (protocol.requestTaken i z)
     taken-means i =
         record {
           gave = M .gave;
@@ -200,10 +200,10 @@ module _ (H : Houses) where
         (λ t. go (s .power .down (x .to)) (and-l (isHonest H (x .to)) (not (x .consumed)) (T-of t))))
       where
         go : (t : Bool) → T (isHonest H (x .to))
-            → Means H (cond t (taken i s) (receives H (x .to) (x .from) (m .message) (taken i s) (s .mail)))
-            (cond t (protocol.taken i z) (protocol.helps (wall H) (x .to) (x .from) (protocol.taken i z)))
+            → Means H (cond t (requestTaken i s) (receives H (x .to) (x .from) (m .message) (requestTaken i s) (s .mail)))
+            (cond t (protocol.requestTaken i z) (protocol.helps (wall H) (x .to) (x .from) (protocol.requestTaken i z)))
         go true honest = taken-means i
-        go false honest = help-means (x .to) (taken i s) (protocol.taken i z) (taken-means i) honest (x .from) (m .message) (S .request)
+        go false honest = help-means (x .to) (requestTaken i s) (protocol.requestTaken i z) (taken-means i) honest (x .from) (m .message) (S .request)
 
     goes-means : (r : ℕ)
         → Means H (goesDown r s) (record { gave = z .gave; mail = z .mail; power = protocol.setDown (z .power) r true })
@@ -229,7 +229,7 @@ module _ (H : Houses) where
           down = ap (λ (f : ℕ → Bool). upd f r false) (M .down);
           returned = ap (λ (f : ℕ → ℕ). upd f r (suc (f r))) (M .returned);
           requests = mails-append (Asks (H .season)) (s .power .requests) (z .power .requests) (toAll r (returned b .request) (H .n))
-              (protocol.each (λ q. protocol.requestTo r q ∷ []) (H .n)) (M .requests)
+              (each (λ q. protocol.requestTo r q ∷ []) (H .n)) (M .requests)
               (mails-requests (H .season) r (returned b .request) (request-is r b K) (H .n));
         }
 

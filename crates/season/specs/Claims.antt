@@ -13,7 +13,7 @@ use Rattle.lot.specs.Declaration.{bytesOf}
 use Rattle.sheet.specs.Kept.{judged}
 use Rattle.message.specs.Message.{Five, readOf}
 use Rattle.entry.specs.Entry.{heard, Kind}
-use Rattle.protocol.specs.Run.{at}
+use Rattle.entry.specs.Lists.{at, inTurn}
 use Rattle.meaning.specs.Book.{look}
 use Rattle.meaning.specs.Legal.{IsDecl}
 use Rattle.calls.specs.Entered.{kindOf}
@@ -45,9 +45,7 @@ OfSeason H (some m) =
 
 -- the steps that consume the requests at these places, and then the copies at those
 abbrev pub consumption : (requests copies : List ℕ) → List Step
-consumption [] [] = []
-consumption [] (i ∷ k) = consume i ∷ consumption [] k
-consumption (i ∷ l) k = help i ∷ consumption l k
+consumption requests copies = inTurn help consume requests copies
 
 -- a copy of the message, from house r to house q
 pub record SentTo (s : State) (r q : ℕ) (message : List ℕ) : Type 0 where

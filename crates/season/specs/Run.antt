@@ -12,8 +12,8 @@ use Rattle.card.specs.Count.{count}
 use Rattle.words.specs.Words.{Bytes}
 use Rattle.message.specs.Message.{Five, readOf}
 use Rattle.meaning.specs.Opening.{Opened, opened}
-use Rattle.entry.specs.Entry.{upd}
-use Rattle.protocol.specs.Run.{at, changeAt, each, noted, tally}
+use Rattle.entry.specs.Lists.{upd, at, changeAt, each, tally}
+use Rattle.protocol.specs.Book.{noted}
 use Rattle.calls.specs.declared.Outcome.{Outcome}
 use Rattle.calls.specs.Entered.{Result}
 use Rattle.calls.specs.Call.{published, received}
@@ -239,8 +239,8 @@ comes H r s =
     }
 
 -- the request consumed
-abbrev pub taken : ℕ → State → State
-taken i s =
+abbrev pub requestTaken : ℕ → State → State
+requestTaken i s =
     record {
       gave = s .gave;
       mail = s .mail;
@@ -252,7 +252,7 @@ unfolding receives
 asks H i none s = s
 asks H i (some m) s =
     cond (isHonest H (m .to) && not (m .consumed))
-    (cond (s .power .down (m .to)) (taken i s) (receives H (m .to) (m .from) (m .message) (taken i s) (s .mail))) s
+    (cond (s .power .down (m .to)) (requestTaken i s) (receives H (m .to) (m .from) (m .message) (requestTaken i s) (s .mail))) s
 
 -- house r is up, and p is a wrong house's number or a number not below n
 abbrev pub underWrong : Houses → State → (from house : ℕ) → Bool

@@ -7,7 +7,7 @@ use mathlib.Core.Option.{Option, none}
 use Rattle.words.specs.Words.{Bytes}
 use Rattle.lot.specs.Declaration.{declarationAt}
 use Rattle.entry.specs.Entry.{Decl, Kind, SEND, ECHO, READY, heard}
-use Rattle.protocol.specs.Steps.{given, takesSend, recording}
+use Rattle.protocol.specs.Steps.{onlyIf, takesSend, recording}
 use Rattle.meaning.specs.Slot.{slotAt, putSlot}
 use Rattle.meaning.specs.Layout.{heardSlot, entrySlot, echoSlot, readySlot, readySentSlot, deliveredSlot, sendSlot, placeFrom}
 use Rattle.meaning.specs.Book.{nOf, numbersOf, seasonOf, look, placeIn}
@@ -15,7 +15,7 @@ use Rattle.meaning.specs.Legal.{legal, IsDecl, Has}
 use Rattle.meaning.proofs.Stores.{stored-heard, stored-taken}
 use Rattle.meaning.proofs.Seen.{from-base, heard-seen}
 use Rattle.calls.specs.declared.Outcome.{Outcome}
-use Rattle.calls.specs.Entered.{result, giving, wired, entered, taken}
+use Rattle.calls.specs.Entered.{result, handed, wired, entered, taken}
 use Rattle.calls.proofs.Entered.{letter-wired, entered-is}
 use Rattle.layout.specs.Places.{Within, Begins}
 use Rattle.layout.proofs.Begins.{begins}
@@ -38,12 +38,12 @@ slot-checked b j c p k v has hp base at r is ea er =
 module _ (b : List ℕ) (h : legal b ≡ true) (bytes : Bytes b) (j c p : ℕ) (has : Has b j c) (hp : p < nOf b) (v : Decl) (dv : IsDecl v) where
   -- a SEND recorded, and its ECHO given
   pub send-entered : (base season : ℕ) (b₁ : List ℕ) (o : Outcome) → base ≡ placeIn b j c 0 → season ≡ seasonOf b → b₁ ≡ putSlot b base v
-      → o ≡ giving 0 (given true (wired 2 season j c (declarationAt v 0))) (given false v) → result o b₁ ≡ taken b p SEND j c v
+      → o ≡ handed 0 (onlyIf true (wired 2 season j c (declarationAt v 0))) (onlyIf false v) → result o b₁ ≡ taken b p SEND j c v
   unfolding taken takesSend
   send-entered base season b₁ o is es e₁ eo =
       let s = stored-heard b h bytes v dv (nOf b) (numbersOf b) refl refl j c (has .sender) (has .number) SEND p hp in
-      let m = ap (λ (x : ℕ). given true (wired 2 x j c (declarationAt v 0))) es ∙ letter-wired (seasonOf b) j c true ECHO v in
-      ap₂ result (eo ∙ ap (λ (x : Option (List ℕ)). giving 0 x none) m) (e₁ ∙ ap (λ (x : ℕ). putSlot b x v) is)
+      let m = ap (λ (x : ℕ). onlyIf true (wired 2 x j c (declarationAt v 0))) es ∙ letter-wired (seasonOf b) j c true ECHO v in
+      ap₂ result (eo ∙ ap (λ (x : Option (List ℕ)). handed 0 x none) m) (e₁ ∙ ap (λ (x : ℕ). putSlot b x v) is)
       ∙ entered-is b j c (takesSend p v (look b j c)) (putSlot b (placeIn b j c 0) v) s
 
   -- a voucher of the kind, at the place of its slot
@@ -69,15 +69,15 @@ module _ (b : List ℕ) (h : legal b ≡ true) (bytes : Bytes b) (j c p : ℕ) (
     marked-entered : (sent done season : ℕ) (g d : Bool) (b₂ b₃ : List ℕ) (o : Outcome) → sent ≡ placeFrom base (readySentSlot (nOf b))
         → done ≡ placeFrom base (deliveredSlot (nOf b)) → season ≡ seasonOf b → b₂ ≡ cond g (putSlot b₁ sent v) b₁
         → b₃ ≡ cond d (putSlot b₂ done v) b₂
-        → o ≡ giving 0 (given g (wired 3 season j c (declarationAt v 0))) (given d v)
+        → o ≡ handed 0 (onlyIf g (wired 3 season j c (declarationAt v 0))) (onlyIf d v)
         → result o b₃ ≡ entered b j c (taking b h bytes j c p has hp v dv k g d)
     marked-entered sent done season g d b₂ b₃ o et ed es e₂ e₃ eo =
         let at-sent = et ∙ from (readySentSlot (nOf b)) in
         let at-done = ed ∙ from (deliveredSlot (nOf b)) in
         let second = e₂ ∙ (λ i. cond g (putSlot (first i) (at-sent i) v) (first i)) in
         let third = e₃ ∙ (λ i. cond d (putSlot (second i) (at-done i) v) (second i)) in
-        let message = ap (λ (x : ℕ). given g (wired 3 x j c (declarationAt v 0))) es ∙ letter-wired (seasonOf b) j c g READY v in
-        ap₂ result (eo ∙ ap (λ (x : Option (List ℕ)). giving 0 x (given d v)) message) third
+        let message = ap (λ (x : ℕ). onlyIf g (wired 3 x j c (declarationAt v 0))) es ∙ letter-wired (seasonOf b) j c g READY v in
+        ap₂ result (eo ∙ ap (λ (x : Option (List ℕ)). handed 0 x (onlyIf d v)) message) third
         ∙ entered-is b j c (taking b h bytes j c p has hp v dv k g d) _
         (stored-taken b h bytes v dv (nOf b) (numbersOf b) refl refl j c (has .sender) (has .number) k p hp g d)
 
@@ -87,7 +87,7 @@ module _ (b : List ℕ) (h : legal b ≡ true) (bytes : Bytes b) (j c p : ℕ) (
     at-sent = et ∙ ap (λ (x : ℕ). placeFrom base (readySentSlot x)) en
 
     pub echo-entered : at ≡ placeFrom base (echoSlot p) → b₁ ≡ putSlot b at v → (g : Bool) → g ≡ echoMark b₁ base v
-        → b₂ ≡ cond g (putSlot b₁ sent v) b₁ → o ≡ giving 0 (given g (wired 3 season j c (declarationAt v 0))) (given false v)
+        → b₂ ≡ cond g (putSlot b₁ sent v) b₁ → o ≡ handed 0 (onlyIf g (wired 3 season j c (declarationAt v 0))) (onlyIf false v)
         → result o b₂ ≡ taken b p ECHO j c v
     unfolding taken
     echo-entered ea e₁ g eg e₂ eo =
@@ -99,7 +99,7 @@ module _ (b : List ℕ) (h : legal b ≡ true) (bytes : Bytes b) (j c p : ℕ) (
     pub ready-entered : (done : ℕ) → done ≡ placeFrom base (deliveredSlot n) → at ≡ placeFrom base (readySlot n p) → b₁ ≡ putSlot b at v
         → (m : Marks) → m ≡ readyMarks b₁ base v → b₂ ≡ cond (m .gives) (putSlot b₁ sent v) b₁
         → (b₃ : List ℕ) → b₃ ≡ cond (m .delivers) (putSlot b₂ done v) b₂
-        → o ≡ giving 0 (given (m .gives) (wired 3 season j c (declarationAt v 0))) (given (m .delivers) v)
+        → o ≡ handed 0 (onlyIf (m .gives) (wired 3 season j c (declarationAt v 0))) (onlyIf (m .delivers) v)
         → result o b₃ ≡ taken b p READY j c v
     unfolding taken
     ready-entered done ed ea e₁ m em e₂ b₃ e₃ eo =

@@ -9,7 +9,7 @@ use Rattle.card.specs.Card.{quorum, amplify, deliver, countsOf}
 use Rattle.card.specs.Count.{count}
 use Rattle.words.specs.Words.{Bytes}
 use Rattle.entry.specs.Entry.{Decl, Kind, ECHO, READY, isNone, holds, votes, recorded, marked}
-use Rattle.protocol.specs.Steps.{Rules, Out, say, given, reached, takesEcho, takesReady, takes}
+use Rattle.protocol.specs.Steps.{Rules, Out, say, onlyIf, reached, takesEcho, takesReady, takes}
 use Rattle.protocol.specs.Thresholds.{rulesOf}
 use Rattle.meaning.specs.Slot.{slotAt, putSlot}
 use Rattle.meaning.specs.Layout.{slotLength, heardSlot, slotPlace, entrySlot, echoSlot, readySlot, readySentSlot, deliveredSlot}
@@ -93,8 +93,8 @@ module _ (b : List ℕ) (h : legal b ≡ true) (bytes : Bytes b) (j c p : ℕ) (
       record {
         answer = 0;
         entry = marked g d v (recorded k p v (look b j c));
-        message = given g (say READY v);
-        delivery = given d v;
+        message = onlyIf g (say READY v);
+        delivery = onlyIf d v;
       }
 
   pub echo-taken : taking ECHO (echoMark (heard-in ECHO) (placeIn b j c 0) v) false ≡ takes R ECHO p v (look b j c)

@@ -1,6 +1,6 @@
 -- `message::read_message` meets its contract.
 use Rattle.message.proofs.Form.{sized}
-use Rattle.message.specs.Message.{fiveAt, gives, readOf}
+use Rattle.message.specs.Message.{fiveAt, readAs, readOf}
 use lib.ListN.{length, getD}
 use denote.Ref.{now}
 use native.Mathlib.Omega.{arith}
@@ -39,7 +39,7 @@ returns c =
     let w = c .before .before .word-at .ensures in
     let e = d .declaration-at .ensures in
     rw (← d .before .before .is-well-formed .ensures, d .before .if1 .taken)
-    (λ i. gives (record { kind = getD s 3 0; season = w i; sender = getD s 11 0; number = getD s 12 0; declaration = e i }))
+    (λ i. readAs (record { kind = getD s 3 0; season = w i; sender = getD s 11 0; number = getD s 12 0; declaration = e i }))
 
 returns-2 : tie.Need-returns-2
 unfolding readOf

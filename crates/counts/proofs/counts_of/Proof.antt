@@ -4,14 +4,14 @@ use mathlib.Core.Path.{_≡_, ap, sym, _∙_}
 use mathlib.Core.Bool.{true}
 use native.Mathlib.Omega.{arith}
 use Rattle.card.specs.declared.Column.{Column}
-use Rattle.card.specs.Card.{mostDown, houses, downOk, tolerated, fitting, quorum, amplify, deliver, columnOf, countsOf}
+use Rattle.card.specs.Card.{mostDown, housesOk, downOk, tolerated, fitting, quorum, amplify, deliver, columnOf, countsOf}
 use Rattle.card.proofs.Wall.{houses-byte, down-between, rest-houses, tolerated-byte}
 use Rattle.card.proofs.Overlap.{quorum-down}
 use Rattle.counts.proofs.counts_of.Statement.{statement}
 use Rattle.counts.proofs.counts_of.Tie as tie
 
 -- what is known of the column
-module _ (n f : ℕ) (pre : (houses n ≡ true) × (downOk n f ≡ true)) (x : Column) (e : x ≡ columnOf (n - 2 * f)) where
+module _ (n f : ℕ) (pre : (housesOk n ≡ true) × (downOk n f ≡ true)) (x : Column) (e : x ≡ columnOf (n - 2 * f)) where
   pub column-t : x .t < 256
   unfolding columnOf
   column-t = omega (arith, ap (λ (x : Column). x .t) e, tolerated-byte (n - 2 * f) (rest-houses n f (pre .0) (pre .1)))

@@ -1,15 +1,15 @@
 -- `card::is_houses` meets its contract.
 use borrow.Author.Tests.{le-leb, lt-leb}
-use Rattle.card.specs.Card.{largest, houses}
+use Rattle.card.specs.Card.{largest, housesOk}
 use Rattle.counts.proofs.is_houses.Statement.{statement}
 use Rattle.counts.proofs.is_houses.Tie as tie
 
 returns : tie.Need-returns
-unfolding houses largest
+unfolding housesOk largest
 returns c = rw (le-leb _ _ (c .if1 .taken))
 
 returns-2 : tie.Need-returns-2
-unfolding houses largest
+unfolding housesOk largest
 returns-2 c = rw (lt-leb _ _ (c .if1 .left))
 
 pub is-houses-spec : {M : Type 1} → statement M

@@ -4,13 +4,13 @@ use mathlib.Core.Path.{_≡_, refl}
 use mathlib.Core.Bool.{Bool, true, false}
 use mathlib.Core.List.{List}
 use Rattle.lot.specs.Declaration.{declarationAt}
-use Rattle.protocol.specs.Steps.{given}
+use Rattle.protocol.specs.Steps.{onlyIf}
 use Rattle.calls.specs.Entered.{isThere, wired}
 use borrow.Author.Needs.{needs}
 use Rattle.reply.proofs.accept.Statement.{statement}
 use Rattle.reply.proofs.accept.Tie as tie
 
-there : (b : Bool) (l : List ℕ) → b ≡ isThere (given b l)
+there : (b : Bool) (l : List ℕ) → b ≡ isThere (onlyIf b l)
 there true l = refl
 there false l = refl
 

@@ -1,7 +1,7 @@
 -- `step::echo_mark` meets its contract.
 use Rattle.step.proofs.Marking.{echo-found}
 use Rattle.meaning.specs.Book.{nOf}
-use Rattle.card.specs.Card.{houses, downOk}
+use Rattle.card.specs.Card.{housesOk, downOk}
 use mathlib.Core.Path.{ap₂, ap, _∙_}
 use Rattle.layout.proofs.Begins.{slot-room, row-within, echoes-below}
 use Rattle.meaning.proofs.Places.{ready-sent-below}
@@ -19,7 +19,7 @@ down-of-requires c κs = search needs
 
 counts-of-requires : tie.Need-counts-of-requires
 counts-of-requires c κs = (
-  ap houses (c .before .n-of .ensures .0) ∙ c .before .before .before .pre .n,
+  ap housesOk (c .before .n-of .ensures .0) ∙ c .before .before .before .pre .n,
   ap₂ downOk (c .before .n-of .ensures .0) (c .down-of .ensures .0) ∙ c .before .before .before .pre .down,
 )
 

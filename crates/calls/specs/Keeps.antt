@@ -9,7 +9,7 @@ use Rattle.meaning.specs.Book.{limitOf, helpedOf, headerOf, look}
 use Rattle.meaning.specs.Legal.{legal}
 
 -- bytes a after bytes b
-pub record Kept (b a : List ℕ) : Type 0 where
+pub record Keeps (b a : List ℕ) : Type 0 where
   pub legal : legal a ≡ true
   pub bytes : Bytes a
   -- n, S, own number, season, sheet and f
