@@ -18,27 +18,27 @@ const MOST_NUMBERS: u32 = 4;
 const MOST_LIMIT: u32 = 8;
 
 // S is 1 to 4.
-fn is_numbers(s: u32) -> bool
-    ensures { λ r. ⌜ r ≡ numbersOk s ⌝ }
+fn is_numbers(numbers: u32) -> bool
+    ensures { λ r. ⌜ r ≡ numbersOk numbers ⌝ }
 {
-    1 <= s && s <= MOST_NUMBERS
+    1 <= numbers && numbers <= MOST_NUMBERS
 }
 
 // n and S are allowed.
-fn is_size(n: u32, s: u32) -> bool
-    ensures { λ r. ⌜ r ≡ housesOk n && numbersOk s ⌝ }
+fn is_size(n: u32, numbers: u32) -> bool
+    ensures { λ r. ⌜ r ≡ housesOk n && numbersOk numbers ⌝ }
 {
     if counts::is_houses(n) {
-        return is_numbers(s);
+        return is_numbers(numbers);
     }
     false
 }
 
 // n, S, own number, f and d are allowed.
-fn is_allowed(n: u32, s: u32, own: u32, f: u32, d: u32) -> bool
-    ensures { λ r. ⌜ r ≡ allowed n s own f d ⌝ }
+fn is_allowed(n: u32, numbers: u32, own: u32, f: u32, d: u32) -> bool
+    ensures { λ r. ⌜ r ≡ allowed n numbers own f d ⌝ }
 {
-    if is_size(n, s) {
+    if is_size(n, numbers) {
         if own < n {
             if counts::is_down(n, f) {
                 return d <= MOST_LIMIT;
@@ -56,11 +56,11 @@ pub struct LengthAnswer {
 }
 
 // The public answer for a length that depends on n and S only.
-pub fn length_of(n: u32, s: u32) -> LengthAnswer
-    ensures { λ r. ⌜ _≡_ {A = Length} (record { answer = r .answer; length = r .length }) (lengthAnswer n s) ⌝ }
+pub fn length_of(n: u32, numbers: u32) -> LengthAnswer
+    ensures { λ r. ⌜ _≡_ {A = Length} (record { answer = r .answer; length = r .length }) (lengthAnswer n numbers) ⌝ }
 {
-    if is_size(n, s) {
-        let length = layout::book_length(n as usize, s as usize) as u64;
+    if is_size(n, numbers) {
+        let length = layout::book_length(n as usize, numbers as usize) as u64;
         return LengthAnswer { answer: 0, length };
     }
     LengthAnswer {
@@ -101,15 +101,15 @@ fn is_sized(b: &[u8]) -> bool
 {
     if layout::LIMIT < b.len() {
         let n = layout::n_of(b);
-        let s = layout::numbers_of(b);
+        let numbers = layout::numbers_of(b);
         if is_allowed(
             n as u32,
-            s as u32,
+            numbers as u32,
             layout::own_of(b) as u32,
             layout::down_of(b) as u32,
             layout::limit_of(b) as u32,
         ) {
-            return b.len() == layout::book_length(n, s);
+            return b.len() == layout::book_length(n, numbers);
         }
     }
     false
@@ -140,20 +140,20 @@ fn clear(b: &mut [u8])
 }
 
 // The bytes before the sheet: n, S, own number, season.
-fn before_sheet(n: u8, s: u8, own: u8, season: u32) -> [u8; 7]
-    ensures { λ r. ⌜ r ≡ n ∷ s ∷ own ∷ be32 season ⌝ }
+fn before_sheet(n: u8, numbers: u8, own: u8, season: u32) -> [u8; 7]
+    ensures { λ r. ⌜ r ≡ n ∷ numbers ∷ own ∷ be32 season ⌝ }
 {
     let q = octets::quad_of(season);
-    [n, s, own, q.a, q.b, q.c, q.d]
+    [n, numbers, own, q.a, q.b, q.c, q.d]
 }
 
 // Writes the whole buffer: the header, and every slot empty.
-fn lay_blank(b: &mut [u8], n: u8, s: u8, own: u8, f: u8, d: u8, season: u32, sheet: &[u8])
+fn lay_blank(b: &mut [u8], n: u8, numbers: u8, own: u8, f: u8, d: u8, season: u32, sheet: &[u8])
     requires { ⌜ (limitPlace < length (now b)) × (length (now sheet) ≡ sheetLength) ⌝ }
-    ensures { λ _. ⌜ now (b .exit) ≡ blank (length (now (b .entry))) n s own f d season (now (sheet .entry)) ⌝ }
+    ensures { λ _. ⌜ now (b .exit) ≡ blank (length (now (b .entry))) n numbers own f d season (now (sheet .entry)) ⌝ }
 {
     clear(b);
-    slots::lay_at(b, 0, &before_sheet(n, s, own, season));
+    slots::lay_at(b, 0, &before_sheet(n, numbers, own, season));
     slots::lay_at(b, layout::DOWN, &[f, d]);
     slots::lay_at(b, layout::SHEET, sheet);
 }
@@ -162,7 +162,7 @@ fn lay_blank(b: &mut [u8], n: u8, s: u8, own: u8, f: u8, d: u8, season: u32, she
 pub fn open_book(
     book: &mut [u8],
     n: u32,
-    s: u32,
+    numbers: u32,
     own: u32,
     f: u32,
     d: u32,
@@ -170,15 +170,15 @@ pub fn open_book(
     sheet: &[u8],
 ) -> u8
     ensures { λ r. ⌜ _≡_ {A = Opened} (record { answer = r; book = now (book .exit) })
-        (opened (now (book .entry)) n s own f d season (now (sheet .entry))) ⌝ }
+        (opened (now (book .entry)) n numbers own f d season (now (sheet .entry))) ⌝ }
 {
-    if is_allowed(n, s, own, f, d) {
+    if is_allowed(n, numbers, own, f, d) {
         if judge::is_sheet(sheet) {
-            if book.len() == layout::book_length(n as usize, s as usize) {
+            if book.len() == layout::book_length(n as usize, numbers as usize) {
                 lay_blank(
                     book,
                     n as u8,
-                    s as u8,
+                    numbers as u8,
                     own as u8,
                     f as u8,
                     d as u8,

@@ -18,49 +18,49 @@ pub fn is_kind(kind: u8) -> bool
 }
 
 // At i stand a tag and a two-byte length.
-fn is_field(s: &[u8], i: usize, tag: u8, len: u32) -> bool
-    requires { ⌜ i + 2 < length (now s) ⌝ }
-    ensures { λ r. ⌜ r ≡ fieldAt (now (s .entry)) i tag len ⌝ }
+fn is_field(bytes: &[u8], i: usize, tag: u8, len: u32) -> bool
+    requires { ⌜ i + 2 < length (now bytes) ⌝ }
+    ensures { λ r. ⌜ r ≡ fieldAt (now (bytes .entry)) i tag len ⌝ }
 {
-    if s[i] == tag {
-        return octets::wide(s[i + 1]) * 256 + octets::wide(s[i + 2]) == len;
+    if bytes[i] == tag {
+        return octets::wide(bytes[i + 1]) * 256 + octets::wide(bytes[i + 2]) == len;
     }
     false
 }
 
 // The three tags and lengths, in this order.
-fn is_tagged(s: &[u8]) -> bool
-    requires { ⌜ length (now s) ≡ 36 ⌝ }
-    ensures { λ r. ⌜ r ≡ tagged (now (s .entry)) ⌝ }
+fn is_tagged(bytes: &[u8]) -> bool
+    requires { ⌜ length (now bytes) ≡ 36 ⌝ }
+    ensures { λ r. ⌜ r ≡ tagged (now (bytes .entry)) ⌝ }
 {
-    if is_field(s, 0, 1, 1) {
-        if is_field(s, 4, 2, 6) {
-            return is_field(s, 13, 3, 20);
+    if is_field(bytes, 0, 1, 1) {
+        if is_field(bytes, 4, 2, 6) {
+            return is_field(bytes, 13, 3, 20);
         }
     }
     false
 }
 
 // Exactly these fields, in this order.
-fn is_well_formed(s: &[u8]) -> bool
-    ensures { λ r. ⌜ r ≡ wellFormed (now (s .entry)) ⌝ }
+fn is_well_formed(bytes: &[u8]) -> bool
+    ensures { λ r. ⌜ r ≡ wellFormed (now (bytes .entry)) ⌝ }
 {
-    if s.len() == 36 {
-        if is_tagged(s) {
-            return is_kind(s[3]);
+    if bytes.len() == 36 {
+        if is_tagged(bytes) {
+            return is_kind(bytes[3]);
         }
     }
     false
 }
 
 // A request for help: kind 9 and the season alone.
-pub fn is_request(s: &[u8]) -> bool
-    ensures { λ r. ⌜ r ≡ isRequest (now (s .entry)) ⌝ }
+pub fn is_request(bytes: &[u8]) -> bool
+    ensures { λ r. ⌜ r ≡ isRequest (now (bytes .entry)) ⌝ }
 {
-    if s.len() == 11 {
-        if is_field(s, 0, 1, 1) {
-            if is_field(s, 4, 2, 4) {
-                return s[3] == 9;
+    if bytes.len() == 11 {
+        if is_field(bytes, 0, 1, 1) {
+            if is_field(bytes, 4, 2, 4) {
+                return bytes[3] == 9;
             }
         }
     }
@@ -71,20 +71,20 @@ pub fn is_request(s: &[u8]) -> bool
 pub fn write_request(season: u32) -> [u8; 11]
     ensures { λ r. ⌜ r ≡ requestWire season ⌝ }
 {
-    let s = octets::quad_of(season);
-    [1, 0, 1, 9, 2, 0, 4, s.a, s.b, s.c, s.d]
+    let q = octets::quad_of(season);
+    [1, 0, 1, 9, 2, 0, 4, q.a, q.b, q.c, q.d]
 }
 
-pub fn read_message(s: &[u8]) -> Reading
-    ensures { λ r. ⌜ told r ≡ readOf (now (s .entry)) ⌝ }
+pub fn read_message(bytes: &[u8]) -> Reading
+    ensures { λ r. ⌜ told r ≡ readOf (now (bytes .entry)) ⌝ }
 {
-    if is_well_formed(s) {
-        let d = octets::declaration_at(s, 16);
+    if is_well_formed(bytes) {
+        let d = octets::declaration_at(bytes, 16);
         return Reading::Message {
-            kind: s[3],
-            season: octets::word_at(s, 7),
-            sender: s[11],
-            number: s[12],
+            kind: bytes[3],
+            season: octets::word_at(bytes, 7),
+            sender: bytes[11],
+            number: bytes[12],
             lot: d.lot,
             colonies: d.colonies,
             kilograms: d.kilograms,
@@ -100,7 +100,7 @@ pub fn lay_message(kind: u8, season: u32, sender: u8, number: u8, d: [u8; 20]) -
     requires { ⌜ length d ≡ 20 ⌝ }
     ensures { λ r. ⌜ r ≡ fields kind season sender number d ⌝ }
 {
-    let s = octets::quad_of(season);
+    let q = octets::quad_of(season);
     [
         1,
         0,
@@ -109,10 +109,10 @@ pub fn lay_message(kind: u8, season: u32, sender: u8, number: u8, d: [u8; 20]) -
         2,
         0,
         6,
-        s.a,
-        s.b,
-        s.c,
-        s.d,
+        q.a,
+        q.b,
+        q.c,
+        q.d,
         sender,
         number,
         3,
@@ -155,14 +155,14 @@ pub fn write_message(kind: u8, season: u32, sender: u8, number: u8, d: Declarati
 }
 
 // What reading gives, as numbers and bytes: the one place where the reader's cases are taken apart.
-pub fn parts_of(s: &[u8]) -> ReadAnswer
-    ensures { λ r. ⌜ r ≡ readAnswer (requestOf (now (s .entry))) (readOf (now (s .entry))) ⌝ }
+pub fn parts_of(bytes: &[u8]) -> ReadAnswer
+    ensures { λ r. ⌜ r ≡ readAnswer (requestOf (now (bytes .entry))) (readOf (now (bytes .entry))) ⌝ }
 {
-    if is_request(s) {
+    if is_request(bytes) {
         return ReadAnswer {
             answer: 0,
             kind: 9,
-            season: octets::word_at(s, 7),
+            season: octets::word_at(bytes, 7),
             sender: 0,
             number: 0,
             declaration: [0; 20],
@@ -178,7 +178,7 @@ pub fn parts_of(s: &[u8]) -> ReadAnswer
         kilograms,
         moisture,
         conductivity,
-    } = read_message(s)
+    } = read_message(bytes)
     else {
         return ReadAnswer {
             answer: 2,

@@ -46,12 +46,12 @@ pub fn is_legal_gate(g: Gate) -> bool
 }
 
 // Each reading is within its gate.
-fn admits(s: Sheet, r: Readings) -> bool
-    requires { ⌜ (sheetLegal s ≡ true) × (finite (r .moisture) ≡ true) × (finite (r .conductivity) ≡ true) ⌝ }
-    ensures { λ b. ⌜ b ≡ admitted s r ⌝ }
+fn admits(sheet: Sheet, r: Readings) -> bool
+    requires { ⌜ (sheetLegal sheet ≡ true) × (finite (r .moisture) ≡ true) × (finite (r .conductivity) ≡ true) ⌝ }
+    ensures { λ b. ⌜ b ≡ admitted sheet r ⌝ }
 {
-    let m = s.moisture;
-    let c = s.conductivity;
+    let m = sheet.moisture;
+    let c = sheet.conductivity;
     if is_within(m, r.moisture) {
         return is_within(c, r.conductivity);
     }
@@ -65,14 +65,14 @@ fn most(colonies: u32, cap: u32) -> u64
     (colonies as u64) * (cap as u64)
 }
 
-pub fn is_plausible(s: Sheet, d: Declaration) -> bool
-    requires { ⌜ sheetLegal s ≡ true ⌝ }
-    ensures { λ r. ⌜ r ≡ plausible s d ⌝ }
+pub fn is_plausible(sheet: Sheet, d: Declaration) -> bool
+    requires { ⌜ sheetLegal sheet ≡ true ⌝ }
+    ensures { λ r. ⌜ r ≡ plausible sheet d ⌝ }
 {
-    if d.kilograms as u64 <= most(d.colonies, s.cap) {
+    if d.kilograms as u64 <= most(d.colonies, sheet.cap) {
         if floats::is_finite(d.moisture) {
             if floats::is_finite(d.conductivity) {
-                return admits(s, readings_of(d));
+                return admits(sheet, readings_of(d));
             }
         }
     }

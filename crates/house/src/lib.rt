@@ -19,10 +19,10 @@ use message::Written;
 
 // The length of a book, or answer 9.
 #[no_mangle]
-pub extern "C" fn gm_length(n: u32, s: u32) -> LengthAnswer
-    ensures { λ r. ⌜ _≡_ {A = Length} (record { answer = r .answer; length = r .length }) (lengthAnswer n s) ⌝ }
+pub extern "C" fn gm_length(n: u32, numbers: u32) -> LengthAnswer
+    ensures { λ r. ⌜ _≡_ {A = Length} (record { answer = r .answer; length = r .length }) (lengthAnswer n numbers) ⌝ }
 {
-    book::length_of(n, s)
+    book::length_of(n, numbers)
 }
 
 // Opening: 9, 10, 11; else the whole buffer is written.
@@ -30,7 +30,7 @@ pub extern "C" fn gm_length(n: u32, s: u32) -> LengthAnswer
 pub extern "C" fn gm_open(
     book: &mut [u8],
     n: u32,
-    s: u32,
+    numbers: u32,
     own: u32,
     f: u32,
     d: u32,
@@ -38,9 +38,9 @@ pub extern "C" fn gm_open(
     sheet: &[u8],
 ) -> u8
     ensures { λ r. ⌜ _≡_ {A = Opened} (record { answer = r; book = now (book .exit) })
-        (opened (now (book .entry)) n s own f d season (now (sheet .entry))) ⌝ }
+        (opened (now (book .entry)) n numbers own f d season (now (sheet .entry))) ⌝ }
 {
-    book::open_book(book, n, s, own, f, d, season, sheet)
+    book::open_book(book, n, numbers, own, f, d, season, sheet)
 }
 
 // Publishing: 1, 4, 5, 8.

@@ -9,14 +9,14 @@ use sheet::Kept;
 use sheet::Sheet;
 
 // The kind and limits that stand at i.
-fn kept_at(s: &[u8], i: usize) -> Kept
-    requires { ⌜ i + 8 < length (now s) ⌝ }
-    ensures { λ r. ⌜ r ≡ keptAt (now (s .entry)) i ⌝ }
+fn kept_at(bytes: &[u8], i: usize) -> Kept
+    requires { ⌜ i + 8 < length (now bytes) ⌝ }
+    ensures { λ r. ⌜ r ≡ keptAt (now (bytes .entry)) i ⌝ }
 {
     Kept {
-        kind: s[i],
-        low: octets::word_at(s, i + 1),
-        high: octets::word_at(s, i + 5),
+        kind: bytes[i],
+        low: octets::word_at(bytes, i + 1),
+        high: octets::word_at(bytes, i + 5),
     }
 }
 
@@ -74,34 +74,34 @@ fn is_legal_kept(k: Kept) -> bool
 }
 
 // The sheet whose 22 bytes stand at i.
-pub fn sheet_at(s: &[u8], i: usize) -> Sheet
-    requires { ⌜ i + 21 < length (now s) ⌝ }
-    ensures { λ r. ⌜ r ≡ sheetAt (now (s .entry)) i ⌝ }
+pub fn sheet_at(bytes: &[u8], i: usize) -> Sheet
+    requires { ⌜ i + 21 < length (now bytes) ⌝ }
+    ensures { λ r. ⌜ r ≡ sheetAt (now (bytes .entry)) i ⌝ }
 {
     Sheet {
-        cap: octets::word_at(s, i),
-        moisture: gate_of(kept_at(s, i + 4)),
-        conductivity: gate_of(kept_at(s, i + 13)),
+        cap: octets::word_at(bytes, i),
+        moisture: gate_of(kept_at(bytes, i + 4)),
+        conductivity: gate_of(kept_at(bytes, i + 13)),
     }
 }
 
 // The 22 bytes at i are the one form of a legal sheet.
-pub fn is_sheet_at(s: &[u8], i: usize) -> bool
-    requires { ⌜ i + 21 < length (now s) ⌝ }
-    ensures { λ r. ⌜ r ≡ sheetLegalAt (now (s .entry)) i ⌝ }
+pub fn is_sheet_at(bytes: &[u8], i: usize) -> bool
+    requires { ⌜ i + 21 < length (now bytes) ⌝ }
+    ensures { λ r. ⌜ r ≡ sheetLegalAt (now (bytes .entry)) i ⌝ }
 {
-    if is_legal_kept(kept_at(s, i + 4)) {
-        return is_legal_kept(kept_at(s, i + 13));
+    if is_legal_kept(kept_at(bytes, i + 4)) {
+        return is_legal_kept(kept_at(bytes, i + 13));
     }
     false
 }
 
 // These bytes are the one form of a legal sheet.
-pub fn is_sheet(s: &[u8]) -> bool
-    ensures { λ r. ⌜ r ≡ isSheet (now (s .entry)) ⌝ }
+pub fn is_sheet(bytes: &[u8]) -> bool
+    ensures { λ r. ⌜ r ≡ isSheet (now (bytes .entry)) ⌝ }
 {
-    if s.len() == 22 {
-        return is_sheet_at(s, 0);
+    if bytes.len() == 22 {
+        return is_sheet_at(bytes, 0);
     }
     false
 }

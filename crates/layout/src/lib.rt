@@ -132,11 +132,11 @@ fn slots_of(entries: usize, n: usize) -> usize
 }
 
 // The slots of a book.
-pub fn slot_count(n: usize, s: usize) -> usize
-    requires { ⌜ (n < 256) × (s < 256) ⌝ }
-    ensures { λ r. ⌜ (r ≡ slotCount n s) × (r < 134217728) ⌝ }
+pub fn slot_count(n: usize, numbers: usize) -> usize
+    requires { ⌜ (n < 256) × (numbers < 256) ⌝ }
+    ensures { λ r. ⌜ (r ≡ slotCount n numbers) × (r < 134217728) ⌝ }
 {
-    s + slots_of(entries_of(s, n), n)
+    numbers + slots_of(entries_of(numbers, n), n)
 }
 
 // Where slot k begins.
@@ -148,19 +148,19 @@ pub fn slot_place(n: usize, k: usize) -> usize
 }
 
 // Slot i of the entry of number c and sender j, counted over the book.
-fn entry_slot(n: usize, s: usize, c: usize, j: usize, i: usize) -> usize
-    requires { ⌜ (n < 256) × (s < 256) × (c < 256) × (j < 256) × (i < 1024) ⌝ }
-    ensures { λ r. ⌜ (r ≡ entrySlot n s c j i) × (r < 134217728) ⌝ }
+fn entry_slot(n: usize, numbers: usize, c: usize, j: usize, i: usize) -> usize
+    requires { ⌜ (n < 256) × (numbers < 256) × (c < 256) × (j < 256) × (i < 1024) ⌝ }
+    ensures { λ r. ⌜ (r ≡ entrySlot n numbers c j i) × (r < 134217728) ⌝ }
 {
-    s + slots_of(entries_of(c, n) + j, n) + i
+    numbers + slots_of(entries_of(c, n) + j, n) + i
 }
 
 // The bytes of a book.
-pub fn book_length(n: usize, s: usize) -> usize
-    requires { ⌜ (n < 256) × (s < 256) ⌝ }
-    ensures { λ r. ⌜ r ≡ lengthOf n s ⌝ }
+pub fn book_length(n: usize, numbers: usize) -> usize
+    requires { ⌜ (n < 256) × (numbers < 256) ⌝ }
+    ensures { λ r. ⌜ r ≡ lengthOf n numbers ⌝ }
 {
-    slot_place(n, slot_count(n, s))
+    slot_place(n, slot_count(n, numbers))
 }
 
 // Where the entry of a sender and a number begins.
@@ -169,8 +169,8 @@ pub fn entry_at(book: &[u8], sender: usize, number: usize) -> usize
     ensures { λ r. ⌜ Begins (now (book .entry)) sender number r ⌝ }
 {
     let n = n_of(book);
-    let s = numbers_of(book);
-    slot_place(n, entry_slot(n, s, number, sender, 0))
+    let numbers = numbers_of(book);
+    slot_place(n, entry_slot(n, numbers, number, sender, 0))
 }
 
 // Where what this house published at a number stands.

@@ -25,24 +25,27 @@ pub fn wide(x: u8) -> u32
 }
 
 // The number whose four bytes stand at i.
-pub fn word_at(s: &[u8], i: usize) -> u32
-    requires { ⌜ i + 3 < length (now s) ⌝ }
-    ensures { λ r. ⌜ r ≡ wordAt (now (s .entry)) i ⌝ }
+pub fn word_at(bytes: &[u8], i: usize) -> u32
+    requires { ⌜ i + 3 < length (now bytes) ⌝ }
+    ensures { λ r. ⌜ r ≡ wordAt (now (bytes .entry)) i ⌝ }
 {
-    wide(s[i]) * 16777216 + wide(s[i + 1]) * 65536 + wide(s[i + 2]) * 256 + wide(s[i + 3])
+    wide(bytes[i]) * 16777216
+        + wide(bytes[i + 1]) * 65536
+        + wide(bytes[i + 2]) * 256
+        + wide(bytes[i + 3])
 }
 
 // The declaration whose 20 bytes stand at i.
-pub fn declaration_at(s: &[u8], i: usize) -> Declaration
-    requires { ⌜ i + 19 < length (now s) ⌝ }
-    ensures { λ r. ⌜ r ≡ declarationAt (now (s .entry)) i ⌝ }
+pub fn declaration_at(bytes: &[u8], i: usize) -> Declaration
+    requires { ⌜ i + 19 < length (now bytes) ⌝ }
+    ensures { λ r. ⌜ r ≡ declarationAt (now (bytes .entry)) i ⌝ }
 {
     Declaration {
-        lot: word_at(s, i),
-        colonies: word_at(s, i + 4),
-        kilograms: word_at(s, i + 8),
-        moisture: word_at(s, i + 12),
-        conductivity: word_at(s, i + 16),
+        lot: word_at(bytes, i),
+        colonies: word_at(bytes, i + 4),
+        kilograms: word_at(bytes, i + 8),
+        moisture: word_at(bytes, i + 12),
+        conductivity: word_at(bytes, i + 16),
     }
 }
 

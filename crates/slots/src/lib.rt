@@ -13,11 +13,11 @@ ghost use Rattle.slots.specs.Parts.{twoWordsAt};
 pub const LENGTH: usize = 21;
 
 // The number whose eight bytes stand at i: two words, which compile to one load.
-fn two_words_at(s: &[u8], i: usize) -> u64
-    requires { ⌜ i + 7 < length (now s) ⌝ }
-    ensures { λ r. ⌜ r ≡ twoWordsAt (now (s .entry)) i ⌝ }
+fn two_words_at(bytes: &[u8], i: usize) -> u64
+    requires { ⌜ i + 7 < length (now bytes) ⌝ }
+    ensures { λ r. ⌜ r ≡ twoWordsAt (now (bytes .entry)) i ⌝ }
 {
-    (octets::word_at(s, i) as u64) * 4294967296 + (octets::word_at(s, i + 4) as u64)
+    (octets::word_at(bytes, i) as u64) * 4294967296 + (octets::word_at(bytes, i + 4) as u64)
 }
 
 // Whether the 20 bytes at `at` are d, by words of 8, 8 and 4 bytes.

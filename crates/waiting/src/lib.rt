@@ -26,8 +26,8 @@ fn waits_at(book: &[u8], sender: usize, number: usize) -> bool
 }
 
 // Lowest number first and then lowest sender.
-fn search(book: &[u8], n: usize, s: usize) -> Found
-    requires { ⌜ (legal (now book) ≡ true) × (n ≡ nOf (now book)) × (s ≡ numbersOf (now book)) ⌝ }
+fn search(book: &[u8], n: usize, numbers: usize) -> Found
+    requires { ⌜ (legal (now book) ≡ true) × (n ≡ nOf (now book)) × (numbers ≡ numbersOf (now book)) ⌝ }
     ensures { λ r. ⌜ told r ≡ found (earliest (now (book .entry))) ⌝ }
 {
     let mut found = Found::Nothing;

@@ -11,7 +11,7 @@ quad-of-requires : tie.Need-quad-of-requires
 quad-of-requires c κs = search needs
 
 returns : tie.Need-returns
-returns c = ap (λ (q : Quad). c .before .args .n ∷ c .before .args .s ∷ c .before .args .own ∷ listOf q) (c .quad-of .ensures)
+returns c = ap (λ (q : Quad). c .before .args .n ∷ c .before .args .numbers ∷ c .before .args .own ∷ listOf q) (c .quad-of .ensures)
 
 pub before-sheet-spec : {M : Type 1} → statement M
 before-sheet-spec = tie.close (tie.spec quad-of-requires returns)

@@ -10,7 +10,7 @@ use Rattle.codec.proofs.read_message.Statement.{statement}
 use Rattle.codec.proofs.read_message.Tie as tie
 
 -- past the test the slice is 36 bytes long
-long : (c : tie.Then1) → length (now (c .before .before .before .args .s)) ≡ 36
+long : (c : tie.Then1) → length (now (c .before .before .before .args .bytes)) ≡ 36
 long c = sized _ (sym (c .before .is-well-formed .ensures) ∙ c .if1 .taken)
 
 is-well-formed-requires : tie.Need-is-well-formed-requires
@@ -35,7 +35,7 @@ returns : tie.Need-returns
 unfolding readOf fiveAt
 returns c =
     let d = c .before .before .before .before in
-    let s = now (d .before .before .before .before .args .s) in
+    let s = now (d .before .before .before .before .args .bytes) in
     let w = c .before .before .word-at .ensures in
     let e = d .declaration-at .ensures in
     rw (← d .before .before .is-well-formed .ensures, d .before .if1 .taken)

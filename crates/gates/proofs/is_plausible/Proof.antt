@@ -39,7 +39,7 @@ returns c =
     let moisture = c .before .before .before .before .before in
     let m = moisture .before .before in
     rw (← m .most .ensures, le-leb _ _ (moisture .before .if1 .taken))
-    (c .admits .ensures ∙ ap (admitted (m .before .before .args .s)) (c .before .readings-of .ensures))
+    (c .admits .ensures ∙ ap (admitted (m .before .before .args .sheet)) (c .before .readings-of .ensures))
 
 returns-2 : tie.Need-returns-2
 returns-2 c = conductivity-not-finite _ _ (sym (c .before .is-finite2 .ensures) ∙ c .if3 .left)
