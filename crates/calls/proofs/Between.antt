@@ -34,7 +34,7 @@ place-other f j c x j₂ c₂ d = go (sameEntry j c j₂ c₂) refl
 -- ---- the named entry alone
 
 module _ (b : List ℕ) (h : legal b ≡ true) (bytes : Bytes b) where
-  pub called-others : (a : Call) (j c : ℕ) → Other (senderOf (ownOf b) a) (numberOf a) j c → look (called b a .book) j c ≡ look b j c
+  called-others : (a : Call) (j c : ℕ) → Other (senderOf (ownOf b) a) (numberOf a) j c → look (called b a .book) j c ≡ look b j c
   called-others a j c d =
       ap (λ (f : PerEntry Entry). f j c) (called-stored b h bytes a .entries)
       ∙ place-other (look b) (senderOf (ownOf b) a) (numberOf a) (stepOf b a .entry) j c d
@@ -112,7 +112,7 @@ module _ (b d : List ℕ) (hb : legal b ≡ true) (hd : legal d ≡ true) (bb : 
       alone (rulesBy (headerOf b)) (numbersOf b) (ownOf b) a .same (look b) (look d) e
       ∙ ap (λ (h : Header). outcome (rulesBy h) (h .numbers) (h .own) a (look d)) same
 
-  pub called-same : (a : Call) → look b (senderOf (ownOf b) a) (numberOf a) ≡ look d (senderOf (ownOf b) a) (numberOf a)
+  called-same : (a : Call) → look b (senderOf (ownOf b) a) (numberOf a) ≡ look d (senderOf (ownOf b) a) (numberOf a)
       → Alike (called b a) (called d a) (senderOf (ownOf b) a) (numberOf a)
   called-same a e =
       let o = step-same a e in

@@ -4,7 +4,6 @@ use mathlib.Core.Path.{_≡_, refl, ap, subst, _∙_}
 use mathlib.Core.Bool.{Bool, true, false}
 use mathlib.Core.List.{List, [], _∷_}
 use native.Mathlib.Omega.{arith}
-use lib.ListN.{length}
 use borrow.Author.Tests.{eq-eqb, lt-ltb}
 use Rattle.words.specs.Words.{Bytes}
 use Rattle.lot.specs.declared.Declaration.{Declaration}
@@ -33,7 +32,7 @@ unfolding okBy
 plausible-ok s z v d t i es ed et = rw (decl-true v i) (et ∙ (λ i. plausible (es i) (ed i)))
 
 -- the numbers read from bytes have 20 bytes
-pub read-decl : (s : List ℕ) (i : ℕ) → Bytes s → IsDecl (bytesOf (declarationAt s i))
+read-decl : (s : List ℕ) (i : ℕ) → Bytes s → IsDecl (bytesOf (declarationAt s i))
 unfolding bytesOf
 read-decl s i b = record { long = refl; bytes = bytes-are-bytes s i b }
 
@@ -51,7 +50,3 @@ message-decl s m b r = go (wellFormed s) refl
         let q : malformed ≡ readAs m = rw h at r in
         let z : _≡_ {A = ℕ} 2 0 = ap (λ (x : Told). x .answer) q in
         absurd (omega arith)
-
--- 20 lent bytes are a declaration, and the bytes of their numbers
-pub lent-decl : (v : List ℕ) → length v ≡ 20 → Bytes v → IsDecl v
-lent-decl v l b = record { long = l; bytes = b }

@@ -26,7 +26,7 @@ some-none x e = let z = ap numberOr e in omega arith
 
 module _ (f : ℕ → Option Place) where
   -- nothing below m: nothing at each
-  pub none-at : (m : ℕ) → firstBelow f m ≡ none → (k : ℕ) → k < m → f k ≡ none
+  none-at : (m : ℕ) → firstBelow f m ≡ none → (k : ℕ) → k < m → f k ≡ none
   unfolding firstBelow
   none-at zero e k l = absurd (omega arith)
   none-at (suc m) e k l = go (firstBelow f m) refl (λ h a. none-at m h k a)
@@ -35,7 +35,7 @@ module _ (f : ℕ → Option Place) where
       go none h ih = ⊎-elim (ih h) (λ q. rw q (rw h at e)) (lt-or-eq k m l)
       go (some x) h ih = absurd (some-none x (rw h at e))
 
-  pub none-below : (m : ℕ) → ((k : ℕ) → k < m → f k ≡ none) → firstBelow f m ≡ none
+  none-below : (m : ℕ) → ((k : ℕ) → k < m → f k ≡ none) → firstBelow f m ≡ none
   unfolding firstBelow
   none-below zero h = refl
   none-below (suc m) h = rw (none-below m (λ k l. h k (omega arith))) (h m (omega arith))
@@ -46,7 +46,7 @@ module _ (f : ℕ → Option Place) where
   first-at zero k x l e h = absurd (omega arith)
   first-at (suc m) k x l e h = ⊎-elim (λ a. rw (first-at m k x a e h)) (λ q. rw (← q, h) e) (lt-or-eq k m l)
 
-  pub at-first : (m : ℕ) (x : Place) → firstBelow f m ≡ some x → (k : ℕ) × (k < m) × (f k ≡ some x) × (firstBelow f k ≡ none)
+  at-first : (m : ℕ) (x : Place) → firstBelow f m ≡ some x → (k : ℕ) × (k < m) × (f k ≡ some x) × (firstBelow f k ≡ none)
   unfolding firstBelow
   at-first zero x e = absurd (some-none x (sym e))
   at-first (suc m) x e = go (firstBelow f m) refl (λ h. at-first m x h)
@@ -67,7 +67,7 @@ module _ (b : List ℕ) (c j : ℕ) where
   unfolding waitingAt
   waiting-none e = rw e
 
-  pub none-waits : waitingAt b c j ≡ none → waits b j c ≡ false
+  none-waits : waitingAt b c j ≡ none → waits b j c ≡ false
   unfolding waitingAt
   none-waits e = go (waits b j c) refl
     where

@@ -1,14 +1,13 @@
 -- What a call keeps of a legal book: it stays legal, its header stays but for the help counted, slots only ever fill; and an accepted
 -- call's bytes mean the book with the named entry as the step leaves it.
 use Prim.Native.Nat.{ℕ, suc, _≤_}
-use mathlib.Core.Path.{_≡_, refl, sym, ap, ap₂, _∙_, subst}
+use mathlib.Core.Path.{_≡_, refl, sym, ap, subst}
 use mathlib.Core.Bool.{Bool, true, false, cond, and-eq-true-iff}
 use mathlib.Core.List.{List}
 use mathlib.Core.Option.{Option, none, some}
 use native.Mathlib.Nat.{le-refl}
 use native.Mathlib.Omega.{arith}
 use lib.Dec.{T, eqb, ltb}
-use lib.ListN.{length}
 use borrow.Author.Tests.{eqb-true, eqb-false, ltb-true}
 use Rattle.words.specs.Words.{Bytes}
 use Rattle.sheet.specs.declared.Sheet.{Sheet}
@@ -22,12 +21,9 @@ use Rattle.protocol.specs.Thresholds.{rulesOf}
 use Rattle.entry.proofs.Basics.{true-of, and-l, upd-all}
 use Rattle.entry.proofs.Filled.{filled-refl}
 use Rattle.protocol.proofs.Calls.{outcome-done}
-use Rattle.meaning.specs.Layout.{lengthOf}
 use Rattle.meaning.specs.Book.{Help, helpedOf, headerOf, helpOf, moreHelp, withHelp, countHelp, Meaning, nOf, numbersOf, ownOf, seasonOf}
 use Rattle.meaning.specs.Book.{sheetOf, look, meant}
 use Rattle.meaning.specs.Legal.{legal, IsDecl, IsEntry, IsBook}
-use Rattle.meaning.proofs.Legality.{legal-facts}
-use Rattle.meaning.proofs.Agree.{agree-n, agree-numbers}
 use Rattle.meaning.proofs.Entries.{same-entry}
 use Rattle.meaning.proofs.Stores.{Stored, stored-none}
 use Rattle.meaning.proofs.OneForm.{stored-meant}
@@ -57,7 +53,7 @@ place-all Φ f j c x a g j₂ c₂ = go (sameEntry j c j₂ c₂) refl
     go false e = g j₂ c₂
 
 module _ (b : List ℕ) (h : legal b ≡ true) (bytes : Bytes b) where
-  pub kept-none : Keeps b b
+  kept-none : Keeps b b
   kept-none =
       record {
         legal = h;
@@ -67,12 +63,6 @@ module _ (b : List ℕ) (h : legal b ≡ true) (bytes : Bytes b) where
         helped = λ p. le-refl (helpedOf b p);
         fills = λ j c. filled-refl (look b j c);
       }
-
-  pub kept-length : (a : List ℕ) → Keeps b a → length a ≡ length b
-  kept-length a k =
-      legal-facts a (k .legal) .long
-      ∙ ap₂ lengthOf (agree-n a b (k .header)) (agree-numbers a b (k .header))
-      ∙ sym (legal-facts b h .long)
 
   module _ (a : Call) where
     -- the entry that the call names, and the step on it
@@ -200,7 +190,7 @@ module _ (b : List ℕ) (h : legal b ≡ true) (bytes : Bytes b) where
               (filled-refl (look b j c));
         }
 
-    pub requested-keeps : Keeps b (requested b p season .book)
+    requested-keeps : Keeps b (requested b p season .book)
     unfolding requested
     requested-keeps = go (eqb (requestAnswer b p season) 0) refl
       where
@@ -220,11 +210,11 @@ module _ (b : List ℕ) (h : legal b ≡ true) (bytes : Bytes b) where
         go false e = refl
 
   -- for every number and declaration, every house number and message
-  pub published-keeps : (c : ℕ) (v : Decl) → Keeps b (published b c v .book)
+  published-keeps : (c : ℕ) (v : Decl) → Keeps b (published b c v .book)
   unfolding published
   published-keeps c v = rw h (called-keeps (publishing c v))
 
-  pub received-keeps : (p : ℕ) (message : List ℕ) → Keeps b (received b p message .book)
+  received-keeps : (p : ℕ) (message : List ℕ) → Keeps b (received b p message .book)
   unfolding received
   received-keeps p message = rw h (any (requestOf message) (readOf message .five))
     where

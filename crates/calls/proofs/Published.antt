@@ -83,7 +83,7 @@ module _ (b : List ℕ) (c : ℕ) (v : List ℕ) where
   unfolding published
   published-no-book h r q = rw h (ap (λ (x : Outcome). result x b) q)
 
-  pub published-legal : legal b ≡ true → (x : Result) → x ≡ called b (publishing c v) → x ≡ published b c v
+  published-legal : legal b ≡ true → (x : Result) → x ≡ called b (publishing c v) → x ≡ published b c v
   unfolding published
   published-legal h x q = rw h q
 

@@ -7,24 +7,17 @@ use mathlib.Core.Option.{Option, none, some}
 use lib.Dec.{eqb}
 use Rattle.lot.specs.Declaration.{bytesOf}
 use Rattle.message.specs.Message.{Five, readOf, requestOf}
-use Rattle.entry.specs.Entry.{Decl, Kind, heard}
-use Rattle.protocol.specs.Steps.{Out, must, may, recording}
+use Rattle.entry.specs.Entry.{Decl, Kind}
+use Rattle.protocol.specs.Steps.{Out, must}
 use Rattle.protocol.specs.Book.{Call, publishing, receiving, senderOf, numberOf, outcome}
 use Rattle.protocol.specs.Run.{helpAnswer}
-use Rattle.meaning.specs.Book.{Meaning, meant, look, nOf, ownOf, seasonOf, limitOf, helpedOf, countHelp, sheetOf}
+use Rattle.meaning.specs.Book.{Meaning, meant, nOf, ownOf, seasonOf, limitOf, helpedOf, countHelp}
 use Rattle.meaning.specs.Legal.{legal}
-use Rattle.calls.specs.Entered.{Result, handed, helping, okBy, rulesBy, kindOf, entered}
+use Rattle.calls.specs.Entered.{Result, handed, helping, rulesBy, kindOf, entered}
 
 -- Every refusal leaves the lent buffer byte for byte and carries no message and no delivery.
 abbrev pub refusal : ℕ → List ℕ → Result
 refusal answer b = record { given = handed answer none none; book = b }
-
--- the answers of receiving, past those before them: 6, then recording's; and 5 before these
-abbrev pub fromAnswer : List ℕ → (house : ℕ) → Kind → (sender number : ℕ) → Decl → ℕ
-fromAnswer b p k j c v = must (may j k p) 6 (recording (heard k p (look b j c)) v)
-
-abbrev pub lotAnswer : List ℕ → (house : ℕ) → Kind → (sender number : ℕ) → Decl → ℕ
-lotAnswer b p k j c v = must (okBy (sheetOf b) v) 5 (fromAnswer b p k j c v)
 
 -- a step's outcome at the bytes
 abbrev pub carried : List ℕ → (sender number : ℕ) → Out → Result

@@ -28,7 +28,7 @@ bit-not : (a : Bool) → bit a + bit (not a) ≡ 1
 bit-not true = refl
 bit-not false = refl
 
-pub count-le : (P : ℕ → Bool) (n : ℕ) → count P n ≤ n
+count-le : (P : ℕ → Bool) (n : ℕ) → count P n ≤ n
 count-le P zero = omega arith
 count-le P (suc n) = omega (arith, bit-le (P n), count-le P n)
 

@@ -38,11 +38,6 @@ module _ (n t f : ℕ) (third : 3 * t + 2 * f < n) where
   unfolding amplify
   rest-amplify = omega arith
 
--- the card's t is below a third
-pub tolerated-third : (n : ℕ) → 0 < n → 3 * tolerated n < n
-unfolding tolerated
-tolerated-third n h = omega arith
-
 -- t fits, and no larger one does
 pub fitting-largest : (n f : ℕ) → 2 * f < n → Largest n f (fitting n f)
 unfolding fitting tolerated

@@ -10,7 +10,8 @@ use Rattle.sheet.specs.Kept.{sheetBytes, judged}
 use Rattle.message.specs.Message.{readAs, readOf, writtenOf}
 use Rattle.calls.specs.Entered.{handed}
 use Rattle.calls.specs.Call.{received}
-use Rattle.cases.specs.Row.{Heard, Row, card, short, judge, form, calls, says, messageFor, delivered, freshBook, Calls, Holds, All, Has}
+use Rattle.cases.specs.Row.{Heard, Row, card, short, judge, form, calls, says, messageFor, delivered, freshBook, Calls, Holds, All}
+use Rattle.cases.specs.Row.{Has}
 use Rattle.cases.proofs.Tested.{Tested, passed, failed, after, both, either, number, atMost}
 use Rattle.cases.proofs.Values.{written, told, outcome}
 

@@ -10,6 +10,9 @@ use message::ReadAnswer;
 use message::Reading;
 use message::Written;
 
+// The answer where there is no message.
+const MALFORMED: u8 = 2;
+
 // 1 SEND, 2 ECHO, 3 READY.
 pub fn is_kind(kind: u8) -> bool
     ensures { λ r. ⌜ r ≡ isKind kind ⌝ }
@@ -149,7 +152,7 @@ pub fn write_message(kind: u8, season: u32, sender: u8, number: u8, d: Declarati
         return Written { answer: 0, message };
     }
     Written {
-        answer: 2,
+        answer: MALFORMED,
         message: [0; 36],
     }
 }
@@ -181,7 +184,7 @@ pub fn parts_of(bytes: &[u8]) -> ReadAnswer
     } = read_message(bytes)
     else {
         return ReadAnswer {
-            answer: 2,
+            answer: MALFORMED,
             kind: 0,
             season: 0,
             sender: 0,

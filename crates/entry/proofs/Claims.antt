@@ -6,12 +6,13 @@ use mathlib.Core.Logic.{_↔_}
 use mathlib.Core.Option.{Option, none, some}
 use native.Mathlib.Omega.{arith}
 use Rattle.card.proofs.Counting.{count-set}
-use Rattle.entry.specs.Entry.{Decl, same, holds, votes}
+use Rattle.entry.specs.Entry.{Decl, same, holds, votes, Entry, PerEntry, putAt, sameEntry}
 use Rattle.entry.specs.Lists.{upd}
 use Rattle.entry.specs.Claims.{Claims}
 use Rattle.entry.proofs.Basics.{bcase, T-of, true-of, same-refl, same-eq, holds-eq, eq-holds, upd-same, upd-other, votes-up}
-use Rattle.entry.proofs.Basics.{votes-other}
+use Rattle.entry.proofs.Basics.{votes-other, entry-refl, and-l, and-r}
 use Rattle.entry.proofs.Filled.{recorded-filled, recorded-heard}
+use lib.Dec.{eqb, eqb→eq}
 
 same-exactly : (v w : Decl) → (same v w ≡ true) ↔ (v ≡ w)
 same-exactly v w = (λ e. same-eq v w (T-of e), λ e. rw e (true-of (same w w) (same-refl w)))
@@ -30,6 +31,15 @@ none-for-another : (f : ℕ → Option Decl) (p : ℕ) (v w : Decl) (n : ℕ) �
 none-for-another f p v w n e d =
     bcase (same v w) (λ t. absurd (d (same-eq v w (T-of t)))) (λ t. omega (arith, votes-up f p v w n e, votes-other f p v w n t))
 
+put-there : (b : PerEntry Entry) (j c : ℕ) (e : Entry) → putAt b j c e j c ≡ e
+put-there b j c e = rw (true-of (sameEntry j c j c) (entry-refl j c))
+
+put-elsewhere : (b : PerEntry Entry) (j c : ℕ) (e : Entry) (j₂ c₂ : ℕ) → ((j₂ ≡ j) × (c₂ ≡ c) → ⊥) → putAt b j c e j₂ c₂ ≡ b j₂ c₂
+put-elsewhere b j c e j₂ c₂ d =
+    bcase (sameEntry j c j₂ c₂)
+    (λ t. absurd (d (eqb→eq j₂ j (and-l (eqb j₂ j) (eqb c₂ c) (T-of t)), eqb→eq c₂ c (and-r (eqb j₂ j) (eqb c₂ c) (T-of t)))))
+    (λ t. rw t)
+
 pub claims : Claims
 claims =
     record {
@@ -39,4 +49,10 @@ claims =
       none-for-another = none-for-another;
       recorded-heard = recorded-heard;
       recorded-filled = recorded-filled;
+      announced-is = λ v e. refl;
+      marked-sent = λ d v e. refl;
+      marked-delivered = λ b v e. refl;
+      not-marked = λ v e. refl;
+      put-there = put-there;
+      put-elsewhere = put-elsewhere;
     }

@@ -1,10 +1,10 @@
 -- What this crate promises: when two declarations are the same, what a voucher counts for, and what recording a message leaves.
 use Prim.Native.Nat.{ℕ, suc, _<_}
 use mathlib.Core.Path.{_≡_}
-use mathlib.Core.Bool.{true}
+use mathlib.Core.Bool.{Bool, true, false}
 use mathlib.Core.Logic.{_↔_}
 use mathlib.Core.Option.{Option, none, some}
-use Rattle.entry.specs.Entry.{Decl, Kind, Entry, same, holds, heard, votes, recorded, Filled}
+use Rattle.entry.specs.Entry.{Decl, Kind, Entry, same, holds, heard, votes, recorded, marked, announced, PerEntry, putAt, Filled}
 use Rattle.entry.specs.Lists.{upd}
 
 pub record Claims : Type 0 where
@@ -19,3 +19,12 @@ pub record Claims : Type 0 where
   -- A message is heard where it was recorded, and in an empty slot it displaces nothing.
   pub recorded-heard : (k : Kind) (p : ℕ) (v : Decl) (e : Entry) → heard k p (recorded k p v e) ≡ some v
   pub recorded-filled : (k : Kind) (p : ℕ) (v : Decl) (e : Entry) → heard k p e ≡ none → Filled e (recorded k p v e)
+  -- What is marked stands marked: what was published, a READY sent, a delivery.
+  pub announced-is : (v : Decl) (e : Entry) → announced v e .published ≡ some v
+  pub marked-sent : (d : Bool) (v : Decl) (e : Entry) → marked true d v e .readySent ≡ some v
+  pub marked-delivered : (b : Bool) (v : Decl) (e : Entry) → marked b true v e .delivered ≡ some v
+  -- and nothing else is.
+  pub not-marked : (v : Decl) (e : Entry) → marked false false v e ≡ e
+  -- A book with another entry at j and c has that entry there, and elsewhere what it had.
+  pub put-there : (b : PerEntry Entry) (j c : ℕ) (e : Entry) → putAt b j c e j c ≡ e
+  pub put-elsewhere : (b : PerEntry Entry) (j c : ℕ) (e : Entry) (j₂ c₂ : ℕ) → ((j₂ ≡ j) × (c₂ ≡ c) → ⊥) → putAt b j c e j₂ c₂ ≡ b j₂ c₂

@@ -16,7 +16,7 @@ use Rattle.floats.specs.Place.{place}
 
 -- ---- tests of whole numbers
 
-pub same-ltb : (a b c d : ℕ) → (a < b → c < d) → (c < d → a < b) → ltb a b ≡ ltb c d
+same-ltb : (a b c d : ℕ) → (a < b → c < d) → (c < d → a < b) → ltb a b ≡ ltb c d
 same-ltb a b c d f g = go (ltb a b) (ltb c d) refl refl
   where
     go : (x y : Bool) → ltb a b ≡ x → ltb c d ≡ y → x ≡ y
@@ -205,7 +205,7 @@ lt-bits a b h k =
     ∙ placed (leb 0x8000_0000 a) (leb 0x8000_0000 b) (a % 0x8000_0000) (b % 0x8000_0000) (omega arith) (omega arith)
 
 -- of floats: what is below is of the lower place
-pub lt-places : (x y : Float) → T (fits binary32 x) → T (fits binary32 y) → finite x ≡ true → finite y ≡ true
+lt-places : (x y : Float) → T (fits binary32 x) → T (fits binary32 y) → finite x ≡ true → finite y ≡ true
     → lt x y ≡ ltb (place (toBits binary32 x)) (place (toBits binary32 y))
 lt-places x y X Y h k =
     let p = ofBits-toBits binary32 x X in

@@ -1,15 +1,10 @@
 -- What the ten calls promise beside their contracts, in document 01's order.
 use Prim.Native.Nat.{ℕ}
 use mathlib.Core.Path.{_≡_}
-use mathlib.Core.Bool.{true}
 use mathlib.Core.List.{List}
-use lib.ListN.{length, replicate}
-use Rattle.words.specs.Words.{Bytes}
 use Rattle.words.specs.Settled.{Settled}
-use Rattle.lot.specs.Declaration.{declarationAt}
 use Rattle.sheet.specs.Kept.{judged}
 use Rattle.message.specs.declared.Written.{Written}
-use Rattle.message.specs.Message.{isKind, readOf, requestWire, requestOf, writtenOf}
 use Rattle.book.specs.Claims as book
 use Rattle.calls.specs.Claims as counter
 use Rattle.message.specs.declared.ReadAnswer.{ReadAnswer}

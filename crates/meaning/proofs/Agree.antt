@@ -2,7 +2,7 @@
 use Prim.Native.Nat.{ℕ}
 use mathlib.Core.Path.{_≡_, ap}
 use mathlib.Core.List.{List}
-use Rattle.meaning.specs.Book.{Header, headerOf, nOf, numbersOf, ownOf, seasonOf, downOf, sheetOf}
+use Rattle.meaning.specs.Book.{Header, headerOf, nOf, numbersOf, ownOf, seasonOf, downOf}
 
 module _ (b c : List ℕ) (same : headerOf b ≡ headerOf c) where
   pub agree-n : nOf b ≡ nOf c
@@ -20,10 +20,6 @@ module _ (b c : List ℕ) (same : headerOf b ≡ headerOf c) where
   pub agree-season : seasonOf b ≡ seasonOf c
   unfolding headerOf
   agree-season = ap (λ (h : Header). h .season) same
-
-  pub agree-sheet : sheetOf b ≡ sheetOf c
-  unfolding headerOf
-  agree-sheet = ap (λ (h : Header). h .sheet) same
 
   pub agree-down : downOf b ≡ downOf c
   unfolding headerOf

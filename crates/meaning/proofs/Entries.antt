@@ -47,7 +47,7 @@ look-is b = refl
 -- ---- one slot of a row replaced
 
 module _ (n : ℕ) where
-  pub houses-same : (f g : ℕ → Option Decl) → ((p : ℕ) → p < n → f p ≡ g p) → forHouses n f ≡ forHouses n g
+  houses-same : (f g : ℕ → Option Decl) → ((p : ℕ) → p < n → f p ≡ g p) → forHouses n f ≡ forHouses n g
   houses-same f g h = fun-ext (λ p. go p (ltb p n) refl)
     where
       go : (p : ℕ) (t : Bool) → ltb p n ≡ t → cond t (f p) none ≡ cond t (g p) none
@@ -170,7 +170,7 @@ same-test a b c d f g = go (eqb c d) refl
 pub same-entry : (j c j₂ c₂ : ℕ) → sameEntry j c j₂ c₂ ≡ true → (j₂ ≡ j) × (c₂ ≡ c)
 same-entry j c j₂ c₂ h = let b = and-eq-true-iff (eqb j₂ j) (eqb c₂ c) .0 h in (eqb-true j₂ j (b .0), eqb-true c₂ c (b .1))
 
-pub not-same-entry : (j c j₂ c₂ : ℕ) → sameEntry j c j₂ c₂ ≡ false → j₂ ≡ j → c₂ ≡ c → ⊥
+not-same-entry : (j c j₂ c₂ : ℕ) → sameEntry j c j₂ c₂ ≡ false → j₂ ≡ j → c₂ ≡ c → ⊥
 not-same-entry j c j₂ c₂ h p q = true≢false (sym (and-eq-true-iff (eqb j₂ j) (eqb c₂ c) .1 (eq-eqb j₂ j p, eq-eqb c₂ c q)) ∙ h)
 
 module _ (n s own : ℕ) (slot : ℕ → Option Decl) (j c : ℕ) (hj : j < n) (hc : c < s) where

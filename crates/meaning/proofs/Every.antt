@@ -54,12 +54,12 @@ module _ (B : Meaning) (ok : IsBook B) where
   each-long : (k : ℕ) → k < all → length (each k) ≡ slotLength
   each-long k l = slot-bytes-length (slotsOf B k) (slots-are-slots B ok k)
 
-  pub written-slots : write B ≡ top ++ rows all each
+  written-slots : write B ≡ top ++ rows all each
   written-slots =
       ap (λ (e : PerEntry Entry). write (withEntries B e)) (sym (slots-entries B ok))
       ∙ write-slots h w (slotsOf B) (ok .header .own)
 
-  pub written-length : length (write B) ≡ lengthOf (h .n) (h .numbers)
+  written-length : length (write B) ≡ lengthOf (h .n) (h .numbers)
   unfolding lengthOf
   written-length =
       ap length written-slots ∙ length-append top (rows all each) ∙ omega (arith, top-long, rows-length slotLength all each each-long)

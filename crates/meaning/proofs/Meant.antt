@@ -69,7 +69,7 @@ module _ (n s own : ℕ) (slot : ℕ → Option Decl) (ok : (k : ℕ) → k < sl
           ready-past = past-houses (λ p. rowIn n s slot j c (readySlot n p));
         }
 
-  pub entries-are-entries : (j c : ℕ) → IsEntry n (entriesIn n s own slot j c)
+  entries-are-entries : (j c : ℕ) → IsEntry n (entriesIn n s own slot j c)
   entries-are-entries j c = go (ltb j n) (ltb c s) refl refl
     where
       go : (t u : Bool) → ltb j n ≡ t → ltb c s ≡ u → IsEntry n (cond (t && u) (entryIn n s own slot j c) fresh)
@@ -86,10 +86,10 @@ module _ (n s own : ℕ) (slot : ℕ → Option Decl) where
       go true = rw (ne-eqb j own d)
       go false = refl
 
-  pub past-sender-fresh : (j c : ℕ) → n ≤ j → entriesIn n s own slot j c ≡ fresh
+  past-sender-fresh : (j c : ℕ) → n ≤ j → entriesIn n s own slot j c ≡ fresh
   past-sender-fresh j c l = rw (le-ltb j n l)
 
-  pub past-number-fresh : (j c : ℕ) → s ≤ c → entriesIn n s own slot j c ≡ fresh
+  past-number-fresh : (j c : ℕ) → s ≤ c → entriesIn n s own slot j c ≡ fresh
   past-number-fresh j c l = go (ltb j n) (ltb c s) (le-ltb c s l)
     where
       go : (t u : Bool) → u ≡ false → cond (t && u) (entryIn n s own slot j c) fresh ≡ fresh

@@ -1,8 +1,8 @@
 -- A book freshly opened is its header and then zeros, legal, and means that nothing was heard, sent, delivered or published.
 use Prim.Native.Nat.{ℕ, _+_, _*_, _^_, _≤_, _<_}
-use mathlib.Core.Path.{_≡_, refl, sym, ap, _∙_, fun-ext}
+use mathlib.Core.Path.{_≡_, refl, ap, _∙_, fun-ext}
 use mathlib.Core.Bool.{Bool, true, false, cond, _&&_, and-eq-true-iff}
-use mathlib.Core.List.{List, _∷_, _++_}
+use mathlib.Core.List.{List, _++_}
 use mathlib.Core.Option.{Option, none}
 use native.Mathlib.Nat.{mul-comm}
 use native.Mathlib.Omega.{arith}
@@ -10,15 +10,15 @@ use lib.Dec.{eqb, leb, ltb}
 use lib.ListN.{length, replicate, length-append, length-replicate}
 use borrow.Author.Tests.{eqb-true, ltb-true, leb-true}
 use Rattle.card.specs.Card.{housesOk, downOk}
-use Rattle.words.specs.Words.{Bytes, be32}
+use Rattle.words.specs.Words.{Bytes}
 use Rattle.words.proofs.Laws.{wordAt-small}
 use Rattle.sheet.specs.Kept.{keptAt, sheetAt, isSheet}
 use Rattle.sheet.proofs.Gates.{sheet-legal}
-use Rattle.sheet.proofs.OneForm.{gate-fits, bytes-of-sheet}
+use Rattle.sheet.proofs.OneForm.{gate-fits}
 use Rattle.entry.specs.Entry.{Decl, fresh}
 use Rattle.meaning.specs.Slot.{slotBytes}
 use Rattle.meaning.specs.Layout.{numbersOk, mostLimit, slotLength, slotCount, lengthOf}
-use Rattle.meaning.specs.Book.{Header, Help, Meaning, meant, helpBytes, head, write}
+use Rattle.meaning.specs.Book.{Header, Meaning, meant, head, write}
 use Rattle.meaning.specs.Legal.{legal, IsBook}
 use Rattle.meaning.specs.Opening.{headed, freshHelp, freshBook, allowed, Opened, opened}
 use Rattle.meaning.proofs.Entries.{entryIn, entriesIn}
@@ -28,12 +28,6 @@ use Rattle.meaning.proofs.Meant.{fresh-is-entry}
 use Rattle.meaning.proofs.Every.{written-legal, written-meant, written-bytes}
 
 -- ---- the header and then zeros
-
-pub head-sheet : (n s own f season : ℕ) (sheet : List ℕ) (w : Help) → Bytes sheet → isSheet sheet ≡ true
-    → head (headed n s own f season (sheetAt sheet 0)) w ≡ n ∷ s ∷ own ∷ be32 season ++ (sheet ++ (f ∷ helpBytes n w))
-unfolding head
-head-sheet n s own f season sheet w bytes h =
-    ap (λ (l : List ℕ). n ∷ s ∷ own ∷ be32 season ++ (l ++ (f ∷ helpBytes n w))) (bytes-of-sheet sheet bytes h)
 
 module _ (h : Header) (d : ℕ) (below : h .own < h .n) where
   abbrev n : ℕ
@@ -76,7 +70,7 @@ module _ (h : Header) (d : ℕ) (below : h .own < h .n) where
       ∙ ap (λ (l : List ℕ). head h (freshHelp d) ++ l)
       (rows-zeros (slotCount n s) slotLength ∙ ap (λ (m : ℕ). replicate m 0) (mul-comm (slotCount n s) slotLength))
 
-  pub fresh-length : length (write (freshBook h d)) ≡ lengthOf n s
+  fresh-length : length (write (freshBook h d)) ≡ lengthOf n s
   unfolding lengthOf
   fresh-length =
       ap length fresh-written
@@ -100,7 +94,7 @@ module _ (n s own f d season : ℕ) (sheet : List ℕ) (ok : allowed n s own f d
   abbrev header : Header
   header = headed n s own f season (sheetAt sheet 0)
 
-  pub fresh-is-book : IsBook (freshBook header d)
+  fresh-is-book : IsBook (freshBook header d)
   unfolding sheetAt
   fresh-is-book =
       let a = allowed-facts n s own f d ok in
@@ -153,7 +147,7 @@ module _ (b : List ℕ) (n s own f d season : ℕ) (sheet : List ℕ) where
       go true false w p q r e = absurd (omega arith)
       go false u w p q r e = absurd (omega arith)
 
-  pub opened-book : opened b n s own f d season sheet .answer ≡ 0
+  opened-book : opened b n s own f d season sheet .answer ≡ 0
       → opened b n s own f d season sheet .book ≡ write B
   unfolding opened
   opened-book e = go (allowed n s own f d) (isSheet sheet) (eqb (length b) (lengthOf n s)) e
@@ -188,9 +182,3 @@ module _ (b : List ℕ) (n s own f d season : ℕ) (sheet : List ℕ) where
 
     pub opened-meant : meant (opened b n s own f d season sheet .book) ≡ B
     opened-meant = rw (opened-book e) (written-meant B is-book)
-
-    pub opened-length : length (opened b n s own f d season sheet .book) ≡ length b
-    opened-length =
-        let o = opened-facts e in
-        let below = allowed-facts n s own f d (o .allowed) .2 in
-        rw (opened-book e) (fresh-length (headed n s own f season (sheetAt sheet 0)) d below ∙ sym (o .long))

@@ -13,7 +13,7 @@ use Rattle.meaning.specs.Layout.{slotPlace, entrySlot, sendSlot, echoSlo
 
 -- ---- S, and the length
 
-pub numbers-between : (s : ℕ) → numbersOk s ≡ true → (1 ≤ s) × (s ≤ mostNumbers)
+numbers-between : (s : ℕ) → numbersOk s ≡ true → (1 ≤ s) × (s ≤ mostNumbers)
 unfolding numbersOk
 numbers-between s h =
     let both = and-eq-true-iff (leb 1 s) (leb s mostNumbers) .0 h in
@@ -24,7 +24,7 @@ pub numbers-byte : (s : ℕ) → numbersOk s ≡ true → s < 256
 unfolding mostNumbers
 numbers-byte s h = let b = numbers-between s h in omega arith
 
-pub count-small : (n s : ℕ) → n < 256 → s < 256 → slotCount n s ≤ 33358080
+count-small : (n s : ℕ) → n < 256 → s < 256 → slotCount n s ≤ 33358080
 unfolding slotCount perEntry
 count-small n s l k =
     let a : s ≤ 255 = omega arith in
@@ -32,10 +32,6 @@ count-small n s l k =
     let c : perEntry n ≤ 513 = omega arith in
     let d : s * n * perEntry n ≤ 255 * 255 * 513 = mul-le-mul (mul-le-mul a b) c in
     omega arith
-
-pub length-small : (n s : ℕ) → n < 256 → s < 256 → lengthOf n s ≤ 700519999
-unfolding lengthOf headLength
-length-small n s l k = let c = count-small n s l k in omega arith
 
 -- at most 49,152 bytes at 16 and 4
 pub length-most : lengthOf 16 4 ≤ 49152
@@ -70,21 +66,17 @@ slots-apart n k m f =
       | no g ↦ elim (decLt m k) [ yes a ↦ inr (omega arith) | no h ↦ absurd (f (omega arith)) ]
     ]
 
-pub place-injective : (n k m : ℕ) → slotPlace n k ≡ slotPlace n m → k ≡ m
-unfolding slotPlace headLength
-place-injective n k m e = omega arith
-
 -- ---- the slots of entries
 
 -- a row and a place in it, of m each
-pub row-below : (m r i n : ℕ) → r < n → i < m → r * m + i < n * m
+row-below : (m r i n : ℕ) → r < n → i < m → r * m + i < n * m
 row-below m r i n h l = let k : suc r * m ≤ n * m = mul-le-mul-right m h in omega arith
 
 row-le : (m r r₂ i i₂ : ℕ) → i < m → r * m + i ≡ r₂ * m + i₂ → r₂ ≤ r
 row-le m r r₂ i i₂ l e =
     elim (decLt r r₂) [ yes a ↦ let k : suc r * m ≤ r₂ * m = mul-le-mul-right m a in absurd (omega arith) | no f ↦ omega arith ]
 
-pub same-row : (m r r₂ i i₂ : ℕ) → i < m → i₂ < m → r * m + i ≡ r₂ * m + i₂ → (r ≡ r₂) × (i ≡ i₂)
+same-row : (m r r₂ i i₂ : ℕ) → i < m → i₂ < m → r * m + i ≡ r₂ * m + i₂ → (r ≡ r₂) × (i ≡ i₂)
 same-row m r r₂ i i₂ l l₂ e =
     let a = row-le m r r₂ i i₂ l e in
     let b = row-le m r₂ r i₂ i l₂ (sym e) in

@@ -3,7 +3,7 @@ use Prim.Native.Nat.{ℕ, zero, suc, _+_, _*_, _≤_, _<_}
 use mathlib.Core.Path.{_≡_, refl, sym, ap, ap₂, _∙_}
 use mathlib.Core.List.{List, _++_, append-assoc, append-nil}
 use native.Mathlib.Decide.{decLt}
-use native.Mathlib.Nat.{zero-add, add-zero, add-suc, zero-mul, suc-mul, mul-le-mul-right}
+use native.Mathlib.Nat.{add-zero, add-suc, zero-mul, suc-mul, mul-le-mul-right}
 use native.Mathlib.Omega.{arith}
 use lib.ListN.{length, replicate, length-append, replicate-append-replicate}
 use Rattle.words.specs.Words.{Bytes}
@@ -70,6 +70,3 @@ module _ (m : ℕ) where
     rows-parts at zero f h = rw zero-mul
     rows-parts at (suc n) f h =
         rw suc-mul (ap₂ _++_ (rows-parts at n f (λ k l. h k (omega arith))) (h n (omega arith)) ∙ sym (part-add b at (n * m) m))
-
-    pub list-rows : (n : ℕ) → length b ≡ n * m → rows n (λ k. part b (k * m) m) ≡ b
-    list-rows n e = rows-parts 0 n (λ k. part b (k * m) m) (λ k l. rw zero-add) ∙ part-all b (n * m) (omega arith)

@@ -16,7 +16,7 @@ use Rattle.words.proofs.Bytes.{bytes-append, bytes-cons, bytes-drop, bytes-take
 use Rattle.entry.specs.Entry.{Decl, same}
 use Rattle.entry.proofs.Basics.{T-of, same-eq}
 use Rattle.meaning.specs.Slot.{slotBytes, part, slotAt, slotOk, putSlot}
-use Rattle.meaning.specs.Legal.{IsDecl, IsSlot}
+use Rattle.meaning.specs.Legal.{IsSlot}
 use Rattle.meaning.proofs.Parts.{part-length, getD-first, part-part, part-all, part-before, part-after, bytes-part}
 use Rattle.meaning.specs.Layout.{slotLength}
 
@@ -87,9 +87,6 @@ module _ (b : List ℕ) (at : ℕ) (fits : at + slotLength ≤ length b) where
       go true = record { long = part-length b (at + 1) 20 (omega arith); bytes = bytes-part b (at + 1) 20 bytes }
       go false = tt
 
-  pub slot-is-decl : (v : Decl) → Bytes b → slotAt b at ≡ some v → IsDecl v
-  slot-is-decl v bytes e = rw e at (slot-is-slot bytes)
-
 -- ---- a slot filled
 
 module _ (b : List ℕ) (at : ℕ) (v : Decl) (fits : at + slotLength ≤ length b) (long : length v ≡ 20) where
@@ -121,7 +118,7 @@ module _ (b : List ℕ) (at : ℕ) (v : Decl) (fits : at + slotLength ≤ length
       bytes-append (take at b) ((1 ∷ v) ++ drop (at + slotLength) b) (bytes-take at b p)
       (bytes-append (1 ∷ v) (drop (at + slotLength) b) (bytes-cons 1 v (omega arith) q) (bytes-drop (at + slotLength) b p))
 
-  pub part-elsewhere : (k m : ℕ) → (k + m ≤ at) ⊎ (at + slotLength ≤ k) → part (putSlot b at v) k m ≡ part b k m
+  part-elsewhere : (k m : ℕ) → (k + m ≤ at) ⊎ (at + slotLength ≤ k) → part (putSlot b at v) k m ≡ part b k m
   unfolding putSlot
   part-elsewhere k m (inl l) =
       part-before (take at b) ((1 ∷ v) ++ drop (at + slotLength) b) k m (omega (arith, taken))

@@ -69,7 +69,7 @@ module _ (b : List ℕ) (j c : ℕ) where
       }
 
   -- what the second makes of the entry after the first
-  pub stored-then : (f : Entry → Entry) (a d : List ℕ) (e : Entry)
+  stored-then : (f : Entry → Entry) (a d : List ℕ) (e : Entry)
       → Stored b a j c e → Stored a d j c (f (look a j c)) → Stored b d j c (f e)
   stored-then f a d e s t =
       record {
@@ -212,12 +212,12 @@ module _ (b : List ℕ) (h : legal b ≡ true) (bytes : Bytes b) (v : Decl) (d :
       stored-heard READY p h = stored-in (readySlot n p) (recorded READY p v) (ready-below n p h) (λ row o. ready-filled n row o v p h)
 
       -- the READY sent marked, where r says so; the delivered, where r says so
-      pub stored-ready-sent : (r : Bool)
+      stored-ready-sent : (r : Bool)
           → Stored b (cond r (putSlot b (slotPlace n (entrySlot n s c j (readySentSlot n))) v) b) j c (marked r false v (look b j c))
       stored-ready-sent true = stored-in (readySentSlot n) (marked true false v) (ready-sent-below n) (λ row o. ready-sent-filled n row o v)
       stored-ready-sent false = stored-none b j c h bytes
 
-      pub stored-delivered : (r : Bool)
+      stored-delivered : (r : Bool)
           → Stored b (cond r (putSlot b (slotPlace n (entrySlot n s c j (deliveredSlot n))) v) b) j c (marked false r v (look b j c))
       stored-delivered true = stored-in (deliveredSlot n) (marked false true v) (delivered-below n) (λ row o. delivered-filled n row o v)
       stored-delivered false = stored-none b j c h bytes

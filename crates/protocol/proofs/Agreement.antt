@@ -39,7 +39,7 @@ Backed B H = (r : ℕ) (v : Decl) → H r .readySent ≡ some v → B .rules .qu
 
 module _ (B : Wall) (t : ℕ) (Y : Tolerated B t) where
   -- more than t houses pass a test: an honest one does
-  pub honest-one : (P : ℕ → Bool) → t < count P (n B) → (p : ℕ) × T (isHonest B p) × T (P p)
+  honest-one : (P : ℕ → Bool) → t < count P (n B) → (p : ℕ) × T (isHonest B p) × T (P p)
   honest-one P l =
       let x = count-find P (isWrong B) (n B) (omega (arith, Y .few)) in
       (x .0, not-not (isHonest B (x .0)) (x .3), x .2)

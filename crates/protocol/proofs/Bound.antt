@@ -97,7 +97,7 @@ module _ (B : Wall) (j c : ℕ) (s : View) (I : Inv B j c s) where
       zero-is false q = omega arith
 
   -- and where each honest house returned at most d times, two for each return
-  pub few-more : Limited B (s .power) → (Q : ℕ → Bool) (p : ℕ) → T (isHonest B p)
+  few-more : Limited B (s .power) → (Q : ℕ → Bool) (p : ℕ) → T (isHonest B p)
       → load (s .power) (n B) Q p ≤ count Q (n B) + 2 * (count Q (n B) * B .limit)
   few-more L Q p g =
       omega (
@@ -145,7 +145,7 @@ module _ (B : Wall) (j c : ℕ) (s : View) (I : Inv B j c s) where
   all q = true
 
   -- demand 3's bound grows by 6hnd
-  pub bound-le : Limited B (s .power) → copiesOf j c (λ m. true) (s .mail) ≤ n B + 2 * (h B * n B) + 6 * (h B * n B * B .limit)
+  bound-le : Limited B (s .power) → copiesOf j c (λ m. true) (s .mail) ≤ n B + 2 * (h B * n B) + 6 * (h B * n B * B .limit)
   bound-le L =
       let X : ℕ = n B in
       let d : ℕ = B .limit in
@@ -160,7 +160,7 @@ module _ (B : Wall) (j c : ℕ) (s : View) (I : Inv B j c s) where
       omega (arith, y, mul-le-mul-left X l, mul-le-mul-left (X * d) l₂)
 
   -- and the READY messages by 2hnd
-  pub readies-le : Limited B (s .power)
+  readies-le : Limited B (s .power)
       → copiesOf j c (λ m. sameKind READY (m .kind)) (s .mail) ≤ h B * n B + 2 * (h B * n B * B .limit)
   readies-le L =
       let X : ℕ = n B in

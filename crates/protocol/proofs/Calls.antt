@@ -16,12 +16,12 @@ use Rattle.protocol.proofs.Basics.{must-zero, must-pass}
 use Rattle.protocol.proofs.Moves.{Local, Moves, local-same, other-kind, no-message, takes-moves, takes-local, refused-moves}
 
 -- 7 stands for a full slot, and 0 for an empty one
-pub recording-free : (o : Option Decl) (v : Decl) → recording o v ≡ 0 → o ≡ none
+recording-free : (o : Option Decl) (v : Decl) → recording o v ≡ 0 → o ≡ none
 unfolding recording
 recording-free none v e = refl
 recording-free (some w) v e = absurd (omega (arith, e))
 
-pub recording-none : (v : Decl) → recording none v ≡ 0
+recording-none : (v : Decl) → recording none v ≡ 0
 unfolding recording
 recording-none v = refl
 

@@ -14,7 +14,7 @@ use Rattle.protocol.specs.Steps.{receiveAnswer, receive, publish}
 use Rattle.protocol.specs.Book.{Book, publishing, receiving, outcome}
 
 module _ (R : Rules) (S own p : ℕ) (k : Kind) (j c : ℕ) (v : Decl) (E : Book) where
-  pub no-sender : R .n ≤ j → outcome R S own (receiving p k j c v) E ≡ refused 4 (E j c)
+  no-sender : R .n ≤ j → outcome R S own (receiving p k j c v) E ≡ refused 4 (E j c)
   unfolding outcome
   no-sender h = rw (le-ltb _ _ h)
 
@@ -24,7 +24,7 @@ module _ (R : Rules) (S own p : ℕ) (k : Kind) (j c : ℕ) (v : Decl) (E : Book
     no-number h = rw (lt-ltb _ _ in-sender, le-ltb _ _ h)
 
     module _ (in-number : c < S) where
-      pub no-house : R .n ≤ p → outcome R S own (receiving p k j c v) E ≡ refused 4 (E j c)
+      no-house : R .n ≤ p → outcome R S own (receiving p k j c v) E ≡ refused 4 (E j c)
       unfolding outcome receive
       no-house h = rw (lt-ltb _ _ in-sender, lt-ltb _ _ in-number, le-ltb _ _ h)
 
@@ -48,21 +48,21 @@ module _ (R : Rules) (S own p : ℕ) (k : Kind) (j c : ℕ) (v : Decl) (E : Book
             accepted h = rw (lt-ltb _ _ in-sender, lt-ltb _ _ in-number, lt-ltb _ _ in-house, ok, from, h)
 
 module _ (R : Rules) (S own c : ℕ) (v : Decl) (E : Book) (in-sender : own < R .n) where
-  pub no-own-number : S ≤ c → outcome R S own (publishing c v) E ≡ refused 4 (E own c)
+  no-own-number : S ≤ c → outcome R S own (publishing c v) E ≡ refused 4 (E own c)
   unfolding outcome
   no-own-number h = rw (lt-ltb _ _ in-sender, le-ltb _ _ h)
 
   module _ (in-number : c < S) where
-    pub not-publishable : R .ok v ≡ false → outcome R S own (publishing c v) E ≡ refused 5 (E own c)
+    not-publishable : R .ok v ≡ false → outcome R S own (publishing c v) E ≡ refused 5 (E own c)
     unfolding outcome publish
     not-publishable h = rw (lt-ltb _ _ in-sender, lt-ltb _ _ in-number, h)
 
     module _ (ok : R .ok v ≡ true) where
-      pub already-published : (w : Decl) → E own c .published ≡ some w → outcome R S own (publishing c v) E ≡ refused 8 (E own c)
+      already-published : (w : Decl) → E own c .published ≡ some w → outcome R S own (publishing c v) E ≡ refused 8 (E own c)
       unfolding outcome publish
       already-published w h = rw (lt-ltb _ _ in-sender, lt-ltb _ _ in-number, ok, h)
 
-      pub publishes-it : E own c .published ≡ none → outcome R S own (publishing c v) E ≡ publishes v (E own c)
+      publishes-it : E own c .published ≡ none → outcome R S own (publishing c v) E ≡ publishes v (E own c)
       unfolding outcome publish
       publishes-it h = rw (lt-ltb _ _ in-sender, lt-ltb _ _ in-number, ok, h)
 

@@ -359,7 +359,7 @@ module _ (B : Wall) (j c : ℕ) where
         → count Q (n B) * count (λ p. F p && isSome (outgoing k (view j c s .house p))) (n B) ≤ copiesOf j c (way k F Q) (s .mail)
     pub at-most : (k : Kind) (F Q : ℕ → Bool)
         → copiesOf j c (way k F Q) (s .mail) ≤ burden (s .power) (n B) Q (λ p. F p && isSome (outgoing k (view j c s .house p)))
-    pub almost : Limited B (s .power) → (k : Kind) (p₂ q : ℕ) (v : Decl) → outgoing k (view j c s .house p₂) ≡ some v → T (isHonest B q)
+    almost : Limited B (s .power) → (k : Kind) (p₂ q : ℕ) (v : Decl) → outgoing k (view j c s .house p₂) ≡ some v → T (isHonest B q)
         → ((p₂ ≡ r) × (q ≡ p) → ⊥) → Reached (view j c s) k p₂ q
     pub brought : (k : Kind) (p₂ q : ℕ) → T (may j k p₂) → T (isHonest B p₂)
         → bit (isSome (heard k p₂ (view j c s .house q))) ≤ came j c k p₂ q (s .mail)
@@ -380,7 +380,7 @@ module _ (B : Wall) (j c : ℕ) where
     abbrev new : List Copy
     new = again (eqb p) r (n B) (B .numbers) b
 
-    pub aided : State
+    aided : State
     unfolding w
     aided = record { gave = s .gave; mail = s .mail ++ new; power = aid w r p }
 

@@ -142,7 +142,7 @@ module _ (H : Houses) where
   -- ---- the steps
 
   module _ (s : State) (z : protocol.State) (M : Means H s z) where
-    pub down-is : (r : ℕ) → z .power .down r ≡ s .power .down r
+    down-is : (r : ℕ) → z .power .down r ≡ s .power .down r
     down-is r = ap (λ (f : ℕ → Bool). f r) (M .down)
 
     pub up-is : (r : ℕ) → protocol.isUp (wall H) z r ≡ isUp H s r

@@ -11,7 +11,7 @@ pub word-be : (n : ℕ) → word (n / 16777216) (n / 65536 % 256) (n / 256 % 256
 word-be n = omega arith
 
 -- the bytes of the number that four bytes stand for
-pub be-word : (a b c d : ℕ) → b < 256 → c < 256 → d < 256 → a ∷ b ∷ c ∷ d ∷ [] ≡ be32 (word a b c d)
+be-word : (a b c d : ℕ) → b < 256 → c < 256 → d < 256 → a ∷ b ∷ c ∷ d ∷ [] ≡ be32 (word a b c d)
 be-word a b c d hb hc hd =
     let n = word a b c d in
     let p : a ≡ n / 16777216 = omega arith in
