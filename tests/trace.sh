@@ -61,7 +61,7 @@ done
 [ "$checked" -ge 50 ] || wrong "only $checked names were checked"
 
 # Each edit that the season's claims refuse is told on its page.
-for edit in crates/season/must-fail/*.edit crates/protocol/must-fail/*.edit crates/runs/must-fail/*.edit; do
+for edit in crates/{season,protocol,entry,runs}/must-fail/*.edit; do
     grep -qE "^\|.*\`$(basename "$edit" .edit)\`" docs/SEASON.md || wrong "docs/SEASON.md: no row for $edit"
 done
 
