@@ -1,4 +1,4 @@
--- What this crate promises, in document 01's order. That an accepted call is one step of the protocol, `counter` promises of all calls.
+-- What is promised of an accepted call's counts and message. That it is one step of the protocol, specs/Claims.antt promises of all calls.
 use Prim.Native.Nat.{ℕ}
 use mathlib.Core.Path.{_≡_}
 use Rattle.card.specs.declared.Counts.{Counts}

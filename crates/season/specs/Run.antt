@@ -1,7 +1,7 @@
 -- A run of n houses at the bytes: each honest book is a byte list, each step a call of the counter, in any order; and what is counted of
--- it, copy by copy. Of `protocol` it takes words for functions and lists only: `upd f p x` is f with x at p, `at` the element at a place,
--- `changeAt` the list with that element changed, `each` what a function gives at 0, 1 and so on, `noted` one more on the list of a house,
--- sender and number, `tally` how many pass a test.
+-- it, copy by copy. The words for functions and lists are those of the run of entries: `upd f p x` is f with x at p, `at` the element at a
+-- place, `changeAt` the list with that element changed, `each` what a function gives at 0, 1 and so on, `tally` how many pass a test,
+-- `noted` one more on the list of a house, sender and number.
 use Prim.Native.Nat.{ℕ, suc, _^_, _≤_, _<_}
 use mathlib.Core.Path.{_≡_}
 use mathlib.Core.Bool.{Bool, true, false, not, cond, _&&_}
