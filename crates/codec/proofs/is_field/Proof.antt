@@ -1,4 +1,4 @@
--- `message::is_field` meets its contract.
+-- `codec::is_field` meets its contract.
 use borrow.Author.Tests.{eq-eqb, ne-eqb}
 use borrow.Author.Needs.{needs}
 use Rattle.codec.proofs.is_field.Statement.{statement}

@@ -1,4 +1,4 @@
--- `message::is_kind` meets its contract.
+-- `codec::is_kind` meets its contract.
 use Rattle.message.specs.Message.{isKind}
 use borrow.Author.Tests.{le-leb, lt-leb}
 use Rattle.codec.proofs.is_kind.Statement.{statement}

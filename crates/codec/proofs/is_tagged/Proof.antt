@@ -1,4 +1,4 @@
--- `message::is_tagged` meets its contract.
+-- `codec::is_tagged` meets its contract.
 use Rattle.message.specs.Message.{tagged}
 use borrow.Author.Needs.{needs}
 use Rattle.codec.proofs.is_tagged.Statement.{statement}

@@ -1,4 +1,4 @@
--- `message::read_message` meets its contract.
+-- `codec::read_message` meets its contract.
 use Rattle.message.proofs.Form.{sized}
 use Rattle.message.specs.Message.{fiveAt, readAs, readOf}
 use lib.ListN.{length, getD}

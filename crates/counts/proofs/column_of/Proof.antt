@@ -1,4 +1,4 @@
--- `card::column_of` meets its contract: the card's entry is the column of the formulas.
+-- `counts::column_of` meets its contract: the card's entry is the column of the formulas.
 use native.Mathlib.Omega.{arith}
 use Rattle.card.specs.Card.{largest}
 use Rattle.card.proofs.Wall.{houses-between, card-is}

@@ -1,4 +1,4 @@
--- `card::counts_of` meets its contract: the counts are those of the card's column for n - 2f, and f more.
+-- `counts::counts_of` meets its contract: the counts are those of the card's column for n - 2f, and f more.
 use Prim.Native.Nat.{ℕ, _+_, _*_, _-_, _<_}
 use mathlib.Core.Path.{_≡_, ap, sym, _∙_}
 use mathlib.Core.Bool.{true}

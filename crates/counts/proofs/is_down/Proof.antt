@@ -1,4 +1,4 @@
--- `card::is_down` meets its contract.
+-- `counts::is_down` meets its contract.
 use borrow.Author.Needs.{needs}
 use borrow.Author.Tests.{le-leb, lt-leb}
 use Rattle.card.specs.Card.{mostDown, downOk}

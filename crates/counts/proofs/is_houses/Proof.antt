@@ -1,4 +1,4 @@
--- `card::is_houses` meets its contract.
+-- `counts::is_houses` meets its contract.
 use borrow.Author.Tests.{le-leb, lt-leb}
 use Rattle.card.specs.Card.{largest, housesOk}
 use Rattle.counts.proofs.is_houses.Statement.{statement}

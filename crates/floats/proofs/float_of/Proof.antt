@@ -1,4 +1,4 @@
--- `lot::float_of` meets its contract: the two ways agree at a NaN.
+-- `floats::float_of` meets its contract: the two ways agree at a NaN.
 use borrow.Author.Tests.{lt-ltb, le-ltb}
 use lib.Ieee.Bits.{nanBits-is, nanBits-above}
 use lib.Ieee.{Float, nan, inf, fin, binary32, div, ofBits, isNan}

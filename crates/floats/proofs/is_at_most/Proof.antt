@@ -1,4 +1,4 @@
--- `lot::is_at_most` meets its contract: float comparison is that of the places.
+-- `floats::is_at_most` meets its contract: float comparison is that of the places.
 use mathlib.Core.Path.{sym, ap₂, subst, _∙_}
 use lib.Dec.{T, leb}
 use Rattle.floats.proofs.Order.{le-places}

@@ -1,4 +1,4 @@
--- `lot::is_finite` meets its contract.
+-- `floats::is_finite` meets its contract.
 use mathlib.Core.Path.{sym}
 use Rattle.floats.proofs.Finite.{finite-bits}
 use Rattle.floats.proofs.is_finite.Statement.{statement}

@@ -1,4 +1,4 @@
--- `lot::place_of` meets its contract.
+-- `floats::place_of` meets its contract.
 use mathlib.Core.Path.{refl}
 use borrow.Author.Tests.{le-leb, lt-leb}
 use Rattle.floats.specs.Place.{place}

@@ -1,4 +1,4 @@
--- `lot::admits` meets its contract.
+-- `gates::admits` meets its contract.
 use Rattle.sheet.specs.Sheet.{passes, admitted}
 use Rattle.sheet.proofs.Finite.{gates-legal}
 use Rattle.gates.proofs.admits.Statement.{statement}

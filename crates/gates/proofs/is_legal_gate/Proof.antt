@@ -1,4 +1,4 @@
--- `lot::is_legal_gate` meets its contract.
+-- `gates::is_legal_gate` meets its contract.
 use mathlib.Core.Path.{sym, ap, _∙_}
 use Rattle.sheet.specs.Sheet.{limitsFinite, gateLegal}
 use Rattle.sheet.proofs.Finite.{at-most-legal, both-finite}

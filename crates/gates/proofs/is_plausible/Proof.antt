@@ -1,4 +1,4 @@
--- `lot::is_plausible` meets its contract.
+-- `gates::is_plausible` meets its contract.
 use borrow.Author.Tests.{le-leb, lt-leb}
 use mathlib.Core.Path.{sym, ap, _∙_}
 use Rattle.sheet.specs.declared.Readings.{Readings}

@@ -1,4 +1,4 @@
--- `lot::is_within` meets its contract.
+-- `gates::is_within` meets its contract.
 use mathlib.Core.Path.{sym, ap, _∙_}
 use Rattle.sheet.specs.Sheet.{within, gateLegal}
 use Rattle.sheet.proofs.Finite.{at-most-finite, low-finite, high-finite}

@@ -1,4 +1,4 @@
--- `lot::most` meets its contract.
+-- `gates::most` meets its contract.
 use Rattle.gates.proofs.Product.{below}
 use borrow.Author.Needs.{needs}
 use Rattle.gates.proofs.most.Statement.{statement}

@@ -1,4 +1,4 @@
--- `lot::readings_of` meets its contract.
+-- `gates::readings_of` meets its contract.
 use borrow.Author.Needs.{needs}
 use Rattle.gates.proofs.readings_of.Statement.{statement}
 use Rattle.gates.proofs.readings_of.Tie as tie

@@ -1,4 +1,4 @@
--- `sheet::gate_of` meets its contract.
+-- `judge::gate_of` meets its contract.
 use borrow.Author.Tests.{eq-eqb, ne-eqb}
 use Rattle.sheet.specs.Kept.{gateOf}
 use Rattle.sheet.specs.declared.Gate.the-variants.{AtMost, Between}

@@ -1,4 +1,4 @@
--- `sheet::has_finite_limits` meets its contract.
+-- `judge::has_finite_limits` meets its contract.
 use borrow.Author.Tests.{eq-eqb, ne-eqb}
 use mathlib.Core.Path.{refl}
 use Rattle.sheet.specs.Sheet.{limitsFinite}

@@ -1,4 +1,4 @@
--- `sheet::is_form` meets its contract.
+-- `judge::is_form` meets its contract.
 use borrow.Author.Tests.{eq-eqb, ne-eqb}
 use Rattle.sheet.specs.Kept.{keptForm}
 use Rattle.judge.proofs.is_form.Statement.{statement}

@@ -1,4 +1,4 @@
--- `sheet::is_legal_kept` meets its contract.
+-- `judge::is_legal_kept` meets its contract.
 use Rattle.sheet.specs.Kept.{keptLegal}
 use Rattle.sheet.specs.Sheet.{limitsFinite, gateLegal}
 use Rattle.sheet.proofs.Finite.{not-legal}

@@ -1,4 +1,4 @@
--- `sheet::is_sheet` meets its contract.
+-- `judge::is_sheet` meets its contract.
 use borrow.Author.Tests.{eq-eqb, ne-eqb}
 use Rattle.sheet.specs.Kept.{isSheet}
 use borrow.Author.Needs.{needs}

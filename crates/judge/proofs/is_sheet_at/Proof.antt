@@ -1,4 +1,4 @@
--- `sheet::is_sheet_at` meets its contract.
+-- `judge::is_sheet_at` meets its contract.
 use Rattle.sheet.specs.Kept.{keptLegal, sheetLegalAt}
 use mathlib.Core.Path.{ap, _∙_}
 use borrow.Author.Needs.{needs}

@@ -1,4 +1,4 @@
--- `sheet::judge` meets its contract.
+-- `judge::judge` meets its contract.
 use Rattle.sheet.proofs.Gates.{sheet-sized, sheet-legal}
 use Rattle.sheet.specs.Kept.{judged}
 use native.Mathlib.Omega.{arith}

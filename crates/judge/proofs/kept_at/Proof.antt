@@ -1,4 +1,4 @@
--- `sheet::kept_at` meets its contract.
+-- `judge::kept_at` meets its contract.
 use borrow.Author.Needs.{needs}
 use Rattle.judge.proofs.kept_at.Statement.{statement}
 use Rattle.judge.proofs.kept_at.Tie as tie

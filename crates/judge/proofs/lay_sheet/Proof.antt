@@ -1,4 +1,4 @@
--- `sheet::lay_sheet` meets its contract.
+-- `judge::lay_sheet` meets its contract.
 use Rattle.words.specs.Words.{listOf}
 use mathlib.Core.List.{_∷_, _++_}
 use borrow.Author.Needs.{needs}

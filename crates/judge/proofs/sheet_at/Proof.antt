@@ -1,4 +1,4 @@
--- `sheet::sheet_at` meets its contract.
+-- `judge::sheet_at` meets its contract.
 use Rattle.sheet.specs.Kept.{gateOf, sheetAt}
 use mathlib.Core.Path.{ap, _∙_}
 use borrow.Author.Needs.{needs}

@@ -1,4 +1,4 @@
--- `lot::bytes_of` meets its contract.
+-- `octets::bytes_of` meets its contract.
 use Rattle.lot.specs.Declaration.{bytesOf, five}
 use borrow.Author.Needs.{needs}
 use Rattle.octets.proofs.bytes_of.Statement.{statement}

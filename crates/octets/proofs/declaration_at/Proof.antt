@@ -1,4 +1,4 @@
--- `lot::declaration_at` meets its contract.
+-- `octets::declaration_at` meets its contract.
 use Rattle.lot.specs.Declaration.{declarationAt}
 use borrow.Author.Needs.{needs}
 use Rattle.octets.proofs.declaration_at.Statement.{statement}

@@ -1,4 +1,4 @@
--- `entry::is_reached` meets its contract.
+-- `step::is_reached` meets its contract.
 use Rattle.entry.proofs.Fullness.{full-not-none, empty-none}
 use borrow.Author.Needs.{needs}
 use Rattle.step.proofs.is_reached.Statement.{statement}

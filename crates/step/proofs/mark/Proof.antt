@@ -1,4 +1,4 @@
--- `entry::mark` meets its contract.
+-- `step::mark` meets its contract.
 use borrow.Author.Needs.{needs}
 use Rattle.step.proofs.mark.Statement.{statement}
 use Rattle.step.proofs.mark.Tie as tie

@@ -1,4 +1,4 @@
--- `entry::record_answer` meets its contract.
+-- `step::record_answer` meets its contract.
 use Rattle.step.proofs.Recorded.{full-recorded, empty-recorded}
 use borrow.Author.Needs.{needs}
 use Rattle.step.proofs.record_answer.Statement.{statement}
