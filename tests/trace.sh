@@ -2,7 +2,7 @@
 # The pages name files that are there, and names that those files have; and each sentence of the documents has its row in docs/TRACE.md.
 #
 # In a row, `a/path` in the last cell is a file of the repository, and each `name` after it, up to the next path, is found in that file.
-# Elsewhere in a page a path is a file, and no more is asked.
+# Elsewhere in a page a path is a file, and no more is asked; and a link leads to a file.
 #
 # docs/AMENDMENTS.md is applied first, row by row, to the sentences of document 01 and of the requests that have landed (docs/changes has
 # a page for each). As they then stand, each sentence of document 01 is the first cell of a row, and these rows have nothing else; the
@@ -25,7 +25,7 @@ who=trace
 
 # ---- files, and names in them
 
-for page in docs/TRACE.md docs/SEASON.md docs/RULES.md docs/AMENDMENTS.md docs/BOOK.md; do
+for page in README.md docs/TRACE.md docs/SEASON.md docs/RULES.md docs/AMENDMENTS.md docs/BOOK.md docs/DECISIONS.md; do
     if [ ! -f "$page" ]; then
         wrong "no page $page"
         continue
@@ -59,6 +59,13 @@ for page in docs/TRACE.md docs/SEASON.md docs/RULES.md docs/AMENDMENTS.md docs/B
     done <"$page"
 done
 [ "$checked" -ge 50 ] || wrong "only $checked names were checked"
+
+# A link in a page leads to a file.
+for page in README.md CHANGELOG.md docs/*.md docs/changes/*.md; do
+    while IFS= read -r link; do
+        [ -e "$(dirname "$page")/$link" ] || wrong "$page: a link leads to no file: $link"
+    done < <(grep -oE '\]\([^)#: ]+\)' "$page" | sed 's/^](//; s/)$//')
+done
 
 # Each edit that the season's claims refuse is told on its page.
 for edit in crates/{season,protocol,entry,runs}/must-fail/*.edit; do
