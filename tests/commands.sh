@@ -211,9 +211,11 @@ echo 'exit 1' >"$tree/tests/part.sh"
 try .ci/run
 ended 1 'ci: tests/part.sh failed' '.ci/run, a test fails'
 [ ! -e "$tree/target/staticlib" ] || wrong '.ci/run tested the archive of an earlier run'
+[ "$(tail -n 1 <<<"$said")" = 'ci: tests/part.sh failed' ] || wrong '.ci/run says something after a test that failed'
 echo 'bash .ci/archive' >"$tree/tests/part.sh"
 try .ci/run
 ended 0 'rt: ok, all of it' '.ci/run'
+[ "$(tail -n 1 <<<"$said")" = 'rt: ok, all of it' ] || wrong '.ci/run does not end with the last line of rt ci'
 
 # ---- a document that is not there
 

@@ -31,7 +31,7 @@ both a b =
       shows = λ t. (a .shows (and-l (a .test) (b .test) t), b .shows (and-r (a .test) (b .test) t));
     }
 
-or-split : (a b : Bool) → T (a || b) → T a ⊎ T b
+pub or-split : (a b : Bool) → T (a || b) → T a ⊎ T b
 or-split true b t = inl tt
 or-split false b t = inr t
 

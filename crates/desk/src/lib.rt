@@ -251,6 +251,16 @@ pub fn lay(r: Numbers) -> [u8; 40] {
     hand
 }
 
+fn read_lot(r: Numbers, declaration: [u8; 20]) -> Numbers {
+    let mut r = r;
+    let d = octets::declaration_at(&declaration, 0);
+    r[LOT] = d.lot;
+    r[COLONIES] = d.colonies;
+    r[KILOGRAMS] = d.kilograms;
+    r[MOISTURE] = reading_of(d.moisture);
+    r
+}
+
 // What bytes read as: a request (0), a message (1) or nothing (2), with the numbers in it.
 pub fn read(r: Numbers, bytes: &[u8]) -> Numbers {
     let mut r = r;
@@ -261,16 +271,11 @@ pub fn read(r: Numbers, bytes: &[u8]) -> Numbers {
         r[SEASON] = m.season;
         r[READS] = 0;
         if m.kind != 9 {
-            let declaration = m.declaration;
-            let d = octets::declaration_at(&declaration, 0);
             r[READS] = 1;
             r[KIND] = script::wide(m.kind);
             r[SENDER] = script::wide(m.sender);
             r[NUMBER] = script::wide(m.number);
-            r[LOT] = d.lot;
-            r[COLONIES] = d.colonies;
-            r[KILOGRAMS] = d.kilograms;
-            r[MOISTURE] = reading_of(d.moisture);
+            return read_lot(r, m.declaration);
         }
     }
     r

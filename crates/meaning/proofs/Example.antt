@@ -16,6 +16,7 @@ use Rattle.meaning.specs.Layout.{deliveredSlot}
 use Rattle.meaning.specs.Book.{look, write}
 use Rattle.meaning.specs.Legal.{legal}
 use Rattle.meaning.specs.Opening.{opened, lengthAnswer}
+use Rattle.meaning.specs.Layout.{slotLength}
 
 -- cap 20, moisture at most 20.0, conductivity open
 abbrev sheet : List ℕ
@@ -37,7 +38,7 @@ lot =
     0 ∷ 0 ∷ 0 ∷ 0x4D ∷ 0 ∷ 0 ∷ 0 ∷ 0x28 ∷ 0 ∷ 0 ∷ 0x03 ∷ 0x20 ∷ 0x41 ∷ 0x8C ∷ 0 ∷ 0 ∷ 0x3F ∷ 0 ∷ 0 ∷ 0 ∷ []
 
 abbrev sent : List ℕ
-sent = header ++ (replicate 21 0 ++ (1 ∷ lot ++ replicate 84 0))
+sent = header ++ (replicate slotLength 0 ++ (1 ∷ lot ++ replicate 84 0))
 
 length-here : lengthAnswer 1 1 ≡ record { answer = 0; length = 158 }
 unfolding lengthAnswer housesOk numbersOk lengthOf

@@ -31,7 +31,7 @@ fn search(book: &[u8], n: usize, numbers: usize) -> Found
     ensures { λ r. ⌜ told r ≡ found (earliest (now (book .entry))) ⌝ }
 {
     let mut found = Found::Nothing;
-    'search: for number in 0..s {
+    'search: for number in 0..numbers {
         for sender in 0..n {
             if waits_at(book, sender, number) {
                 found = Found::At(number, sender);
