@@ -275,7 +275,8 @@ pub fn read(r: Numbers, bytes: &[u8]) -> Numbers {
             r[KIND] = script::wide(m.kind);
             r[SENDER] = script::wide(m.sender);
             r[NUMBER] = script::wide(m.number);
-            return read_lot(r, m.declaration);
+            let declaration = m.declaration;
+            return read_lot(r, declaration);
         }
     }
     r
