@@ -1,4 +1,4 @@
--- What this crate promises holds.
+-- What is promised of an accepted call's counts and message holds.
 use Prim.Native.Nat.{ℕ}
 use mathlib.Core.Path.{_≡_, refl}
 use Rattle.card.specs.Card.{countsOf}

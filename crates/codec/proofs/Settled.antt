@@ -1,4 +1,4 @@
--- The contracts that `Claims` settles are those of the source, as Rattle reads them.
+-- The contracts that `message` settles are those of the source, as Rattle reads them.
 use mathlib.Core.Path.{_≡_}
 use contract.Lifetimes.{Lfts}
 use borrow.Fn.World.{ArgsD, ResD}

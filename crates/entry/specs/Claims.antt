@@ -1,4 +1,5 @@
--- What this crate promises: when two declarations are the same, what a voucher counts for, and what recording a message leaves.
+-- What this crate promises: when two declarations are the same, what a voucher counts for, what recording and marking leave, and what a
+-- book with another entry has.
 use Prim.Native.Nat.{ℕ, suc, _<_}
 use mathlib.Core.Path.{_≡_}
 use mathlib.Core.Bool.{Bool, true, false}

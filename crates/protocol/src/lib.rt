@@ -1,1 +1,1 @@
-// No code: one entry of the books, the run of n houses over whole books, and what is proved of every run.
+// No code: the steps on one entry, the run of n houses over whole books, and what is proved of every run.

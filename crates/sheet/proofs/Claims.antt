@@ -1,4 +1,4 @@
--- What this crate promises.
+-- What this crate promises holds.
 use Rattle.sheet.proofs.Exactly.{plausible-exactly, nothing-plausible}
 use Rattle.sheet.specs.Claims.{Claims}
 use Rattle.sheet.proofs.OneForm.{sheet-of-bytes, legal-bytes, judged-bytes, bytes-of-sheet, one-form}
