@@ -12,7 +12,7 @@ use Rattle.protocol.specs.Thresholds.{rulesOf}
 use Rattle.calls.specs.Entered.{kindNumber, fiveOf, letter, rulesBy}
 use Rattle.calls.proofs.KindNumber.{kind-is, is-known}
 use Rattle.meaning.specs.Book.{Header}
-use Rattle.calls.specs.Accepted.{countsBy, Claims}
+use Rattle.calls.specs.Accepted.{countsBy, Accepted}
 
 quorum-by : (h : Header) → rulesBy h .quorum ≡ countsBy h .quorum
 unfolding rulesBy rulesOf countsOf
@@ -31,8 +31,8 @@ letter-read : (season sender number : ℕ) (k : Kind) (v : Decl)
 unfolding letter
 letter-read season j c k v = read-of-wire (fiveOf (kindNumber k) season j c (declarationAt v 0)) (is-known k)
 
-pub claims : Claims
-claims =
+pub accepted : Accepted
+accepted =
     record {
       quorum-by = quorum-by;
       amplify-by = amplify-by;

@@ -84,7 +84,8 @@ module _ (b : List ℕ) (j c p : ℕ) (k : Kind) (v : Decl) where
         unfolding stepOf rulesBy rulesOf meant
         step-takes z =
             accepted-is (rulesBy (headerOf b)) (numbersOf b) (ownOf b) p k j c v (look b) (has .sender) (has .number)
-            (sym (answer-is (rulesBy (headerOf b)) (numbersOf b) (ownOf b) p k j c v (look b) (has .sender) (has .number)) ∙ answer-past ∙ z)
+            (sym (answer-is (rulesBy (headerOf b)) (numbersOf b) (ownOf b) p k j c v (look b) (has .sender) (has .number)) ∙ answer-past ∙
+            z)
 
         pub message-taken : recording (heard k p (look b j c)) v ≡ 0 → taken b p k j c v ≡ called b a
         unfolding taken

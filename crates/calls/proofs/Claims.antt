@@ -8,6 +8,7 @@ use Rattle.meaning.specs.Legal.{Lent}
 use Rattle.calls.specs.Entered.{Result}
 use Rattle.calls.specs.Call.{requestAnswer, requested}
 use Rattle.calls.specs.Claims.{Claims}
+use Rattle.calls.proofs.Accepted.{accepted}
 use Rattle.calls.proofs.Keeps as keeps
 use Rattle.calls.proofs.Full as full
 use Rattle.calls.proofs.Earliest as search
@@ -25,6 +26,7 @@ claims =
     record {
       called-given = λ b L. keeps.called-given b (L .legal) (L .bytes);
       called-meant = λ b L. keeps.called-meant b (L .legal) (L .bytes);
+      accepted = accepted;
       requested-meant = requested-meant;
       publishing = publishing-ordered;
       receiving = receiving-ordered;

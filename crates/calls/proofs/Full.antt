@@ -34,5 +34,6 @@ module _ (b : List ℕ) (h : legal b ≡ true) (bytes : Bytes b) where
         ∙ slots-stay (meant b) (look a) (kept .fills) k v (sym (slot-is b h bytes k l) ∙ e)
 
   -- slot k of the book
-  pub answered-full : (call : BookCall) (k : ℕ) → k < slotCount (nOf b) (numbersOf b) → Stays (slotOf b k) (slotOf (answered b call .book) k)
+  pub answered-full : (call : BookCall) (k : ℕ) → k < slotCount (nOf b) (numbersOf b)
+      → Stays (slotOf b k) (slotOf (answered b call .book) k)
   answered-full call = slots-kept (answered b call .book) (answered-keeps b h bytes call)

@@ -165,7 +165,8 @@ module _ (b : List ℕ) where
           no-book = no-legal;
           malformed = no-message;
           other-season = other-season;
-          missing = λ m R x. let k = known m R in receiving-answer m R (k .0) (k .1) 4 (missing b (m .sender) (m .number) p (k .0) (v m R) x);
+          missing = λ m R x. let k = known m R in receiving-answer m R (k .0) (k .1) 4
+              (missing b (m .sender) (m .number) p (k .0) (v m R) x);
           not-plausible = λ m R I f.
               let k = known m R in
               receiving-answer m R (k .0) (k .1) 5

@@ -16,7 +16,7 @@ use mathlib.Core.Option.{some}
 abbrev pub countsBy : Header → Counts
 countsBy h = countsOf (h .n) (h .down)
 
-pub record Claims : Type 0 where
+pub record Accepted : Type 0 where
   -- The counts that a book's steps compare with are the wall card's, at its n and f.
   pub quorum-by : (h : Header) → rulesBy h .quorum ≡ countsBy h .quorum
   pub amplify-by : (h : Header) → rulesBy h .amplify ≡ countsBy h .amplify

@@ -16,6 +16,7 @@ use Rattle.calls.specs.Entered.{result, handed, letters, withEntry}
 use Rattle.calls.specs.declared.Waiting.{Waiting}
 use Rattle.calls.specs.declared.Returned.{Returned}
 use Rattle.calls.specs.declared.Sent.{Sent}
+use Rattle.calls.specs.Accepted.{Accepted}
 use Rattle.calls.specs.Call.{stepOf, called, requestAnswer, requested, published, received}
 use Rattle.calls.specs.Search.{waits, Place, earliest, Earliest, waiting}
 use Rattle.calls.specs.Again.{returned, sentOf}
@@ -41,6 +42,8 @@ pub record Claims : Type 0 where
       ≡ handed (stepOf b a .answer) (letters (seasonOf b) (senderOf (ownOf b) a) (numberOf a) (stepOf b a .message)) (stepOf b a .delivery)
   pub called-meant : (b : List ℕ) → Lent b → (a : Call)
       → meant (called b a .book) ≡ withEntry (meant b) (senderOf (ownOf b) a) (numberOf a) (stepOf b a .entry)
+  -- What it compares with, and the message that it gives.
+  pub accepted : Accepted
   -- An accepted request's bytes mean the book with one more help for the asker.
   pub requested-meant : (b : List ℕ) → Lent b → (house season : ℕ) → requestAnswer b house season ≡ 0
       → meant (requested b house season .book) ≡ withHelp (meant b) (moreHelp (helpOf b) house)

@@ -58,7 +58,8 @@ parts-good s bytes m e z = subst Good (sym e) (request (requestOf s) refl)
 
 module _ (b : List ℕ) (p : ℕ) (s : List ℕ) (h : legal b ≡ true) where
   -- a request of another season is answered 3
-  season-asked : (season : ℕ) (t : Bool) → eqb season (seasonOf b) ≡ t → cond t (requested b p (seasonOf b)) (refusal 3 b) ≡ requested b p season
+  season-asked : (season : ℕ) (t : Bool) → eqb season (seasonOf b) ≡ t
+      → cond t (requested b p (seasonOf b)) (refusal 3 b) ≡ requested b p season
   unfolding requested requestAnswer
   season-asked season true e = sym (ap (requested b p) (eqb-true season (seasonOf b) e))
   season-asked season false e = rw e

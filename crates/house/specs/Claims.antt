@@ -6,7 +6,7 @@ use Rattle.words.specs.Settled.{Settled}
 use Rattle.sheet.specs.Kept.{judged}
 use Rattle.message.specs.declared.Written.{Written}
 use Rattle.book.specs.Claims as book
-use Rattle.calls.specs.Claims as counter
+use Rattle.calls.specs.Claims as calls
 use Rattle.message.specs.declared.ReadAnswer.{ReadAnswer}
 use Rattle.message.specs.Trips.{writes, reads, Trips}
 
@@ -15,7 +15,7 @@ pub record Settles : Type 0 where
   -- `gm_length` and `gm_open`
   pub book : book.Settles
   -- `gm_publish`, `gm_receive`, `gm_waiting`, `gm_return` and `gm_sent`
-  pub counter : counter.Settles
+  pub calls : calls.Settles
   -- `gm_judge`, `gm_write` and `gm_read`
   pub judge-settled : (sheet d : List ℕ) → Settled (λ (r : ℕ). r ≡ judged sheet d)
   pub write-settled : (kind season sender number : ℕ) (d : List ℕ) → Settled (λ (r : Written). r ≡ writes kind season sender number d)

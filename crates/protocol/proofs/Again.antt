@@ -107,7 +107,8 @@ module _ (Q : ℕ → Bool) (r n : ℕ) where
         X = count (λ q. Q q && Q₂ q) n
 
         one : (k : Kind)
-            → cond ((sameKind k SEND && F r) && isSome (outgoing SEND e)) X 0 + cond ((sameKind k ECHO && F r) && isSome (outgoing ECHO e)) X 0
+            → cond ((sameKind k SEND && F r) && isSome (outgoing SEND e)) X 0 + cond
+            ((sameKind k ECHO && F r) && isSome (outgoing ECHO e)) X 0
             + cond ((sameKind k READY && F r) && isSome (outgoing READY e)) X 0
             ≡ cond (F r && isSome (outgoing k e)) X 0
         one SEND = omega arith

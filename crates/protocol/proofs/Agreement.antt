@@ -65,7 +65,8 @@ module _ (B : Wall) (t : ℕ) (Y : Tolerated B t) where
           omega (
             arith,
             count-mono (vouch B (s .house) v) (vouch B H′ v) (n B)
-                (λ p i t. vouch-of (isHonest B p) _ (λ g. eq-holds _ v (sent p (holds-eq (s .house p .send) v (vouch-to (isHonest B p) _ g t))))),
+                (λ p i t. vouch-of (isHonest B p) _ (λ g. eq-holds _ v
+                (sent p (holds-eq (s .house p .send) v (vouch-to (isHonest B p) _ g t))))),
           )
 
       here : o .entry .readySent ≡ some v → Quorate H′

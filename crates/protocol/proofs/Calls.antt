@@ -134,7 +134,8 @@ module _ (R : Rules) (j : ℕ) where
         publishes = rw h;
       }
     where
-      new′ : (k : Kind) (w : Decl) → outgoing k (publishes v e .entry) ≡ some w → (outgoing k e ≡ some w) ⊎ (some (say SEND v) ≡ some (say k w))
+      new′ : (k : Kind) (w : Decl) → outgoing k (publishes v e .entry) ≡ some w
+          → (outgoing k e ≡ some w) ⊎ (some (say SEND v) ≡ some (say k w))
       new′ SEND w x = inr (let z : v ≡ w = cc in cc)
       new′ ECHO w x = inl x
       new′ READY w x = inl x

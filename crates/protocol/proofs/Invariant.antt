@@ -155,7 +155,8 @@ module _ (B : Wall) (j c : ℕ) where
         → T (isHonest B p) × T (B .rules .ok v) × T (may j k p) × T (inBook (B .rules) (B .numbers) j c)
     unfolding H′
     act-owner p k v =
-        upd-all (λ p x. outgoing k x ≡ some v → T (isHonest B p) × T (B .rules .ok v) × T (may j k p) × T (inBook (B .rules) (B .numbers) j c))
+        upd-all (λ p x. outgoing k x ≡ some v → T (isHonest B p) × T (B .rules .ok v) × T (may j k p) × T
+        (inBook (B .rules) (B .numbers) j c))
         (s .house) r (o .entry)
         (λ e. ⊎-elim (I .books .owner r k v)
         (λ m. let y = A .done .moves .says k v m in (A .here, y .2, y .3, A .booked (say k v) m))
@@ -167,7 +168,8 @@ module _ (B : Wall) (j c : ℕ) where
         → outgoing k (s .house p) ≡ some v
     act-heard k p v h m g = ⊎-elim (λ x. I .books .given r k p v x m g) (λ x. A .honest k p v x g) (A .done .hears k p v h m)
 
-    act-given : (q : ℕ) (k : Kind) (p : ℕ) (v : Decl) → heard k p (H′ q) ≡ some v → T (may j k p) → T (isHonest B p) → outgoing k (H′ p) ≡ some v
+    act-given : (q : ℕ) (k : Kind) (p : ℕ) (v : Decl) → heard k p (H′ q) ≡ some v → T (may j k p) → T (isHonest B p)
+        → outgoing k (H′ p) ≡ some v
     unfolding H′
     act-given q k p v =
         upd-all (λ q x. heard k p x ≡ some v → T (may j k p) → T (isHonest B p) → outgoing k (H′ p) ≡ some v) (s .house) r (o .entry)
@@ -201,7 +203,8 @@ module _ (B : Wall) (j c : ℕ) where
         new (some (say k v)) e =
             let gave : outgoing k (H′ r) ≡ some v = rw (upd-same (s .house) r (o .entry)) (A .done .moves .says k v e .1) in
             tally-toAll untrue j c r k v (n B)
-            ∙ count-none _ (n B) (λ q l. and-false (sameEntry j c j c) _ (ap not (true-of (holds (outgoing k (H′ r)) v) (eq-holds _ v gave))))
+            ∙ count-none _ (n B) (λ q l. and-false (sameEntry j c j c) _
+            (ap not (true-of (holds (outgoing k (H′ r)) v) (eq-holds _ v gave))))
 
     act-at-least : (k : Kind) (F Q : ℕ → Bool)
         → count Q (n B) * count (λ p. F p && isSome (outgoing k (H′ p))) (n B)

@@ -101,7 +101,8 @@ module _ (R : Rules) (j : ℕ) where
       ready′ true w x = inr (let z : v ≡ w = cc in cc)
       ready′ false w x = inl (sym (same READY) ∙ x)
 
-      new′ : (k : Kind) (w : Decl) → outgoing k (marked b d v now) ≡ some w → (outgoing k e ≡ some w) ⊎ (onlyIf b (say READY v) ≡ some (say k w))
+      new′ : (k : Kind) (w : Decl) → outgoing k (marked b d v now) ≡ some w
+          → (outgoing k e ≡ some w) ⊎ (onlyIf b (say READY v) ≡ some (say k w))
       new′ SEND w x = inl (sym (same SEND) ∙ x)
       new′ ECHO w x = inl (sym (same ECHO) ∙ x)
       new′ READY w x = ready′ b w x
@@ -125,7 +126,8 @@ module _ (R : Rules) (j : ℕ) where
   takes-moves r SEND p v e g h =
       record { filled = recorded-filled SEND p v e h; new = new′; says = says′; delivers = refl; publishes = refl }
     where
-      new′ : (k : Kind) (w : Decl) → outgoing k (recorded SEND p v e) ≡ some w → (outgoing k e ≡ some w) ⊎ (some (say ECHO v) ≡ some (say k w))
+      new′ : (k : Kind) (w : Decl) → outgoing k (recorded SEND p v e) ≡ some w
+          → (outgoing k e ≡ some w) ⊎ (some (say ECHO v) ≡ some (say k w))
       new′ SEND w x = inl x
       new′ ECHO w x = inr (let z : v ≡ w = cc in cc)
       new′ READY w x = inl x

@@ -84,7 +84,8 @@ module _ (B : Wall) (j c : ℕ) (Ψ : (ℕ → Entry) → Type 0)
   unfolding step consumes arrives asked comes
   step-holds (publish r c₂ v) s H =
       if-holds (isUp B s r) _ s
-      (λ t. call-holds r (publishing c₂ v) s (s .mail) (plain-act B r (publishing c₂ v) s (and-l (isHonest B r) _ (T-of t)) (λ k p w b g. b))
+      (λ t. call-holds r (publishing c₂ v) s (s .mail) (plain-act B r (publishing c₂ v) s (and-l (isHonest B r) _ (T-of t))
+      (λ k p w b g. b))
       (λ t P. refl) H)
       (λ t. H)
   step-holds (consume i) s H = go (at (s .mail) i) refl

@@ -203,7 +203,8 @@ module _ (H : Houses) where
             → Means H (cond t (requestTaken i s) (receives H (x .to) (x .from) (m .message) (requestTaken i s) (s .mail)))
             (cond t (protocol.requestTaken i z) (protocol.helps (wall H) (x .to) (x .from) (protocol.requestTaken i z)))
         go true honest = taken-means i
-        go false honest = help-means (x .to) (requestTaken i s) (protocol.requestTaken i z) (taken-means i) honest (x .from) (m .message) (S .request)
+        go false honest = help-means (x .to) (requestTaken i s) (protocol.requestTaken i z) (taken-means i) honest (x .from) (m .message)
+            (S .request)
 
     goes-means : (r : ℕ)
         → Means H (goesDown r s) (record { gave = z .gave; mail = z .mail; power = protocol.setDown (z .power) r true })

@@ -9,7 +9,7 @@ use Rattle.lot.specs.Declaration.{declarationAt}
 use Rattle.entry.specs.Entry.{Decl, Kind, SEND, ECHO, READY, heard}
 use Rattle.protocol.specs.Steps.{onlyIf, takesSend, recording}
 use Rattle.meaning.specs.Slot.{slotAt, putSlot}
-use Rattle.meaning.specs.Layout.{heardSlot, entrySlot, echoSlot, readySlot, readySentSlot, deliveredSlot, sendSlot, placeFrom}
+use Rattle.meaning.specs.Layout.{heardSlot, entrySlot, echoSlot, readySlot, readySentSlot, deliveredSlot, placeFrom}
 use Rattle.meaning.specs.Book.{nOf, numbersOf, seasonOf, look, placeIn}
 use Rattle.meaning.specs.Legal.{legal, IsDecl, Has}
 use Rattle.meaning.proofs.Stores.{stored-heard, stored-taken}
@@ -22,11 +22,6 @@ use Rattle.layout.proofs.Begins.{begins}
 use Rattle.step.specs.declared.Marks.{Marks}
 use Rattle.step.specs.Marks.{echoMark, readyMarks}
 use Rattle.step.proofs.Taken.{taking, heard-in, has-one, base-one, echo-taken, ready-taken}
-use native.Mathlib.Omega.{arith}
-
--- an entry begins with its SEND
-pub base-first : (base : ℕ) → base ≡ placeFrom base sendSlot
-base-first base = omega arith
 
 -- what recording answers at the slot is what it answers of what was heard
 pub slot-checked : (b : List ℕ) (j c p : ℕ) (k : Kind) (v : Decl) → Has b j c → p < nOf b → (base at r : ℕ) → base ≡ placeIn b j c 0
@@ -92,7 +87,8 @@ module _ (b : List ℕ) (h : legal b ≡ true) (bytes : Bytes b) (j c p : ℕ) (
     unfolding taken
     echo-entered ea e₁ g eg e₂ eo =
         let mark = eg ∙ (λ i. echoMark (first ECHO base at b₁ B ea e₁ i) (B .is i) v) in
-        marked-entered ECHO base at b₁ B ea e₁ sent (placeFrom base (deliveredSlot (nOf b))) season g false b₂ b₂ o at-sent refl es e₂ refl eo
+        marked-entered ECHO base at b₁ B ea e₁ sent (placeFrom base (deliveredSlot (nOf b))) season g false b₂ b₂ o at-sent refl es e₂
+        refl eo
         ∙ ap (entered b j c)
         (ap (λ (x : Bool). taking b h bytes j c p has hp v dv ECHO x false) mark ∙ echo-taken b h bytes j c p has hp v dv)
 

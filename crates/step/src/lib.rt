@@ -92,10 +92,11 @@ pub fn hear_send(book: &mut [u8], sender: u8, number: u8, base: usize, d: [u8; 2
     requires { ⌜ Has (now book) sender number × Begins (now book) sender number base × Plausible (now book) d ⌝ }
     ensures { λ r. ⌜ result r (now (book .exit)) ≡ called (now (book .entry)) (receiving sender SEND sender number d) ⌝ }
 {
-    let answer = record_answer(book, base, d);
+    let at = layout::send_at(base);
+    let answer = record_answer(book, at, d);
     if answer == 0 {
         let season = layout::season_of(book);
-        slots::put_slot(book, base, d);
+        slots::put_slot(book, at, d);
         return reply::accept(true, ECHO, season, sender, number, false, d);
     }
     reply::refuse(answer)
@@ -157,7 +158,7 @@ pub fn enter_publication(book: &mut [u8], number: u32, d: [u8; 20]) -> Outcome
     requires { ⌜ (legal (now book) ≡ true) × (number < numbersOf (now book)) × Plausible (now book) d ⌝ }
     ensures { λ r. ⌜ result r (now (book .exit)) ≡ called (now (book .entry)) (publishing number d) ⌝ }
 {
-    let at = layout::slot_place(layout::n_of(book), number as usize);
+    let at = layout::published_at(layout::n_of(book), number as usize);
     if slots::is_full(book, at) {
         return reply::refuse(8);
     }

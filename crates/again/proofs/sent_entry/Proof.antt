@@ -31,7 +31,12 @@ sent-in-requires c κs =
     let a = start .args in
     let h = header-room _ (start .pre .is-legal) in
     let room = published-room (now (a .book)) (a .number) (start .pre .is-legal) (start .pre .number) in (
-      omega (arith, c .published-at .ensures, ap (λ (x : ℕ). slotPlace x (publishedSlot (a .number))) (c .before .before .before .before .before .n-of .ensures .0)),
+      omega (
+        arith,
+        c .published-at .ensures,
+        ap (λ (x : ℕ). slotPlace x (publishedSlot (a .number)))
+            (c .before .before .before .before .before .n-of .ensures .0),
+      ),
       omega arith,
     )
 
@@ -39,7 +44,9 @@ returns : tie.Need-returns
 returns c =
     let start = c .before .before .before .before .before .before .before .before in
     let a = start .args in
-    sent-send (now (a .book)) (a .kind) (a .sender) (a .number) (start .pre) _ (c .before .before .before .before .match .keys1) _ _ _ (c .before .before .before .own-of .ensures .0) (c .before .before .if1 .taken) (c .before .before .before .before .before .before .n-of .ensures .0)
+    sent-send (now (a .book)) (a .kind) (a .sender) (a .number) (start .pre) _ (c .before .before .before .before .match .keys1) _ _ _
+    (c .before .before .before .own-of .ensures .0) (c .before .before .if1 .taken)
+    (c .before .before .before .before .before .before .n-of .ensures .0)
     (c .before .published-at .ensures) (c .sent-in .ensures)
 
 send-nothing-requires : tie.Need-send-nothing-requires
@@ -53,7 +60,12 @@ sent-in-requires-2 c κs =
     let start = c .before .before .before .before .before in
     let a = start .args in
     let h = header-room _ (start .pre .is-legal) in (
-      omega (arith, slot-room _ _ _ (c .before .before .entry-at .ensures .within) (send-below _), c .send-at .ensures, c .before .before .before .n-of .ensures .0),
+      omega (
+        arith,
+        slot-room _ _ _ (c .before .before .entry-at .ensures .within) (send-below _),
+        c .send-at .ensures,
+        c .before .before .before .n-of .ensures .0,
+      ),
       omega arith,
     )
 
@@ -65,7 +77,12 @@ sent-in-requires-3 c κs =
     let start = c .before .before .before .before .before in
     let a = start .args in
     let h = header-room _ (start .pre .is-legal) in (
-      omega (arith, slot-room _ _ _ (c .before .before .entry-at .ensures .within) (ready-sent-below _), c .ready-sent-at .ensures, c .before .before .before .n-of .ensures .0),
+      omega (
+        arith,
+        slot-room _ _ _ (c .before .before .entry-at .ensures .within) (ready-sent-below _),
+        c .ready-sent-at .ensures,
+        c .before .before .before .n-of .ensures .0,
+      ),
       omega arith,
     )
 
@@ -76,19 +93,22 @@ returns-2 : tie.Need-returns-2
 returns-2 c =
     let start = c .before .before .before .before .before .before .before in
     let a = start .args in
-    sent-other (now (a .book)) (a .kind) (a .sender) (a .number) (start .pre) _ (c .before .before .before .match .keys1) _ (c .before .before .own-of .ensures .0) (c .before .if1 .left) (c .send-nothing .ensures)
+    sent-other (now (a .book)) (a .kind) (a .sender) (a .number) (start .pre) _ (c .before .before .before .match .keys1) _
+    (c .before .before .own-of .ensures .0) (c .before .if1 .left) (c .send-nothing .ensures)
 
 returns-3 : tie.Need-returns-3
 returns-3 c =
     let start = c .before .before .before .before .before .before in
     let a = start .args in
-    sent-echo (now (a .book)) (a .kind) (a .sender) (a .number) (start .pre) _ _ (c .before .before .before .entry-at .ensures) (c .before .before .match .keys2) _ (c .before .send-at .ensures) (c .sent-in2 .ensures)
+    sent-echo (now (a .book)) (a .kind) (a .sender) (a .number) (start .pre) _ _ (c .before .before .before .entry-at .ensures)
+    (c .before .before .match .keys2) _ (c .before .send-at .ensures) (c .sent-in2 .ensures)
 
 returns-4 : tie.Need-returns-4
 returns-4 c =
     let start = c .before .before .before .before .before .before in
     let a = start .args in
-    sent-ready (now (a .book)) (a .kind) (a .sender) (a .number) (start .pre) _ _ (c .before .before .before .entry-at .ensures) (c .before .before .match .keys3) _ _ (c .before .before .before .before .n-of .ensures .0) (c .before .ready-sent-at .ensures)
+    sent-ready (now (a .book)) (a .kind) (a .sender) (a .number) (start .pre) _ _ (c .before .before .before .entry-at .ensures)
+    (c .before .before .match .keys3) _ _ (c .before .before .before .before .n-of .ensures .0) (c .before .ready-sent-at .ensures)
     (c .sent-in3 .ensures)
 
 returns-5 : tie.Need-returns-5
@@ -96,7 +116,8 @@ returns-5 c =
     let start = c .before .before .before .before .before in
     let a = start .args in
     let rest = c .before .match .rest in
-    sent-no-kind-here (now (a .book)) (a .kind) (a .sender) (a .number) (start .pre) _ (rest .0 .0 .1) (rest .0 .1) (rest .1) (c .send-nothing2 .ensures)
+    sent-no-kind-here (now (a .book)) (a .kind) (a .sender) (a .number) (start .pre) _ (rest .0 .0 .1) (rest .0 .1) (rest .1)
+    (c .send-nothing2 .ensures)
 
 pub sent-entry-spec : {M : Type 1} → statement M
 sent-entry-spec =

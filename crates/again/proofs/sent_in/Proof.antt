@@ -27,8 +27,10 @@ returns : tie.Need-returns
 returns c =
     let start = c .before .before .before .before .before .before .before in
     let a = start .args in
-    sent-full (now (a .book)) (a .at) (a .kind) (a .sender) (a .number) (start .pre .0) _ (c .before .before .before .before .before .is-full .ensures) (c .before .before .before .before .if1 .taken) _
-    (c .before .before .before .declaration-at .ensures) _ (c .before .before .bytes-of .ensures) _ (c .before .season-of .ensures) _ (c .lay-message .ensures)
+    sent-full (now (a .book)) (a .at) (a .kind) (a .sender) (a .number) (start .pre .0) _
+    (c .before .before .before .before .before .is-full .ensures) (c .before .before .before .before .if1 .taken) _
+    (c .before .before .before .declaration-at .ensures) _ (c .before .before .bytes-of .ensures) _ (c .before .season-of .ensures) _
+    (c .lay-message .ensures)
 
 send-nothing-requires : tie.Need-send-nothing-requires
 send-nothing-requires c κs = search needs
@@ -37,7 +39,8 @@ returns-2 : tie.Need-returns-2
 returns-2 c =
     let start = c .before .before .before .before in
     let a = start .args in
-    sent-empty (now (a .book)) (a .at) (a .kind) (a .sender) (a .number) (start .pre .0) _ (c .before .before .is-full .ensures) (c .before .if1 .left) _ (c .send-nothing .ensures)
+    sent-empty (now (a .book)) (a .at) (a .kind) (a .sender) (a .number) (start .pre .0) _ (c .before .before .is-full .ensures)
+    (c .before .if1 .left) _ (c .send-nothing .ensures)
 
 pub sent-in-spec : {M : Type 1} → statement M
 sent-in-spec =

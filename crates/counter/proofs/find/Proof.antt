@@ -20,7 +20,8 @@ weigh-requires : tie.Need-weigh-requires
 weigh-requires c κs = (
   record {
     is-legal = c .before .before .before .before .before .before .before .before .before .pre .0;
-    sender = omega (arith, c .before .before .before .before .before .before .n-of .ensures .0, c .before .before .before .before .before .if1 .taken);
+    sender = omega
+        (arith, c .before .before .before .before .before .before .n-of .ensures .0, c .before .before .before .before .before .if1 .taken);
     number = omega (arith, c .before .before .before .numbers-of .ensures .0, c .before .before .if2 .taken);
   },
   c .before .before .before .before .before .before .before .before .before .pre .1,
@@ -44,7 +45,9 @@ returns-2 : tie.Need-returns-2
 returns-2 c =
     let start = c .before .before .before .before .before .before .before .before .before in
     let a = start .args in
-    missing-heard (now (a .book)) (a .house) (a .kind) (a .sender) (a .number) (a .d) (start .pre .2) (inr (inr (omega (arith, c .before .before .before .before .before .before .n-of .ensures .0, c .before .if3 .left)))) _ (c .refuse .ensures)
+    missing-heard (now (a .book)) (a .house) (a .kind) (a .sender) (a .number) (a .d) (start .pre .2)
+    (inr (inr (omega (arith, c .before .before .before .before .before .before .n-of .ensures .0, c .before .if3 .left)))) _
+    (c .refuse .ensures)
 
 refuse-requires-2 : tie.Need-refuse-requires-2
 refuse-requires-2 c κs = search needs
@@ -56,7 +59,8 @@ returns-3 : tie.Need-returns-3
 returns-3 c =
     let start = c .before .before .before .before .before .before .before .before in
     let a = start .args in
-    missing-heard (now (a .book)) (a .house) (a .kind) (a .sender) (a .number) (a .d) (start .pre .2) (inr (inl (omega (arith, c .before .before .numbers-of .ensures .0, c .before .if2 .left)))) _ (c .refuse2 .ensures)
+    missing-heard (now (a .book)) (a .house) (a .kind) (a .sender) (a .number) (a .d) (start .pre .2)
+    (inr (inl (omega (arith, c .before .before .numbers-of .ensures .0, c .before .if2 .left)))) _ (c .refuse2 .ensures)
 
 refuse-requires-3 : tie.Need-refuse-requires-3
 refuse-requires-3 c κs = search needs
@@ -68,7 +72,8 @@ returns-4 : tie.Need-returns-4
 returns-4 c =
     let start = c .before .before .before .before .before in
     let a = start .args in
-    missing-heard (now (a .book)) (a .house) (a .kind) (a .sender) (a .number) (a .d) (start .pre .2) (inl (omega (arith, c .before .before .n-of .ensures .0, c .before .if1 .left))) _ (c .refuse3 .ensures)
+    missing-heard (now (a .book)) (a .house) (a .kind) (a .sender) (a .number) (a .d) (start .pre .2)
+    (inl (omega (arith, c .before .before .n-of .ensures .0, c .before .if1 .left))) _ (c .refuse3 .ensures)
 
 pub find-spec : {M : Type 1} → statement M
 find-spec =

@@ -21,11 +21,17 @@ returns : tie.Need-returns
 returns c =
     let start = c .before .before .before .before .before .before .before .before .before .before .before in
     let a = start .args in
-    request-heard (now (a .book)) (a .house) (a .m) _ (c .before .before .before .before .before .before .before .before .season-of .ensures) (c .before .before .before .before .before .before .if1 .taken) (c .before .before .before .before .if2 .taken) _ (c .before .before .hear-request .ensures)
+    request-heard (now (a .book)) (a .house) (a .m) _
+    (c .before .before .before .before .before .before .before .before .season-of .ensures)
+    (c .before .before .before .before .before .before .if1 .taken) (c .before .before .before .before .if2 .taken) _
+    (c .before .before .hear-request .ensures)
 
 find-requires : tie.Need-find-requires
-find-requires c κs =
-    (c .before .before .before .before .before .before .before .before .before .pre .0, c .before .before .before .before .before .before .before .before .before .pre .1, c .before .before .before .before .before .before .before .before .before .pre .2 (c .before .before .if2 .left))
+find-requires c κs = (
+  c .before .before .before .before .before .before .before .before .before .pre .0,
+  c .before .before .before .before .before .before .before .before .before .pre .1,
+  c .before .before .before .before .before .before .before .before .before .pre .2 (c .before .before .if2 .left),
+)
 
 same-length-2 : tie.Need-same-length-2
 same-length-2 c = search needs
@@ -34,7 +40,10 @@ returns-2 : tie.Need-returns-2
 returns-2 c =
     let start = c .before .before .before .before .before .before .before .before .before .before .before .before in
     let a = start .args in
-    message-heard (now (a .book)) (a .house) (a .m) _ (c .before .before .before .before .before .before .before .before .before .season-of .ensures) (c .before .before .before .before .before .before .before .if1 .taken) (c .before .before .before .before .before .if2 .left) _ (c .before .before .find .ensures)
+    message-heard (now (a .book)) (a .house) (a .m) _
+    (c .before .before .before .before .before .before .before .before .before .season-of .ensures)
+    (c .before .before .before .before .before .before .before .if1 .taken) (c .before .before .before .before .before .if2 .left) _
+    (c .before .before .find .ensures)
 
 refuse-requires : tie.Need-refuse-requires
 refuse-requires c κs = search needs
@@ -46,7 +55,8 @@ returns-3 : tie.Need-returns-3
 returns-3 c =
     let start = c .before .before .before .before .before .before in
     let a = start .args in
-    other-season (now (a .book)) (a .house) (a .m) _ (c .before .before .before .season-of .ensures) (c .before .if1 .left) _ (c .refuse .ensures)
+    other-season (now (a .book)) (a .house) (a .m) _ (c .before .before .before .season-of .ensures) (c .before .if1 .left) _
+    (c .refuse .ensures)
 
 pub hear-spec : {M : Type 1} → statement M
 hear-spec =

@@ -27,15 +27,25 @@ declaration-at-requires c κs = search needs
 
 is-plausible-requires : tie.Need-is-plausible-requires
 is-plausible-requires c κs =
-    book-sheet (now (c .before .before .before .before .before .before .before .before .args .book)) _ (c .before .before .before .before .before .before .before .before .pre .0) (c .before .before .sheet-of .ensures)
+    book-sheet (now (c .before .before .before .before .before .before .before .before .args .book)) _
+    (c .before .before .before .before .before .before .before .before .pre .0) (c .before .before .sheet-of .ensures)
 
 enter-publication-requires : tie.Need-enter-publication-requires
 enter-publication-requires c κs =
     let start = c .before .before .before .before .before .before .before .before .before .before .before in
     let a = start .args in (
       start .pre .0,
-      omega (arith, c .before .before .before .before .before .before .before .before .numbers-of .ensures .0, c .before .before .before .before .before .before .before .if1 .taken),
-      record { decl = start .pre .1; ok = sym (plausible-ok _ (sheetOf (now (a .book))) (a .t3) _ _ (start .pre .1) (c .before .before .before .before .before .sheet-of .ensures) (c .before .before .before .declaration-at .ensures) (c .before .before .is-plausible .ensures)) ∙ c .before .if2 .taken },
+      omega (
+        arith,
+        c .before .before .before .before .before .before .before .before .numbers-of .ensures .0,
+        c .before .before .before .before .before .before .before .if1 .taken,
+      ),
+      record {
+        decl = start .pre .1;
+        ok = sym (plausible-ok _ (sheetOf (now (a .book))) (a .t3) _ _ (start .pre .1)
+            (c .before .before .before .before .before .sheet-of .ensures) (c .before .before .before .declaration-at .ensures)
+            (c .before .before .is-plausible .ensures)) ∙ c .before .if2 .taken;
+      },
     )
 
 same-length : tie.Need-same-length
@@ -54,7 +64,15 @@ returns-2 : tie.Need-returns-2
 returns-2 c =
     let start = c .before .before .before .before .before .before .before .before .before .before .before in
     let a = start .args in
-    lot-refused (now (a .book)) (start .pre .0) (a .number) (a .t3) (omega (arith, c .before .before .before .before .before .before .before .before .numbers-of .ensures .0, c .before .before .before .before .before .before .before .if1 .taken)) (sym (plausible-ok _ (sheetOf (now (a .book))) (a .t3) _ _ (start .pre .1) (c .before .before .before .before .before .sheet-of .ensures) (c .before .before .before .declaration-at .ensures) (c .before .before .is-plausible .ensures)) ∙ c .before .if2 .left) _ (c .refuse .ensures)
+    lot-refused (now (a .book)) (start .pre .0) (a .number) (a .t3)
+    (omega (
+      arith,
+      c .before .before .before .before .before .before .before .before .numbers-of .ensures .0,
+      c .before .before .before .before .before .before .before .if1 .taken,
+    ))
+    (sym (plausible-ok _ (sheetOf (now (a .book))) (a .t3) _ _ (start .pre .1)
+    (c .before .before .before .before .before .sheet-of .ensures) (c .before .before .before .declaration-at .ensures)
+    (c .before .before .is-plausible .ensures)) ∙ c .before .if2 .left) _ (c .refuse .ensures)
 
 refuse-requires-2 : tie.Need-refuse-requires-2
 refuse-requires-2 c κs = search needs
@@ -66,7 +84,8 @@ returns-3 : tie.Need-returns-3
 returns-3 c =
     let start = c .before .before .before .before .before in
     let a = start .args in
-    number-refused (now (a .book)) (start .pre .0) (a .number) (a .t3) (omega (arith, c .before .before .numbers-of .ensures .0, c .before .if1 .left)) _ (c .refuse2 .ensures)
+    number-refused (now (a .book)) (start .pre .0) (a .number) (a .t3)
+    (omega (arith, c .before .before .numbers-of .ensures .0, c .before .if1 .left)) _ (c .refuse2 .ensures)
 
 pub publish-legal-spec : {M : Type 1} → statement M
 publish-legal-spec =

@@ -16,7 +16,8 @@ parts-of-requires c κs = search needs
 
 hear-requires : tie.Need-hear-requires
 hear-requires c κs =
-    let good = parts-good _ (λ i. omega (arith, c .before .before .before .before .before .before .before .shared-slice-known .given i)) _ (c .before .before .before .parts-of .ensures) (c .before .if2 .taken) in
+    let good = parts-good _ (λ i. omega (arith, c .before .before .before .before .before .before .before .shared-slice-known .given i)) _
+    (c .before .before .before .parts-of .ensures) (c .before .if2 .taken) in
     (sym (c .before .before .before .before .before .is-legal .ensures) ∙ c .before .before .before .before .if1 .taken, good .0, good .1)
 
 same-length : tie.Need-same-length
@@ -25,7 +26,11 @@ same-length c = search needs
 returns : tie.Need-returns
 returns c =
     let a = c .before .before .before .before .before .before .before .before .before .before .before .before .args in
-    parts-heard (now (a .book)) (a .house) (now (a .message)) (sym (c .before .before .before .before .before .before .before .before .is-legal .ensures) ∙ c .before .before .before .before .before .before .before .if1 .taken) _ (c .before .before .before .before .before .before .parts-of .ensures) (c .before .before .before .before .if2 .taken) _ (c .before .before .hear .ensures)
+    parts-heard (now (a .book)) (a .house) (now (a .message)) (sym
+    (c .before .before .before .before .before .before .before .before .is-legal .ensures) ∙
+    c .before .before .before .before .before .before .before .if1 .taken) _
+    (c .before .before .before .before .before .before .parts-of .ensures) (c .before .before .before .before .if2 .taken) _
+    (c .before .before .hear .ensures)
 
 refuse-requires : tie.Need-refuse-requires
 refuse-requires c κs = search needs
@@ -36,7 +41,9 @@ same-length-2 c = search needs
 returns-2 : tie.Need-returns-2
 returns-2 c =
     let a = c .before .before .before .before .before .before .before .before .before .args in
-    malformed-refused (now (a .book)) (a .house) (now (a .message)) (sym (c .before .before .before .before .before .is-legal .ensures) ∙ c .before .before .before .before .if1 .taken) _ (c .before .before .before .parts-of .ensures) (c .before .if2 .left) _ (c .refuse .ensures)
+    malformed-refused (now (a .book)) (a .house) (now (a .message))
+    (sym (c .before .before .before .before .before .is-legal .ensures) ∙ c .before .before .before .before .if1 .taken) _
+    (c .before .before .before .parts-of .ensures) (c .before .if2 .left) _ (c .refuse .ensures)
 
 refuse-requires-2 : tie.Need-refuse-requires-2
 refuse-requires-2 c κs = search needs
@@ -47,7 +54,8 @@ same-length-3 c = search needs
 returns-3 : tie.Need-returns-3
 returns-3 c =
     let a = c .before .before .before .before .before .before .args in
-    received-no-book (now (a .book)) (a .house) (now (a .message)) (sym (c .before .before .is-legal .ensures) ∙ c .before .if1 .left) _ (c .refuse2 .ensures)
+    received-no-book (now (a .book)) (a .house) (now (a .message)) (sym (c .before .before .is-legal .ensures) ∙ c .before .if1 .left) _
+    (c .refuse2 .ensures)
 
 pub receive-spec : {M : Type 1} → statement M
 receive-spec =

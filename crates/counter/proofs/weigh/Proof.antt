@@ -23,7 +23,8 @@ declaration-at-requires c κs = search needs
 
 is-plausible-requires : tie.Need-is-plausible-requires
 is-plausible-requires c κs =
-    book-sheet (now (c .before .before .before .before .before .before .before .args .book)) _ (c .before .before .before .before .before .before .before .pre .0 .is-legal) (c .before .before .sheet-of .ensures)
+    book-sheet (now (c .before .before .before .before .before .before .before .args .book)) _
+    (c .before .before .before .before .before .before .before .pre .0 .is-legal) (c .before .before .sheet-of .ensures)
 
 take-requires : tie.Need-take-requires
 take-requires c κs =
@@ -31,7 +32,12 @@ take-requires c κs =
     let a = start .args in (
       start .pre .0,
       c .before .before .before .before .before .before .before .entry-at .ensures,
-      record { decl = start .pre .1; ok = sym (plausible-ok _ (sheetOf (now (a .book))) (a .t6) _ _ (start .pre .1) (c .before .before .before .before .before .sheet-of .ensures) (c .before .before .before .declaration-at .ensures) (c .before .before .is-plausible .ensures)) ∙ c .before .if1 .taken },
+      record {
+        decl = start .pre .1;
+        ok = sym (plausible-ok _ (sheetOf (now (a .book))) (a .t6) _ _ (start .pre .1)
+            (c .before .before .before .before .before .sheet-of .ensures) (c .before .before .before .declaration-at .ensures)
+            (c .before .before .is-plausible .ensures)) ∙ c .before .if1 .taken;
+      },
       start .pre .2,
       start .pre .3,
     )
@@ -53,7 +59,9 @@ returns-2 c =
     let start = c .before .before .before .before .before .before .before .before .before .before in
     let a = start .args in
     implausible-heard (now (a .book)) (a .house) (a .kind) (a .sender) (a .number) (a .t6) (start .pre .3) (start .pre .0) (start .pre .2)
-    (sym (plausible-ok _ (sheetOf (now (a .book))) (a .t6) _ _ (start .pre .1) (c .before .before .before .before .before .sheet-of .ensures) (c .before .before .before .declaration-at .ensures) (c .before .before .is-plausible .ensures)) ∙ c .before .if1 .left) _ (c .refuse .ensures)
+    (sym (plausible-ok _ (sheetOf (now (a .book))) (a .t6) _ _ (start .pre .1)
+    (c .before .before .before .before .before .sheet-of .ensures) (c .before .before .before .declaration-at .ensures)
+    (c .before .before .is-plausible .ensures)) ∙ c .before .if1 .left) _ (c .refuse .ensures)
 
 pub weigh-spec : {M : Type 1} → statement M
 weigh-spec =

@@ -29,7 +29,13 @@ echo-at-requires c κs = search needs
 count-same-requires : tie.Need-count-same-requires
 count-same-requires c κs =
     let n = c .before .before .before .n-of .ensures .0 in
-    omega (arith, row-within _ _ _ (c .before .before .before .before .before .pre) (echoes-below (nOf (now (c .before .before .before .before .before .args .book)))), c .echo-at .ensures, n)
+    omega (
+      arith,
+      row-within _ _ _ (c .before .before .before .before .before .pre)
+          (echoes-below (nOf (now (c .before .before .before .before .before .args .book)))),
+      c .echo-at .ensures,
+      n,
+    )
 
 ready-sent-at-requires : tie.Need-ready-sent-at-requires
 ready-sent-at-requires c κs = search needs
@@ -37,13 +43,21 @@ ready-sent-at-requires c κs = search needs
 is-reached-requires : tie.Need-is-reached-requires
 is-reached-requires c κs =
     let n = c .before .before .before .before .before .n-of .ensures .0 in
-    omega (arith, slot-room _ _ _ (c .before .before .before .before .before .before .before .pre) (ready-sent-below (nOf (now (c .before .before .before .before .before .before .before .args .book)))), c .ready-sent-at .ensures, n)
+    omega (
+      arith,
+      slot-room _ _ _ (c .before .before .before .before .before .before .before .pre)
+          (ready-sent-below (nOf (now (c .before .before .before .before .before .before .before .args .book)))),
+      c .ready-sent-at .ensures,
+      n,
+    )
 
 returns : tie.Need-returns
 returns c =
     let a = c .before .before .before .before .before .before .before .before .args in
-    echo-found (now (a .book)) (a .base) (a .d) _ _ _ (c .before .before .before .before .before .before .n-of .ensures .0) (c .before .before .before .before .before .down-of .ensures .0)
-    (c .before .before .before .before .counts-of .ensures) _ (c .before .before .before .echo-at .ensures) _ (c .before .before .count-same .ensures .0) _
+    echo-found (now (a .book)) (a .base) (a .d) _ _ _ (c .before .before .before .before .before .before .n-of .ensures .0)
+    (c .before .before .before .before .before .down-of .ensures .0)
+    (c .before .before .before .before .counts-of .ensures) _ (c .before .before .before .echo-at .ensures) _
+    (c .before .before .count-same .ensures .0) _
     (c .before .ready-sent-at .ensures) _ (c .is-reached .ensures)
 
 pub echo-mark-spec : {M : Type 1} → statement M

@@ -1,11 +1,13 @@
 -- `step::hear_send` meets its contract.
-use Rattle.step.proofs.Entered.{base-first, slot-checked, send-entered}
+use Rattle.step.proofs.Entered.{slot-checked, send-entered}
 use Rattle.calls.proofs.Checking.{recorded-refused, message-taken}
 use borrow.Author.Tests.{eq-eqb}
 use Rattle.entry.specs.Entry.{SEND}
 use Rattle.meaning.specs.Book.{nOf}
-use Rattle.layout.proofs.Begins.{slot-room}
 use Rattle.meaning.proofs.Places.{send-below}
+use Rattle.meaning.proofs.Seen.{from-base}
+use Rattle.meaning.specs.Layout.{sendSlot}
+use Rattle.layout.proofs.Begins.{slot-room}
 use denote.Ref.{now}
 use native.Mathlib.Omega.{arith}
 use mathlib.Core.Path.{refl, sym, _∙_}
@@ -13,18 +15,26 @@ use borrow.Author.Needs.{needs}
 use Rattle.step.proofs.hear_send.Statement.{statement}
 use Rattle.step.proofs.hear_send.Tie as tie
 
+send-at-requires : tie.Need-send-at-requires
+send-at-requires c κs = search needs
+
 record-answer-requires : tie.Need-record-answer-requires
 record-answer-requires c κs =
-    let W = c .before .before .pre .1 .within in
-    omega (arith, slot-room _ _ _ W (send-below (nOf (now (c .before .before .args .book)))))
+    let W = c .before .before .before .pre .1 .within in
+    omega (arith, slot-room _ _ _ W (send-below (nOf (now (c .before .before .before .args .book)))), c .before .send-at .ensures)
 
 season-of-requires : tie.Need-season-of-requires
 season-of-requires c κs = search needs
 
 put-slot-requires : tie.Need-put-slot-requires
 put-slot-requires c κs =
-    let W = c .before .before .before .before .before .before .before .pre .1 .within in
-    omega (arith, slot-room _ _ _ W (send-below (nOf (now (c .before .before .before .before .before .before .before .args .book)))))
+    let W = c .before .before .before .before .before .before .before .before .pre .1 .within in
+    omega (
+      arith,
+      slot-room _ _ _ W (send-below (nOf (now
+          (c .before .before .before .before .before .before .before .before .args .book)))),
+      c .before .before .before .before .before .before .send-at .ensures,
+    )
 
 accept-requires : tie.Need-accept-requires
 accept-requires c κs = search needs
@@ -34,15 +44,21 @@ same-length c = search needs
 
 returns : tie.Need-returns
 returns c =
-    let start = c .before .before .before .before .before .before .before .before .before .before .before in
+    let start = c .before .before .before .before .before .before .before .before .before .before .before .before in
     let a = start .args in
     let b = now (a .book) in
     let has = start .pre .0 in
     let ok = start .pre .2 in
-    let z = sym (slot-checked b (a .sender) (a .number) (a .sender) SEND (a .d) has (has .sender) (a .base) (a .base) _ (start .pre .1 .is)
-    (base-first (a .base)) (c .before .before .before .before .before .before .before .before .record-answer .ensures)) ∙ c .before .before .before .before .before .before .before .if1 .taken in
-    send-entered b (has .is-legal) (λ i. omega (arith, c .before .before .before .before .before .before .before .before .before .before .slice-known .given i)) (a .sender) (a .number) (a .sender) has (has .sender)
-    (a .d) (ok .decl) (a .base) _ _ _ (start .pre .1 .is) (c .before .before .before .before .before .season-of .ensures) (c .before .before .before .put-slot .ensures) (c .accept .ensures)
+    let z = sym (slot-checked b (a .sender) (a .number) (a .sender) SEND (a .d) has (has .sender) (a .base) _ _ (start .pre .1 .is)
+    (c .before .before .before .before .before .before .before .before .before .before .send-at .ensures)
+    (c .before .before .before .before .before .before .before .before .record-answer .ensures)) ∙
+    c .before .before .before .before .before .before .before .if1 .taken in
+    send-entered b (has .is-legal)
+    (λ i. omega (arith, c .before .before .before .before .before .before .before .before .before .before .before .slice-known .given i))
+    (a .sender) (a .number) (a .sender) has (has .sender)
+    (a .d) (ok .decl) _ _ _ _ (c .before .before .before .before .before .before .before .before .before .before .send-at .ensures ∙
+    from-base b (a .sender) (a .number) has (a .base) (start .pre .1 .is) sendSlot)
+    (c .before .before .before .before .before .season-of .ensures) (c .before .before .before .put-slot .ensures) (c .accept .ensures)
     ∙ message-taken b (a .sender) (a .number) (a .sender) SEND (a .d) has (has .sender) (ok .ok) (eq-eqb (a .sender) (a .sender) refl) z
 
 refuse-requires : tie.Need-refuse-requires
@@ -53,18 +69,21 @@ same-length-2 c = search needs
 
 returns-2 : tie.Need-returns-2
 returns-2 c =
-    let start = c .before .before .before .before .before in
+    let start = c .before .before .before .before .before .before in
     let a = start .args in
     let b = now (a .book) in
     let has = start .pre .0 in
-    recorded-refused b (a .sender) (a .number) (a .sender) SEND (a .d) has (has .sender) (start .pre .2 .ok) (eq-eqb (a .sender) (a .sender) refl) _
-    (slot-checked b (a .sender) (a .number) (a .sender) SEND (a .d) has (has .sender) (a .base) (a .base) _ (start .pre .1 .is)
-    (base-first (a .base)) (c .before .before .record-answer .ensures)) (c .before .if1 .left) _ (c .refuse .ensures)
+    recorded-refused b (a .sender) (a .number) (a .sender) SEND (a .d) has (has .sender) (start .pre .2 .ok)
+    (eq-eqb (a .sender) (a .sender) refl) _
+    (slot-checked b (a .sender) (a .number) (a .sender) SEND (a .d) has (has .sender) (a .base) _ _ (start .pre .1 .is)
+    (c .before .before .before .before .send-at .ensures) (c .before .before .record-answer .ensures)) (c .before .if1 .left) _
+    (c .refuse .ensures)
 
 pub hear-send-spec : {M : Type 1} → statement M
 hear-send-spec =
     tie.close
     (tie.spec
+    send-at-requires
     record-answer-requires
     season-of-requires
     put-slot-requires

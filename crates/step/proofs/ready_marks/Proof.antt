@@ -29,7 +29,13 @@ ready-at-requires c κs = search needs
 count-same-requires : tie.Need-count-same-requires
 count-same-requires c κs =
     let n = c .before .before .before .n-of .ensures .0 in
-    omega (arith, row-within _ _ _ (c .before .before .before .before .before .pre) (readies-below (nOf (now (c .before .before .before .before .before .args .book)))), c .ready-at .ensures, n)
+    omega (
+      arith,
+      row-within _ _ _ (c .before .before .before .before .before .pre)
+          (readies-below (nOf (now (c .before .before .before .before .before .args .book)))),
+      c .ready-at .ensures,
+      n,
+    )
 
 ready-sent-at-requires : tie.Need-ready-sent-at-requires
 ready-sent-at-requires c κs = search needs
@@ -37,7 +43,13 @@ ready-sent-at-requires c κs = search needs
 is-reached-requires : tie.Need-is-reached-requires
 is-reached-requires c κs =
     let n = c .before .before .before .before .before .n-of .ensures .0 in
-    omega (arith, slot-room _ _ _ (c .before .before .before .before .before .before .before .pre) (ready-sent-below (nOf (now (c .before .before .before .before .before .before .before .args .book)))), c .ready-sent-at .ensures, n)
+    omega (
+      arith,
+      slot-room _ _ _ (c .before .before .before .before .before .before .before .pre)
+          (ready-sent-below (nOf (now (c .before .before .before .before .before .before .before .args .book)))),
+      c .ready-sent-at .ensures,
+      n,
+    )
 
 delivered-at-requires : tie.Need-delivered-at-requires
 delivered-at-requires c κs = search needs
@@ -45,13 +57,22 @@ delivered-at-requires c κs = search needs
 is-reached-requires-2 : tie.Need-is-reached-requires-2
 is-reached-requires-2 c κs =
     let n = c .before .before .before .before .before .before .before .n-of .ensures .0 in
-    omega (arith, slot-room _ _ _ (c .before .before .before .before .before .before .before .before .before .pre) (delivered-below (nOf (now (c .before .before .before .before .before .before .before .before .before .args .book)))), c .delivered-at .ensures, n)
+    omega (
+      arith,
+      slot-room _ _ _ (c .before .before .before .before .before .before .before .before .before .pre)
+          (delivered-below (nOf (now (c .before .before .before .before .before .before .before .before .before .args .book)))),
+      c .delivered-at .ensures,
+      n,
+    )
 
 returns : tie.Need-returns
 returns c =
     let a = c .before .before .before .before .before .before .before .before .before .before .args in
-    ready-found (now (a .book)) (a .base) (a .d) _ _ _ (c .before .before .before .before .before .before .before .before .n-of .ensures .0) (c .before .before .before .before .before .before .before .down-of .ensures .0)
-    (c .before .before .before .before .before .before .counts-of .ensures) _ (c .before .before .before .before .before .ready-at .ensures) _ (c .before .before .before .before .count-same .ensures .0) _
+    ready-found (now (a .book)) (a .base) (a .d) _ _ _
+    (c .before .before .before .before .before .before .before .before .n-of .ensures .0)
+    (c .before .before .before .before .before .before .before .down-of .ensures .0)
+    (c .before .before .before .before .before .before .counts-of .ensures) _
+    (c .before .before .before .before .before .ready-at .ensures) _ (c .before .before .before .before .count-same .ensures .0) _
     (c .before .before .before .ready-sent-at .ensures) _ (c .before .delivered-at .ensures) _ (c .before .before .is-reached .ensures) _
     (c .is-reached2 .ensures)
 
