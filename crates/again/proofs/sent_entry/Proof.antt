@@ -14,7 +14,8 @@ use Rattle.again.proofs.sent_entry.Tie as tie
 
 n-of-requires : tie.Need-n-of-requires
 n-of-requires c κs =
-    let h = header-room _ (c .before .pre .is-legal) in omega arith
+    let start = c .before in
+    let h = header-room _ (start .pre .is-legal) in omega arith
 
 entry-at-requires : tie.Need-entry-at-requires
 entry-at-requires c κs = search needs
@@ -27,27 +28,27 @@ published-at-requires c κs = search needs
 
 sent-in-requires : tie.Need-sent-in-requires
 sent-in-requires c κs =
-    let start = c .before .before .before .before .before .before .before in
+    let at-n-of = c .before .before .before .before .before in
+    let start = at-n-of .before .before in
     let a = start .args in
     let h = header-room _ (start .pre .is-legal) in
     let room = published-room (now (a .book)) (a .number) (start .pre .is-legal) (start .pre .number) in (
-      omega (
-        arith,
-        c .published-at .ensures,
-        ap (λ (x : ℕ). slotPlace x (publishedSlot (a .number)))
-            (c .before .before .before .before .before .n-of .ensures .0),
-      ),
+      omega (arith, c .published-at .ensures, ap (λ (x : ℕ). slotPlace x (publishedSlot (a .number))) (at-n-of .n-of .ensures .0)),
       omega arith,
     )
 
 returns : tie.Need-returns
 returns c =
-    let start = c .before .before .before .before .before .before .before .before in
+    let at-published-at = c .before in
+    let at-if1 = at-published-at .before in
+    let at-own-of = at-if1 .before in
+    let at-match = at-own-of .before in
+    let at-n-of = at-match .before .before in
+    let start = at-n-of .before .before in
     let a = start .args in
-    sent-send (now (a .book)) (a .kind) (a .sender) (a .number) (start .pre) _ (c .before .before .before .before .match .keys1) _ _ _
-    (c .before .before .before .own-of .ensures .0) (c .before .before .if1 .taken)
-    (c .before .before .before .before .before .before .n-of .ensures .0)
-    (c .before .published-at .ensures) (c .sent-in .ensures)
+    sent-send (now (a .book)) (a .kind) (a .sender) (a .number) (start .pre) _ (at-match .match .keys1) _ _ _
+    (at-own-of .own-of .ensures .0) (at-if1 .if1 .taken) (at-n-of .n-of .ensures .0)
+    (at-published-at .published-at .ensures) (c .sent-in .ensures)
 
 send-nothing-requires : tie.Need-send-nothing-requires
 send-nothing-requires c κs = search needs
@@ -57,14 +58,16 @@ send-at-requires c κs = search needs
 
 sent-in-requires-2 : tie.Need-sent-in-requires-2
 sent-in-requires-2 c κs =
-    let start = c .before .before .before .before .before in
+    let at-entry-at = c .before .before in
+    let at-n-of = at-entry-at .before in
+    let start = at-n-of .before .before in
     let a = start .args in
     let h = header-room _ (start .pre .is-legal) in (
       omega (
         arith,
-        slot-room _ _ _ (c .before .before .entry-at .ensures .within) (send-below _),
+        slot-room _ _ _ (at-entry-at .entry-at .ensures .within) (send-below _),
         c .send-at .ensures,
-        c .before .before .before .n-of .ensures .0,
+        at-n-of .n-of .ensures .0,
       ),
       omega arith,
     )
@@ -74,14 +77,16 @@ ready-sent-at-requires c κs = search needs
 
 sent-in-requires-3 : tie.Need-sent-in-requires-3
 sent-in-requires-3 c κs =
-    let start = c .before .before .before .before .before in
+    let at-entry-at = c .before .before in
+    let at-n-of = at-entry-at .before in
+    let start = at-n-of .before .before in
     let a = start .args in
     let h = header-room _ (start .pre .is-legal) in (
       omega (
         arith,
-        slot-room _ _ _ (c .before .before .entry-at .ensures .within) (ready-sent-below _),
+        slot-room _ _ _ (at-entry-at .entry-at .ensures .within) (ready-sent-below _),
         c .ready-sent-at .ensures,
-        c .before .before .before .n-of .ensures .0,
+        at-n-of .n-of .ensures .0,
       ),
       omega arith,
     )
@@ -91,31 +96,42 @@ send-nothing-requires-2 c κs = search needs
 
 returns-2 : tie.Need-returns-2
 returns-2 c =
-    let start = c .before .before .before .before .before .before .before in
+    let at-if1 = c .before in
+    let at-own-of = at-if1 .before in
+    let at-match = at-own-of .before in
+    let start = at-match .before .before .before .before in
     let a = start .args in
-    sent-other (now (a .book)) (a .kind) (a .sender) (a .number) (start .pre) _ (c .before .before .before .match .keys1) _
-    (c .before .before .own-of .ensures .0) (c .before .if1 .left) (c .send-nothing .ensures)
+    sent-other (now (a .book)) (a .kind) (a .sender) (a .number) (start .pre) _ (at-match .match .keys1) _ (at-own-of .own-of .ensures .0)
+    (at-if1 .if1 .left) (c .send-nothing .ensures)
 
 returns-3 : tie.Need-returns-3
 returns-3 c =
-    let start = c .before .before .before .before .before .before in
+    let at-send-at = c .before in
+    let at-match = at-send-at .before in
+    let at-entry-at = at-match .before in
+    let start = at-entry-at .before .before .before in
     let a = start .args in
-    sent-echo (now (a .book)) (a .kind) (a .sender) (a .number) (start .pre) _ _ (c .before .before .before .entry-at .ensures)
-    (c .before .before .match .keys2) _ (c .before .send-at .ensures) (c .sent-in2 .ensures)
+    sent-echo (now (a .book)) (a .kind) (a .sender) (a .number) (start .pre) _ _ (at-entry-at .entry-at .ensures) (at-match .match .keys2)
+    _ (at-send-at .send-at .ensures) (c .sent-in2 .ensures)
 
 returns-4 : tie.Need-returns-4
 returns-4 c =
-    let start = c .before .before .before .before .before .before in
+    let at-ready-sent-at = c .before in
+    let at-match = at-ready-sent-at .before in
+    let at-entry-at = at-match .before in
+    let at-n-of = at-entry-at .before in
+    let start = at-n-of .before .before in
     let a = start .args in
-    sent-ready (now (a .book)) (a .kind) (a .sender) (a .number) (start .pre) _ _ (c .before .before .before .entry-at .ensures)
-    (c .before .before .match .keys3) _ _ (c .before .before .before .before .n-of .ensures .0) (c .before .ready-sent-at .ensures)
+    sent-ready (now (a .book)) (a .kind) (a .sender) (a .number) (start .pre) _ _ (at-entry-at .entry-at .ensures)
+    (at-match .match .keys3) _ _ (at-n-of .n-of .ensures .0) (at-ready-sent-at .ready-sent-at .ensures)
     (c .sent-in3 .ensures)
 
 returns-5 : tie.Need-returns-5
 returns-5 c =
-    let start = c .before .before .before .before .before in
+    let at-match = c .before in
+    let start = at-match .before .before .before .before in
     let a = start .args in
-    let rest = c .before .match .rest in
+    let rest = at-match .match .rest in
     sent-no-kind-here (now (a .book)) (a .kind) (a .sender) (a .number) (start .pre) _ (rest .0 .0 .1) (rest .0 .1) (rest .1)
     (c .send-nothing2 .ensures)
 

@@ -25,11 +25,16 @@ lay-message-requires c κs = search needs
 
 returns : tie.Need-returns
 returns c =
-    let start = c .before .before .before .before .before .before .before in
+    let at-season-of = c .before in
+    let at-bytes-of = at-season-of .before in
+    let at-declaration-at = at-bytes-of .before in
+    let at-if1 = at-declaration-at .before in
+    let at-is-full = at-if1 .before in
+    let start = at-is-full .before .before in
     let a = start .args in
-    sent-full (now (a .book)) (a .at) (a .kind) (a .sender) (a .number) (start .pre .0) _
-    (c .before .before .before .before .before .is-full .ensures) (c .before .before .before .before .if1 .taken) _
-    (c .before .before .before .declaration-at .ensures) _ (c .before .before .bytes-of .ensures) _ (c .before .season-of .ensures) _
+    sent-full (now (a .book)) (a .at) (a .kind) (a .sender) (a .number) (start .pre .0) _ (at-is-full .is-full .ensures)
+    (at-if1 .if1 .taken) _
+    (at-declaration-at .declaration-at .ensures) _ (at-bytes-of .bytes-of .ensures) _ (at-season-of .season-of .ensures) _
     (c .lay-message .ensures)
 
 send-nothing-requires : tie.Need-send-nothing-requires
@@ -37,10 +42,12 @@ send-nothing-requires c κs = search needs
 
 returns-2 : tie.Need-returns-2
 returns-2 c =
-    let start = c .before .before .before .before in
+    let at-if1 = c .before in
+    let at-is-full = at-if1 .before in
+    let start = at-is-full .before .before in
     let a = start .args in
-    sent-empty (now (a .book)) (a .at) (a .kind) (a .sender) (a .number) (start .pre .0) _ (c .before .before .is-full .ensures)
-    (c .before .if1 .left) _ (c .send-nothing .ensures)
+    sent-empty (now (a .book)) (a .at) (a .kind) (a .sender) (a .number) (start .pre .0) _ (at-is-full .is-full .ensures)
+    (at-if1 .if1 .left) _ (c .send-nothing .ensures)
 
 pub sent-in-spec : {M : Type 1} → statement M
 sent-in-spec =

@@ -10,24 +10,31 @@ use Rattle.counter.proofs.find.Tie as tie
 
 n-of-requires : tie.Need-n-of-requires
 n-of-requires c κs =
-    let h = header-room _ (c .before .before .pre .0) in omega arith
+    let start = c .before .before in
+    let h = header-room _ (start .pre .0) in omega arith
 
 numbers-of-requires : tie.Need-numbers-of-requires
 numbers-of-requires c κs =
-    let h = header-room _ (c .before .before .before .before .before .pre .0) in omega arith
+    let start = c .before .before .before .before .before in
+    let h = header-room _ (start .pre .0) in omega arith
 
 weigh-requires : tie.Need-weigh-requires
-weigh-requires c κs = (
-  record {
-    is-legal = c .before .before .before .before .before .before .before .before .before .pre .0;
-    sender = omega
-        (arith, c .before .before .before .before .before .before .n-of .ensures .0, c .before .before .before .before .before .if1 .taken);
-    number = omega (arith, c .before .before .before .numbers-of .ensures .0, c .before .before .if2 .taken);
-  },
-  c .before .before .before .before .before .before .before .before .before .pre .1,
-  omega (arith, c .before .before .before .before .before .before .n-of .ensures .0, c .before .if3 .taken),
-  c .before .before .before .before .before .before .before .before .before .pre .2,
-)
+weigh-requires c κs =
+    let at-if3 = c .before in
+    let at-if2 = at-if3 .before in
+    let at-numbers-of = at-if2 .before in
+    let at-if1 = at-numbers-of .before .before in
+    let at-n-of = at-if1 .before in
+    let start = at-n-of .before .before .before in (
+      record {
+        is-legal = start .pre .0;
+        sender = omega (arith, at-n-of .n-of .ensures .0, at-if1 .if1 .taken);
+        number = omega (arith, at-numbers-of .numbers-of .ensures .0, at-if2 .if2 .taken);
+      },
+      start .pre .1,
+      omega (arith, at-n-of .n-of .ensures .0, at-if3 .if3 .taken),
+      start .pre .2,
+    )
 
 same-length : tie.Need-same-length
 same-length c = search needs
@@ -43,11 +50,12 @@ same-length-2 c = search needs
 
 returns-2 : tie.Need-returns-2
 returns-2 c =
-    let start = c .before .before .before .before .before .before .before .before .before in
+    let at-if3 = c .before in
+    let at-n-of = at-if3 .before .before .before .before .before in
+    let start = at-n-of .before .before .before in
     let a = start .args in
     missing-heard (now (a .book)) (a .house) (a .kind) (a .sender) (a .number) (a .d) (start .pre .2)
-    (inr (inr (omega (arith, c .before .before .before .before .before .before .n-of .ensures .0, c .before .if3 .left)))) _
-    (c .refuse .ensures)
+    (inr (inr (omega (arith, at-n-of .n-of .ensures .0, at-if3 .if3 .left)))) _ (c .refuse .ensures)
 
 refuse-requires-2 : tie.Need-refuse-requires-2
 refuse-requires-2 c κs = search needs
@@ -57,10 +65,12 @@ same-length-3 c = search needs
 
 returns-3 : tie.Need-returns-3
 returns-3 c =
-    let start = c .before .before .before .before .before .before .before .before in
+    let at-if2 = c .before in
+    let at-numbers-of = at-if2 .before in
+    let start = at-numbers-of .before .before .before .before .before .before in
     let a = start .args in
     missing-heard (now (a .book)) (a .house) (a .kind) (a .sender) (a .number) (a .d) (start .pre .2)
-    (inr (inl (omega (arith, c .before .before .numbers-of .ensures .0, c .before .if2 .left)))) _ (c .refuse2 .ensures)
+    (inr (inl (omega (arith, at-numbers-of .numbers-of .ensures .0, at-if2 .if2 .left)))) _ (c .refuse2 .ensures)
 
 refuse-requires-3 : tie.Need-refuse-requires-3
 refuse-requires-3 c κs = search needs
@@ -70,10 +80,12 @@ same-length-4 c = search needs
 
 returns-4 : tie.Need-returns-4
 returns-4 c =
-    let start = c .before .before .before .before .before in
+    let at-if1 = c .before in
+    let at-n-of = at-if1 .before in
+    let start = at-n-of .before .before .before in
     let a = start .args in
     missing-heard (now (a .book)) (a .house) (a .kind) (a .sender) (a .number) (a .d) (start .pre .2)
-    (inl (omega (arith, c .before .before .n-of .ensures .0, c .before .if1 .left))) _ (c .refuse3 .ensures)
+    (inl (omega (arith, at-n-of .n-of .ensures .0, at-if1 .if1 .left))) _ (c .refuse3 .ensures)
 
 pub find-spec : {M : Type 1} → statement M
 find-spec =

@@ -2,6 +2,7 @@
 use Rattle.calls.proofs.Published.{number-refused, lot-refused}
 use Rattle.calls.proofs.Declarations.{plausible-ok}
 use Rattle.calls.proofs.Checking.{book-sheet}
+use Rattle.meaning.specs.Book.{sheetOf}
 use Rattle.meaning.proofs.Room.{header-room}
 use denote.Ref.{now}
 use native.Mathlib.Omega.{arith}
@@ -9,15 +10,16 @@ use mathlib.Core.Path.{sym, _∙_}
 use borrow.Author.Needs.{needs}
 use Rattle.counter.proofs.publish_legal.Statement.{statement}
 use Rattle.counter.proofs.publish_legal.Tie as tie
-use Rattle.meaning.specs.Book.{sheetOf}
 
 numbers-of-requires : tie.Need-numbers-of-requires
 numbers-of-requires c κs =
-    let h = header-room _ (c .before .before .pre .0) in omega arith
+    let start = c .before .before in
+    let h = header-room _ (start .pre .0) in omega arith
 
 sheet-of-requires : tie.Need-sheet-of-requires
 sheet-of-requires c κs =
-    let h = header-room _ (c .before .before .before .before .before .pre .0) in omega arith
+    let start = c .before .before .before .before .before in
+    let h = header-room _ (start .pre .0) in omega arith
 
 slice-aggregate-declaration-at : tie.Need-slice-aggregate-declaration-at
 slice-aggregate-declaration-at c = search needs
@@ -27,24 +29,27 @@ declaration-at-requires c κs = search needs
 
 is-plausible-requires : tie.Need-is-plausible-requires
 is-plausible-requires c κs =
-    book-sheet (now (c .before .before .before .before .before .before .before .before .args .book)) _
-    (c .before .before .before .before .before .before .before .before .pre .0) (c .before .before .sheet-of .ensures)
+    let at-sheet-of = c .before .before in
+    let start = at-sheet-of .before .before .before .before .before .before in
+    book-sheet (now (start .args .book)) _ (start .pre .0) (at-sheet-of .sheet-of .ensures)
 
 enter-publication-requires : tie.Need-enter-publication-requires
 enter-publication-requires c κs =
-    let start = c .before .before .before .before .before .before .before .before .before .before .before in
+    let at-if2 = c .before in
+    let at-is-plausible = at-if2 .before in
+    let at-declaration-at = at-is-plausible .before in
+    let at-sheet-of = at-declaration-at .before .before in
+    let at-if1 = at-sheet-of .before .before in
+    let at-numbers-of = at-if1 .before in
+    let start = at-numbers-of .before .before .before in
     let a = start .args in (
       start .pre .0,
-      omega (
-        arith,
-        c .before .before .before .before .before .before .before .before .numbers-of .ensures .0,
-        c .before .before .before .before .before .before .before .if1 .taken,
-      ),
+      omega (arith, at-numbers-of .numbers-of .ensures .0, at-if1 .if1 .taken),
       record {
         decl = start .pre .1;
         ok = sym (plausible-ok _ (sheetOf (now (a .book))) (a .t3) _ _ (start .pre .1)
-            (c .before .before .before .before .before .sheet-of .ensures) (c .before .before .before .declaration-at .ensures)
-            (c .before .before .is-plausible .ensures)) ∙ c .before .if2 .taken;
+            (at-sheet-of .sheet-of .ensures) (at-declaration-at .declaration-at .ensures) (at-is-plausible .is-plausible .ensures)) ∙
+            at-if2 .if2 .taken;
       },
     )
 
@@ -62,17 +67,18 @@ same-length-2 c = search needs
 
 returns-2 : tie.Need-returns-2
 returns-2 c =
-    let start = c .before .before .before .before .before .before .before .before .before .before .before in
+    let at-if2 = c .before in
+    let at-is-plausible = at-if2 .before in
+    let at-declaration-at = at-is-plausible .before in
+    let at-sheet-of = at-declaration-at .before .before in
+    let at-if1 = at-sheet-of .before .before in
+    let at-numbers-of = at-if1 .before in
+    let start = at-numbers-of .before .before .before in
     let a = start .args in
     lot-refused (now (a .book)) (start .pre .0) (a .number) (a .t3)
-    (omega (
-      arith,
-      c .before .before .before .before .before .before .before .before .numbers-of .ensures .0,
-      c .before .before .before .before .before .before .before .if1 .taken,
-    ))
-    (sym (plausible-ok _ (sheetOf (now (a .book))) (a .t3) _ _ (start .pre .1)
-    (c .before .before .before .before .before .sheet-of .ensures) (c .before .before .before .declaration-at .ensures)
-    (c .before .before .is-plausible .ensures)) ∙ c .before .if2 .left) _ (c .refuse .ensures)
+    (omega (arith, at-numbers-of .numbers-of .ensures .0, at-if1 .if1 .taken))
+    (sym (plausible-ok _ (sheetOf (now (a .book))) (a .t3) _ _ (start .pre .1) (at-sheet-of .sheet-of .ensures)
+    (at-declaration-at .declaration-at .ensures) (at-is-plausible .is-plausible .ensures)) ∙ at-if2 .if2 .left) _ (c .refuse .ensures)
 
 refuse-requires-2 : tie.Need-refuse-requires-2
 refuse-requires-2 c κs = search needs
@@ -82,10 +88,12 @@ same-length-3 c = search needs
 
 returns-3 : tie.Need-returns-3
 returns-3 c =
-    let start = c .before .before .before .before .before in
+    let at-if1 = c .before in
+    let at-numbers-of = at-if1 .before in
+    let start = at-numbers-of .before .before .before in
     let a = start .args in
     number-refused (now (a .book)) (start .pre .0) (a .number) (a .t3)
-    (omega (arith, c .before .before .numbers-of .ensures .0, c .before .if1 .left)) _ (c .refuse2 .ensures)
+    (omega (arith, at-numbers-of .numbers-of .ensures .0, at-if1 .if1 .left)) _ (c .refuse2 .ensures)
 
 pub publish-legal-spec : {M : Type 1} → statement M
 publish-legal-spec =

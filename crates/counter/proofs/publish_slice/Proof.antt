@@ -18,29 +18,36 @@ bytes-of-requires : tie.Need-bytes-of-requires
 bytes-of-requires c κs = search needs
 
 publish-legal-requires : tie.Need-publish-legal-requires
-publish-legal-requires c κs = (
-  sym (c .before .before .before .before .is-legal .ensures) ∙ c .before .before .before .if1 .taken,
-  decl-bytes (now (c .before .before .before .before .before .before .before .before .args .book))
-      (c .before .before .before .before .before .before .before .before .args .number)
-      (now (c .before .before .before .before .before .before .before .before .args .declaration)) _
-      (c .before .before .before .before .before .before .before .before .pre)
-      (λ i. omega (arith, c .before .before .before .before .before .before .shared-slice-known .given i))
-      (c .before .bytes-of .ensures ∙ ap bytesOf (c .before .before .declaration-at .ensures)),
-)
+publish-legal-requires c κs =
+    let at-bytes-of = c .before in
+    let at-declaration-at = at-bytes-of .before in
+    let at-if1 = at-declaration-at .before in
+    let at-is-legal = at-if1 .before in
+    let lent = at-is-legal .before .before in
+    let start = lent .before .before in (
+      sym (at-is-legal .is-legal .ensures) ∙ at-if1 .if1 .taken,
+      decl-bytes (now (start .args .book)) (start .args .number) (now (start .args .declaration)) _ (start .pre)
+          (λ i. omega (arith, lent .shared-slice-known .given i))
+          (at-bytes-of .bytes-of .ensures ∙ ap bytesOf (at-declaration-at .declaration-at .ensures)),
+    )
 
 same-length : tie.Need-same-length
 same-length c = search needs
 
 returns : tie.Need-returns
 returns c =
-    let a = c .before .before .before .before .before .before .before .before .before .before .before .args in
-    published-bytes (now (a .book)) (a .number) (now (a .declaration)) _
-    (c .before .before .before .before .before .before .before .before .before .before .before .pre)
-    (λ i. omega (arith, c .before .before .before .before .before .before .before .before .before .shared-slice-known .given i))
-    (c .before .before .before .before .bytes-of .ensures ∙ ap bytesOf
-    (c .before .before .before .before .before .declaration-at .ensures))
-    (sym (c .before .before .before .before .before .before .before .is-legal .ensures) ∙
-    c .before .before .before .before .before .before .if1 .taken) _ (c .before .before .publish-legal .ensures)
+    let at-publish-legal = c .before .before in
+    let at-bytes-of = at-publish-legal .before .before in
+    let at-declaration-at = at-bytes-of .before in
+    let at-if1 = at-declaration-at .before in
+    let at-is-legal = at-if1 .before in
+    let lent = at-is-legal .before .before in
+    let start = lent .before .before in
+    let a = start .args in
+    published-bytes (now (a .book)) (a .number) (now (a .declaration)) _ (start .pre)
+    (λ i. omega (arith, lent .shared-slice-known .given i))
+    (at-bytes-of .bytes-of .ensures ∙ ap bytesOf (at-declaration-at .declaration-at .ensures))
+    (sym (at-is-legal .is-legal .ensures) ∙ at-if1 .if1 .taken) _ (at-publish-legal .publish-legal .ensures)
 
 refuse-requires : tie.Need-refuse-requires
 refuse-requires c κs = search needs
@@ -50,9 +57,12 @@ same-length-2 c = search needs
 
 returns-2 : tie.Need-returns-2
 returns-2 c =
-    let a = c .before .before .before .before .before .before .args in
-    published-no-book (now (a .book)) (a .number) (now (a .declaration))
-    (sym (c .before .before .is-legal .ensures) ∙ c .before .if1 .left) _ (c .refuse .ensures)
+    let at-if1 = c .before in
+    let at-is-legal = at-if1 .before in
+    let start = at-is-legal .before .before .before .before in
+    let a = start .args in
+    published-no-book (now (a .book)) (a .number) (now (a .declaration)) (sym (at-is-legal .is-legal .ensures) ∙ at-if1 .if1 .left) _
+    (c .refuse .ensures)
 
 pub publish-slice-spec : {M : Type 1} → statement M
 publish-slice-spec =

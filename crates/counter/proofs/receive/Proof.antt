@@ -16,21 +16,29 @@ parts-of-requires c κs = search needs
 
 hear-requires : tie.Need-hear-requires
 hear-requires c κs =
-    let good = parts-good _ (λ i. omega (arith, c .before .before .before .before .before .before .before .shared-slice-known .given i)) _
-    (c .before .before .before .parts-of .ensures) (c .before .if2 .taken) in
-    (sym (c .before .before .before .before .before .is-legal .ensures) ∙ c .before .before .before .before .if1 .taken, good .0, good .1)
+    let at-if2 = c .before in
+    let at-parts-of = at-if2 .before .before in
+    let at-if1 = at-parts-of .before in
+    let at-is-legal = at-if1 .before in
+    let lent = at-is-legal .before .before in
+    let good = parts-good _ (λ i. omega (arith, lent .shared-slice-known .given i)) _ (at-parts-of .parts-of .ensures)
+    (at-if2 .if2 .taken) in
+    (sym (at-is-legal .is-legal .ensures) ∙ at-if1 .if1 .taken, good .0, good .1)
 
 same-length : tie.Need-same-length
 same-length c = search needs
 
 returns : tie.Need-returns
 returns c =
-    let a = c .before .before .before .before .before .before .before .before .before .before .before .before .args in
-    parts-heard (now (a .book)) (a .house) (now (a .message)) (sym
-    (c .before .before .before .before .before .before .before .before .is-legal .ensures) ∙
-    c .before .before .before .before .before .before .before .if1 .taken) _
-    (c .before .before .before .before .before .before .parts-of .ensures) (c .before .before .before .before .if2 .taken) _
-    (c .before .before .hear .ensures)
+    let at-hear = c .before .before in
+    let at-if2 = at-hear .before .before in
+    let at-parts-of = at-if2 .before .before in
+    let at-if1 = at-parts-of .before in
+    let at-is-legal = at-if1 .before in
+    let start = at-is-legal .before .before .before .before in
+    let a = start .args in
+    parts-heard (now (a .book)) (a .house) (now (a .message)) (sym (at-is-legal .is-legal .ensures) ∙ at-if1 .if1 .taken) _
+    (at-parts-of .parts-of .ensures) (at-if2 .if2 .taken) _ (at-hear .hear .ensures)
 
 refuse-requires : tie.Need-refuse-requires
 refuse-requires c κs = search needs
@@ -40,10 +48,14 @@ same-length-2 c = search needs
 
 returns-2 : tie.Need-returns-2
 returns-2 c =
-    let a = c .before .before .before .before .before .before .before .before .before .args in
-    malformed-refused (now (a .book)) (a .house) (now (a .message))
-    (sym (c .before .before .before .before .before .is-legal .ensures) ∙ c .before .before .before .before .if1 .taken) _
-    (c .before .before .before .parts-of .ensures) (c .before .if2 .left) _ (c .refuse .ensures)
+    let at-if2 = c .before in
+    let at-parts-of = at-if2 .before .before in
+    let at-if1 = at-parts-of .before in
+    let at-is-legal = at-if1 .before in
+    let start = at-is-legal .before .before .before .before in
+    let a = start .args in
+    malformed-refused (now (a .book)) (a .house) (now (a .message)) (sym (at-is-legal .is-legal .ensures) ∙ at-if1 .if1 .taken) _
+    (at-parts-of .parts-of .ensures) (at-if2 .if2 .left) _ (c .refuse .ensures)
 
 refuse-requires-2 : tie.Need-refuse-requires-2
 refuse-requires-2 c κs = search needs
@@ -53,8 +65,11 @@ same-length-3 c = search needs
 
 returns-3 : tie.Need-returns-3
 returns-3 c =
-    let a = c .before .before .before .before .before .before .args in
-    received-no-book (now (a .book)) (a .house) (now (a .message)) (sym (c .before .before .is-legal .ensures) ∙ c .before .if1 .left) _
+    let at-if1 = c .before in
+    let at-is-legal = at-if1 .before in
+    let start = at-is-legal .before .before .before .before in
+    let a = start .args in
+    received-no-book (now (a .book)) (a .house) (now (a .message)) (sym (at-is-legal .is-legal .ensures) ∙ at-if1 .if1 .left) _
     (c .refuse2 .ensures)
 
 pub receive-spec : {M : Type 1} → statement M

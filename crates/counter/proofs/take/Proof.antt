@@ -13,11 +13,13 @@ same-length c = search needs
 
 returns : tie.Need-returns
 returns c =
-    let start = c .before .before .before .before .before .before .before in
+    let at-hear-send = c .before .before in
+    let at-if1 = at-hear-send .before .before in
+    let at-match = at-if1 .before in
+    let start = at-match .before .before in
     let a = start .args in
-    send-heard (now (a .book)) (a .house) (a .kind) (a .sender) (a .number) (a .d)
-    (c .before .before .before .before .before .match .keys1) (c .before .before .before .before .if1 .taken) _
-    (c .before .before .hear-send .ensures)
+    send-heard (now (a .book)) (a .house) (a .kind) (a .sender) (a .number) (a .d) (at-match .match .keys1) (at-if1 .if1 .taken) _
+    (at-hear-send .hear-send .ensures)
 
 refuse-requires : tie.Need-refuse-requires
 refuse-requires c κs = search needs
@@ -33,37 +35,44 @@ refuse-requires-2 c κs = search needs
 
 returns-2 : tie.Need-returns-2
 returns-2 c =
-    let start = c .before .before .before .before in
+    let at-if1 = c .before in
+    let at-match = at-if1 .before in
+    let start = at-match .before .before in
     let a = start .args in
     another-heard (now (a .book)) (a .house) (a .kind) (a .sender) (a .number) (a .d) (start .pre .0) (start .pre .3) (start .pre .2 .ok)
-    (c .before .before .match .keys1)
-    (c .before .if1 .left) _ (c .refuse .ensures)
+    (at-match .match .keys1)
+    (at-if1 .if1 .left) _ (c .refuse .ensures)
 
 same-length-2 : tie.Need-same-length-2
 same-length-2 c = search needs
 
 returns-3 : tie.Need-returns-3
 returns-3 c =
-    let start = c .before .before .before .before .before .before in
+    let at-hear-echo = c .before .before in
+    let at-match = at-hear-echo .before .before in
+    let start = at-match .before .before in
     let a = start .args in
-    echo-heard (now (a .book)) (a .house) (a .kind) (a .sender) (a .number) (a .d) (c .before .before .before .before .match .keys2) _
-    (c .before .before .hear-echo .ensures)
+    echo-heard (now (a .book)) (a .house) (a .kind) (a .sender) (a .number) (a .d) (at-match .match .keys2) _
+    (at-hear-echo .hear-echo .ensures)
 
 same-length-3 : tie.Need-same-length-3
 same-length-3 c = search needs
 
 returns-4 : tie.Need-returns-4
 returns-4 c =
-    let start = c .before .before .before .before .before .before in
+    let at-hear-ready = c .before .before in
+    let at-match = at-hear-ready .before .before in
+    let start = at-match .before .before in
     let a = start .args in
-    ready-heard (now (a .book)) (a .house) (a .kind) (a .sender) (a .number) (a .d) (c .before .before .before .before .match .keys3) _
-    (c .before .before .hear-ready .ensures)
+    ready-heard (now (a .book)) (a .house) (a .kind) (a .sender) (a .number) (a .d) (at-match .match .keys3) _
+    (at-hear-ready .hear-ready .ensures)
 
 returns-5 : tie.Need-returns-5
 returns-5 c =
-    let rest = c .before .match .rest in
-    absurd (no-other-kind (c .before .before .before .args .kind) (c .before .before .before .pre .4) (rest .0 .0 .1) (rest .0 .1)
-    (rest .1))
+    let at-match = c .before in
+    let start = at-match .before .before in
+    let rest = at-match .match .rest in
+    absurd (no-other-kind (start .args .kind) (start .pre .4) (rest .0 .0 .1) (rest .0 .1) (rest .1))
 
 pub take-spec : {M : Type 1} → statement M
 take-spec =

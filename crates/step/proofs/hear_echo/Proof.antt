@@ -3,8 +3,8 @@ use Rattle.step.proofs.Entered.{slot-checked, heard-within, echo-entere
 use Rattle.calls.proofs.Checking.{recorded-refused, message-taken}
 use Rattle.entry.specs.Entry.{ECHO}
 use Rattle.meaning.specs.Book.{nOf}
-use Rattle.layout.proofs.Begins.{slot-room}
 use Rattle.meaning.proofs.Places.{echo-below, ready-sent-below}
+use Rattle.layout.proofs.Begins.{slot-room}
 use denote.Ref.{now}
 use native.Mathlib.Omega.{arith}
 use mathlib.Core.Path.{refl, sym, _∙_}
@@ -20,13 +20,15 @@ echo-at-requires c κs = search needs
 
 record-answer-requires : tie.Need-record-answer-requires
 record-answer-requires c κs =
-    let start = c .before .before .before .before .before in
-    let n = c .before .before .n-of .ensures .0 in
+    let at-echo-at = c .before in
+    let at-n-of = at-echo-at .before in
+    let start = at-n-of .before .before .before in
+    let n = at-n-of .n-of .ensures .0 in
     omega (
       arith,
       slot-room _ _ _ (start .pre .1 .within)
           (echo-below (nOf (now (start .args .book))) (start .args .house) (start .pre .3)),
-      c .before .echo-at .ensures,
+      at-echo-at .echo-at .ensures,
       n,
     )
 
@@ -35,37 +37,38 @@ season-of-requires c κs = search needs
 
 put-slot-requires : tie.Need-put-slot-requires
 put-slot-requires c κs =
-    let start = c .before .before .before .before .before .before .before .before .before .before in
-    let n = c .before .before .before .before .before .before .before .n-of .ensures .0 in
+    let at-echo-at = c .before .before .before .before .before .before in
+    let at-n-of = at-echo-at .before in
+    let start = at-n-of .before .before .before in
+    let n = at-n-of .n-of .ensures .0 in
     omega (
       arith,
       slot-room _ _ _ (start .pre .1 .within)
           (echo-below (nOf (now (start .args .book))) (start .args .house) (start .pre .3)),
-      c .before .before .before .before .before .before .echo-at .ensures,
+      at-echo-at .echo-at .ensures,
       n,
     )
 
 echo-mark-requires : tie.Need-echo-mark-requires
 echo-mark-requires c κs =
-    let start = c .before .before .before .before .before .before .before .before .before .before .before .before .before .before in
+    let at-put-slot = c .before .before .before in
+    let at-echo-at = at-put-slot .before .before .before .before .before .before .before in
+    let known = at-echo-at .before .before .before in
+    let start = known .before in
     let a = start .args in
     let has = start .pre .0 in
-    heard-within (now (a .book)) (has .is-legal) (λ i. omega (
-      arith,
-      c .before .before .before .before .before .before .before .before .before .before .before .before .before .slice-known .given
-          i,
-    )) (a .sender) (a .number) (a .house) has
-    (start .pre .3) (a .d) (start .pre .2 .decl) ECHO (a .base) _ _ (start .pre .1)
-    (c .before .before .before .before .before .before .before .before .before .before .echo-at .ensures)
-    (c .before .before .before .put-slot .ensures)
+    heard-within (now (a .book)) (has .is-legal) (λ i. omega (arith, known .slice-known .given i)) (a .sender) (a .number) (a .house) has
+    (start .pre .3) (a .d) (start .pre .2 .decl) ECHO (a .base) _ _ (start .pre .1) (at-echo-at .echo-at .ensures)
+    (at-put-slot .put-slot .ensures)
 
 ready-sent-at-requires : tie.Need-ready-sent-at-requires
 ready-sent-at-requires c κs = search needs
 
 mark-requires : tie.Need-mark-requires
 mark-requires c κs =
-    let start = c .before .before .before .before .before .before .before .before .before .before .before .before .before .before .before .before .before in
-    let n = c .before .before .before .before .before .before .before .before .before .before .before .before .before .before .n-of .ensures .0 in
+    let at-n-of = c .before .before .before .before .before .before .before .before .before .before .before .before .before .before in
+    let start = at-n-of .before .before .before in
+    let n = at-n-of .n-of .ensures .0 in
     omega (arith, slot-room _ _ _ (start .pre .1 .within) (ready-sent-below (nOf (now (start .args .book)))), c .ready-sent-at .ensures, n)
 
 accept-requires : tie.Need-accept-requires
@@ -76,20 +79,27 @@ same-length c = search needs
 
 returns : tie.Need-returns
 returns c =
-    let start = c .before .before .before .before .before .before .before .before .before .before .before .before .before .before .before .before .before .before .before .before .before in
+    let at-mark = c .before .before .before in
+    let at-ready-sent-at = at-mark .before in
+    let at-echo-mark = at-ready-sent-at .before .before in
+    let at-put-slot = at-echo-mark .before .before .before .before in
+    let at-season-of = at-put-slot .before .before in
+    let at-if1 = at-season-of .before .before in
+    let at-record-answer = at-if1 .before in
+    let at-echo-at = at-record-answer .before .before in
+    let at-n-of = at-echo-at .before in
+    let known = at-n-of .before .before in
+    let start = known .before in
     let a = start .args in
     let b = now (a .book) in
     let has = start .pre .0 in
     let z = sym (slot-checked b (a .sender) (a .number) (a .house) ECHO (a .d) has (start .pre .3) (a .base) _ _ (start .pre .1 .is)
-    (c .before .before .before .before .before .before .before .before .before .before .before .before .before .before .before .before .before .echo-at .ensures) (c .before .before .before .before .before .before .before .before .before .before .before .before .before .before .before .record-answer .ensures)) ∙ c .before .before .before .before .before .before .before .before .before .before .before .before .before .before .if1 .taken in
-    echo-entered b (has .is-legal)
-    (λ i. omega
-    (arith, c .before .before .before .before .before .before .before .before .before .before .before .before .before .before .before .before .before .before .before .before .slice-known .given i)) (a .sender) (a .number) (a .house) has (start .pre .3)
-    (a .d) (start .pre .2 .decl) (a .base) _ _ _ _ _ _ _ (start .pre .1)
-    (c .before .before .before .before .before .before .before .before .before .before .before .before .before .before .before .before .before .before .n-of .ensures .0) (c .before .before .before .before .ready-sent-at .ensures)
-    (c .before .before .before .before .before .before .before .before .before .before .before .before .season-of .ensures)
-    (c .before .before .before .before .before .before .before .before .before .before .before .before .before .before .before .before .before .echo-at .ensures) (c .before .before .before .before .before .before .before .before .before .before .put-slot .ensures) _ (c .before .before .before .before .before .before .echo-mark .ensures)
-    (c .before .before .before .mark .ensures) (c .accept .ensures)
+    (at-echo-at .echo-at .ensures) (at-record-answer .record-answer .ensures)) ∙ at-if1 .if1 .taken in
+    echo-entered b (has .is-legal) (λ i. omega (arith, known .slice-known .given i)) (a .sender) (a .number) (a .house) has (start .pre .3)
+    (a .d) (start .pre .2 .decl) (a .base) _ _ _ _ _ _ _ (start .pre .1) (at-n-of .n-of .ensures .0)
+    (at-ready-sent-at .ready-sent-at .ensures)
+    (at-season-of .season-of .ensures) (at-echo-at .echo-at .ensures) (at-put-slot .put-slot .ensures) _ (at-echo-mark .echo-mark .ensures)
+    (at-mark .mark .ensures) (c .accept .ensures)
     ∙ message-taken b (a .sender) (a .number) (a .house) ECHO (a .d) has (start .pre .3) (start .pre .2 .ok) refl z
 
 refuse-requires : tie.Need-refuse-requires
@@ -100,13 +110,15 @@ same-length-2 c = search needs
 
 returns-2 : tie.Need-returns-2
 returns-2 c =
-    let start = c .before .before .before .before .before .before .before .before in
+    let at-if1 = c .before in
+    let at-record-answer = at-if1 .before in
+    let at-echo-at = at-record-answer .before .before in
+    let start = at-echo-at .before .before .before .before in
     let a = start .args in
     let b = now (a .book) in
     recorded-refused b (a .sender) (a .number) (a .house) ECHO (a .d) (start .pre .0) (start .pre .3) (start .pre .2 .ok) refl _
     (slot-checked b (a .sender) (a .number) (a .house) ECHO (a .d) (start .pre .0) (start .pre .3) (a .base) _ _ (start .pre .1 .is)
-    (c .before .before .before .before .echo-at .ensures) (c .before .before .record-answer .ensures)) (c .before .if1 .left) _
-    (c .refuse .ensures)
+    (at-echo-at .echo-at .ensures) (at-record-answer .record-answer .ensures)) (at-if1 .if1 .left) _ (c .refuse .ensures)
 
 pub hear-echo-spec : {M : Type 1} → statement M
 hear-echo-spec =

@@ -1,11 +1,12 @@
 -- `step::hear_ready` meets its contract.
-use Rattle.meaning.specs.Layout.{readySlot, placeFrom}
+use Rattle.meaning.specs.Layout.{readySlot}
+use Rattle.meaning.specs.Layout.{placeFrom}
 use Rattle.step.proofs.Entered.{slot-checked, heard-within, ready-entered}
 use Rattle.calls.proofs.Checking.{recorded-refused, message-taken}
 use Rattle.entry.specs.Entry.{READY}
 use Rattle.meaning.specs.Book.{nOf}
-use Rattle.layout.proofs.Begins.{slot-room}
 use Rattle.meaning.proofs.Places.{ready-below, ready-sent-below, delivered-below}
+use Rattle.layout.proofs.Begins.{slot-room}
 use denote.Ref.{now}
 use native.Mathlib.Omega.{arith}
 use mathlib.Core.Path.{refl, sym, ap, _∙_}
@@ -21,13 +22,15 @@ ready-at-requires c κs = search needs
 
 record-answer-requires : tie.Need-record-answer-requires
 record-answer-requires c κs =
-    let start = c .before .before .before .before .before in
-    let n = c .before .before .n-of .ensures .0 in
+    let at-ready-at = c .before in
+    let at-n-of = at-ready-at .before in
+    let start = at-n-of .before .before .before in
+    let n = at-n-of .n-of .ensures .0 in
     omega (
       arith,
       slot-room _ _ _ (start .pre .1 .within)
           (ready-below (nOf (now (start .args .book))) (start .args .house) (start .pre .3)),
-      c .before .ready-at .ensures,
+      at-ready-at .ready-at .ensures,
       n,
     )
 
@@ -36,39 +39,40 @@ season-of-requires c κs = search needs
 
 put-slot-requires : tie.Need-put-slot-requires
 put-slot-requires c κs =
-    let start = c .before .before .before .before .before .before .before .before .before .before in
-    let n = c .before .before .before .before .before .before .before .n-of .ensures .0 in
+    let at-ready-at = c .before .before .before .before .before .before in
+    let at-n-of = at-ready-at .before in
+    let start = at-n-of .before .before .before in
+    let n = at-n-of .n-of .ensures .0 in
     omega (
       arith,
       slot-room _ _ _ (start .pre .1 .within)
           (ready-below (nOf (now (start .args .book))) (start .args .house) (start .pre .3)),
-      c .before .before .before .before .before .before .ready-at .ensures,
+      at-ready-at .ready-at .ensures,
       n,
     )
 
 ready-marks-requires : tie.Need-ready-marks-requires
 ready-marks-requires c κs =
-    let start = c .before .before .before .before .before .before .before .before .before .before .before .before .before .before in
+    let at-put-slot = c .before .before .before in
+    let at-ready-at = at-put-slot .before .before .before .before .before .before .before in
+    let at-n-of = at-ready-at .before in
+    let known = at-n-of .before .before in
+    let start = known .before in
     let a = start .args in
     let has = start .pre .0 in
-    heard-within (now (a .book)) (has .is-legal) (λ i. omega (
-      arith,
-      c .before .before .before .before .before .before .before .before .before .before .before .before .before .slice-known .given
-          i,
-    )) (a .sender) (a .number) (a .house) has
+    heard-within (now (a .book)) (has .is-legal) (λ i. omega (arith, known .slice-known .given i)) (a .sender) (a .number) (a .house) has
     (start .pre .3) (a .d) (start .pre .2 .decl) READY (a .base) _ _ (start .pre .1)
-    (c .before .before .before .before .before .before .before .before .before .before .ready-at .ensures ∙ ap
-    (λ x. placeFrom (a .base) (readySlot x (a .house)))
-    (c .before .before .before .before .before .before .before .before .before .before .before .n-of .ensures .0))
-    (c .before .before .before .put-slot .ensures)
+    (at-ready-at .ready-at .ensures ∙ ap (λ x. placeFrom (a .base) (readySlot x (a .house))) (at-n-of .n-of .ensures .0))
+    (at-put-slot .put-slot .ensures)
 
 ready-sent-at-requires : tie.Need-ready-sent-at-requires
 ready-sent-at-requires c κs = search needs
 
 mark-requires : tie.Need-mark-requires
 mark-requires c κs =
-    let start = c .before .before .before .before .before .before .before .before .before .before .before .before .before .before .before .before .before in
-    let n = c .before .before .before .before .before .before .before .before .before .before .before .before .before .before .n-of .ensures .0 in
+    let at-n-of = c .before .before .before .before .before .before .before .before .before .before .before .before .before .before in
+    let start = at-n-of .before .before .before in
+    let n = at-n-of .n-of .ensures .0 in
     omega (arith, slot-room _ _ _ (start .pre .1 .within) (ready-sent-below (nOf (now (start .args .book)))), c .ready-sent-at .ensures, n)
 
 delivered-at-requires : tie.Need-delivered-at-requires
@@ -76,34 +80,48 @@ delivered-at-requires c κs = search needs
 
 mark-requires-2 : tie.Need-mark-requires-2
 mark-requires-2 c κs =
-    let start = c .before .before .before .before .before .before .before .before .before .before .before .before .before .before .before .before .before .before .before .before .before .before in
-    let n = c .before .before .before .before .before .before .before .before .before .before .before .before .before .before .before .before .before .before .before .n-of .ensures .0 in
+    let halfway = c .before .before .before .before .before .before .before .before .before in
+    let at-n-of = halfway .before .before .before .before .before .before .before .before .before .before in
+    let start = at-n-of .before .before .before in
+    let n = at-n-of .n-of .ensures .0 in
     omega (arith, slot-room _ _ _ (start .pre .1 .within) (delivered-below (nOf (now (start .args .book)))), c .delivered-at .ensures, n)
 
 accept-requires : tie.Need-accept-requires
 accept-requires c κs =
-    c .before .before .before .before .before .before .before .before .before .before .before .before .before .before .before .before .before .before .before .before .before .before .before .before .before .pre .2 .decl
+    let halfway = c .before .before .before .before .before .before .before .before .before .before .before .before in
+    let start = halfway .before .before .before .before .before .before .before .before .before .before .before .before .before in
+    start .pre .2 .decl
 
 same-length : tie.Need-same-length
 same-length c = search needs
 
 returns : tie.Need-returns
 returns c =
-    let start = c .before .before .before .before .before .before .before .before .before .before .before .before .before .before .before .before .before .before .before .before .before .before .before .before .before .before in
+    let at-mark2 = c .before .before .before in
+    let at-delivered-at = at-mark2 .before in
+    let at-mark = at-delivered-at .before .before .before .before in
+    let at-ready-sent-at = at-mark .before in
+    let at-ready-marks = at-ready-sent-at .before .before in
+    let at-put-slot = at-ready-marks .before .before .before .before in
+    let at-season-of = at-put-slot .before .before in
+    let at-if1 = at-season-of .before .before in
+    let at-record-answer = at-if1 .before in
+    let at-ready-at = at-record-answer .before .before in
+    let at-n-of = at-ready-at .before in
+    let known = at-n-of .before .before in
+    let start = known .before in
     let a = start .args in
     let b = now (a .book) in
     let has = start .pre .0 in
     let z = sym (slot-checked b (a .sender) (a .number) (a .house) READY (a .d) has (start .pre .3) (a .base) _ _ (start .pre .1 .is)
-    (c .before .before .before .before .before .before .before .before .before .before .before .before .before .before .before .before .before .before .before .before .before .before .ready-at .ensures ∙ ap (λ x. placeFrom (a .base) (readySlot x (a .house))) (c .before .before .before .before .before .before .before .before .before .before .before .before .before .before .before .before .before .before .before .before .before .before .before .n-of .ensures .0)) (c .before .before .before .before .before .before .before .before .before .before .before .before .before .before .before .before .before .before .before .before .record-answer .ensures)) ∙ c .before .before .before .before .before .before .before .before .before .before .before .before .before .before .before .before .before .before .before .if1 .taken in
-    ready-entered b (has .is-legal)
-    (λ i. omega
-    (arith, c .before .before .before .before .before .before .before .before .before .before .before .before .before .before .before .before .before .before .before .before .before .before .before .before .before .slice-known .given i)) (a .sender) (a .number) (a .house) has (start .pre .3)
-    (a .d) (start .pre .2 .decl) (a .base) _ _ _ _ _ _ _ (start .pre .1)
-    (c .before .before .before .before .before .before .before .before .before .before .before .before .before .before .before .before .before .before .before .before .before .before .before .n-of .ensures .0) (c .before .before .before .before .before .before .before .before .before .ready-sent-at .ensures)
-    (c .before .before .before .before .before .before .before .before .before .before .before .before .before .before .before .before .before .season-of .ensures) _ (c .before .before .before .before .delivered-at .ensures) (c .before .before .before .before .before .before .before .before .before .before .before .before .before .before .before .before .before .before .before .before .before .before .ready-at .ensures) (c .before .before .before .before .before .before .before .before .before .before .before .before .before .before .before .put-slot .ensures) _
-    (c .before .before .before .before .before .before .before .before .before .before .before .ready-marks .ensures)
-    (c .before .before .before .before .before .before .before .before .mark .ensures) _ (c .before .before .before .mark2 .ensures)
-    (c .accept .ensures)
+    (at-ready-at .ready-at .ensures ∙ ap (λ x. placeFrom (a .base) (readySlot x (a .house))) (at-n-of .n-of .ensures .0))
+    (at-record-answer .record-answer .ensures)) ∙ at-if1 .if1 .taken in
+    ready-entered b (has .is-legal) (λ i. omega (arith, known .slice-known .given i)) (a .sender) (a .number) (a .house) has (start .pre .3)
+    (a .d) (start .pre .2 .decl) (a .base) _ _ _ _ _ _ _ (start .pre .1) (at-n-of .n-of .ensures .0)
+    (at-ready-sent-at .ready-sent-at .ensures)
+    (at-season-of .season-of .ensures) _ (at-delivered-at .delivered-at .ensures) (at-ready-at .ready-at .ensures)
+    (at-put-slot .put-slot .ensures) _
+    (at-ready-marks .ready-marks .ensures) (at-mark .mark .ensures) _ (at-mark2 .mark2 .ensures) (c .accept .ensures)
     ∙ message-taken b (a .sender) (a .number) (a .house) READY (a .d) has (start .pre .3) (start .pre .2 .ok) refl z
 
 refuse-requires : tie.Need-refuse-requires
@@ -114,14 +132,17 @@ same-length-2 c = search needs
 
 returns-2 : tie.Need-returns-2
 returns-2 c =
-    let start = c .before .before .before .before .before .before .before .before in
+    let at-if1 = c .before in
+    let at-record-answer = at-if1 .before in
+    let at-ready-at = at-record-answer .before .before in
+    let at-n-of = at-ready-at .before in
+    let start = at-n-of .before .before .before in
     let a = start .args in
     let b = now (a .book) in
     recorded-refused b (a .sender) (a .number) (a .house) READY (a .d) (start .pre .0) (start .pre .3) (start .pre .2 .ok) refl _
     (slot-checked b (a .sender) (a .number) (a .house) READY (a .d) (start .pre .0) (start .pre .3) (a .base) _ _ (start .pre .1 .is)
-    (c .before .before .before .before .ready-at .ensures ∙ ap (λ x. placeFrom (a .base) (readySlot x (a .house)))
-    (c .before .before .before .before .before .n-of .ensures .0)) (c .before .before .record-answer .ensures)) (c .before .if1 .left) _
-    (c .refuse .ensures)
+    (at-ready-at .ready-at .ensures ∙ ap (λ x. placeFrom (a .base) (readySlot x (a .house))) (at-n-of .n-of .ensures .0))
+    (at-record-answer .record-answer .ensures)) (at-if1 .if1 .left) _ (c .refuse .ensures)
 
 pub hear-ready-spec : {M : Type 1} → statement M
 hear-ready-spec =
