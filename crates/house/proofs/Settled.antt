@@ -49,24 +49,24 @@ open-settled κs a r r' s s' p q = claims .settled .book .open-settled _ _ _ _ _
 pub publish-settled : (κs : Lfts 2) (a : ArgsD gm_publish.signature κs) (r r' : ResD gm_publish.signature κs)
     (s s' : AtExit (endedOf 2 publish-kinds.ps publish-kinds.r) κs) → publish-reads.Post κs a r s → publish-reads.Post κs a r' s'
     → (r ≡ r') × (now (s .0) ≡ now (s' .0))
-publish-settled κs a r r' s s' p q = claims .settled .counter .publish-settled _ _ _ r r' _ _ p q
+publish-settled κs a r r' s s' p q = claims .settled .calls .publish-settled _ _ _ r r' _ _ p q
 
 pub receive-settled : (κs : Lfts 2) (a : ArgsD gm_receive.signature κs) (r r' : ResD gm_receive.signature κs)
     (s s' : AtExit (endedOf 2 receive-kinds.ps receive-kinds.r) κs) → receive-reads.Post κs a r s → receive-reads.Post κs a r' s'
     → (r ≡ r') × (now (s .0) ≡ now (s' .0))
-receive-settled κs a r r' s s' p q = claims .settled .counter .receive-settled _ _ _ r r' _ _ p q
+receive-settled κs a r r' s s' p q = claims .settled .calls .receive-settled _ _ _ r r' _ _ p q
 
 pub waiting-settled : (κs : Lfts 1) (a : ArgsD gm_waiting.signature κs) (r r' : ResD gm_waiting.signature κs)
     (s s' : AtExit (endedOf 1 waiting-kinds.ps waiting-kinds.r) κs) → waiting-reads.Post κs a r s → waiting-reads.Post κs a r' s' → r ≡ r'
-waiting-settled κs a r r' s s' p q = claims .settled .counter .waiting-settled _ r r' p q
+waiting-settled κs a r r' s s' p q = claims .settled .calls .waiting-settled _ r r' p q
 
 pub return-settled : (κs : Lfts 1) (a : ArgsD gm_return.signature κs) (r r' : ResD gm_return.signature κs)
     (s s' : AtExit (endedOf 1 return-kinds.ps return-kinds.r) κs) → return-reads.Post κs a r s → return-reads.Post κs a r' s' → r ≡ r'
-return-settled κs a r r' s s' p q = claims .settled .counter .return-settled _ r r' p q
+return-settled κs a r r' s s' p q = claims .settled .calls .return-settled _ r r' p q
 
 pub sent-settled : (κs : Lfts 1) (a : ArgsD gm_sent.signature κs) (r r' : ResD gm_sent.signature κs)
     (s s' : AtExit (endedOf 1 sent-kinds.ps sent-kinds.r) κs) → sent-reads.Post κs a r s → sent-reads.Post κs a r' s' → r ≡ r'
-sent-settled κs a r r' s s' p q = claims .settled .counter .sent-settled _ _ _ _ r r' p q
+sent-settled κs a r r' s s' p q = claims .settled .calls .sent-settled _ _ _ _ r r' p q
 
 pub judge-settled : (κs : Lfts 2) (a : ArgsD gm_judge.signature κs) (r r' : ResD gm_judge.signature κs)
     (s s' : AtExit (endedOf 2 judge-kinds.ps judge-kinds.r) κs) → judge-reads.Post κs a r s → judge-reads.Post κs a r' s' → r ≡ r'
