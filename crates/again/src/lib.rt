@@ -18,7 +18,7 @@ pub fn come_back(book: &[u8]) -> Returned
     ensures { λ r. ⌜ r ≡ returned (now (book .entry)) ⌝ }
 {
     if book::is_legal(book) {
-        let request = codec::write_request(layout::season_of(book));
+        let request = writer::write_request(layout::season_of(book));
         return Returned { answer: 0, request };
     }
     Returned {
@@ -45,7 +45,7 @@ fn sent_in(book: &[u8], at: usize, kind: u8, sender: u8, number: u8) -> Sent
 {
     if slots::is_full(book, at) {
         let d = octets::bytes_of(octets::declaration_at(book, at + 1));
-        let message = codec::lay_message(kind, layout::season_of(book), sender, number, d);
+        let message = writer::lay_message(kind, layout::season_of(book), sender, number, d);
         return Sent {
             answer: 0,
             gives: true,
@@ -81,7 +81,7 @@ pub fn sent_on(book: &[u8], kind: u8, sender: u32, number: u32) -> Sent
     ensures { λ r. ⌜ r ≡ sentOf (now (book .entry)) kind sender number ⌝ }
 {
     if book::is_legal(book) {
-        if codec::is_kind(kind) {
+        if fields::is_kind(kind) {
             if (sender as usize) < layout::n_of(book) {
                 if (number as usize) < layout::numbers_of(book) {
                     return sent_entry(book, kind, sender as u8, number as u8);

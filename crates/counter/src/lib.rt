@@ -110,7 +110,7 @@ pub fn receive(book: &mut [u8], house: u32, message: &[u8]) -> Outcome
     ensures { λ r. ⌜ result r (now (book .exit)) ≡ received (now (book .entry)) house (now (message .entry)) ⌝ }
 {
     if book::is_legal(book) {
-        let m = codec::parts_of(message);
+        let m = reader::parts_of(message);
         if m.answer == 0 {
             return hear(book, house, m);
         }

@@ -219,7 +219,7 @@ pub fn copy(to: &mut [u8], at: u32, from: &[u8], first: u32) {
 }
 
 fn written(r: Numbers, kind: u32) -> Written {
-    codec::write_message(
+    writer::write_message(
         byte(kind),
         r[SEASON],
         byte(r[SENDER]),
@@ -242,7 +242,7 @@ fn message_of(r: Numbers) -> [u8; 36] {
 pub fn lay(r: Numbers) -> [u8; 40] {
     let mut hand: [u8; 40] = [0; 40];
     if r[LENGTH] < 13 {
-        copy(&mut hand, 0, &codec::write_request(r[SEASON]), 0);
+        copy(&mut hand, 0, &writer::write_request(r[SEASON]), 0);
         put(&mut hand, 3, 0, r[KIND]);
         return hand;
     }
@@ -264,7 +264,7 @@ fn read_lot(r: Numbers, declaration: [u8; 20]) -> Numbers {
 // What bytes read as: a request (0), a message (1) or nothing (2), with the numbers in it.
 pub fn read(r: Numbers, bytes: &[u8]) -> Numbers {
     let mut r = r;
-    let m = codec::parts_of(bytes);
+    let m = reader::parts_of(bytes);
     r[READER] = script::wide(m.answer);
     r[READS] = 2;
     if m.answer == 0 {

@@ -103,7 +103,7 @@ pub extern "C" fn gm_write(
     ensures { λ r. ⌜ r ≡ writtenOf kind season sender number (declarationAt (now (declaration .entry)) 0) ⌝ }
 {
     let d = octets::declaration_at(declaration, 0);
-    codec::write_message(kind, season, sender, number, d)
+    writer::write_message(kind, season, sender, number, d)
 }
 
 // The five things of a message, kind 9 and the season of a request, or answer 2.
@@ -111,5 +111,5 @@ pub extern "C" fn gm_write(
 pub extern "C" fn gm_read(message: &[u8]) -> ReadAnswer
     ensures { λ r. ⌜ r ≡ readAnswer (requestOf (now (message .entry))) (readOf (now (message .entry))) ⌝ }
 {
-    codec::parts_of(message)
+    reader::parts_of(message)
 }

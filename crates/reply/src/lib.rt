@@ -42,7 +42,7 @@ fn letter_of(gives: bool, kind: u8, season: u32, sender: u8, number: u8, d: [u8;
     ensures { λ r. ⌜ r ≡ orZeros 36 (onlyIf gives (wired kind season sender number (declarationAt d 0))) ⌝ }
 {
     if gives {
-        return codec::lay_message(kind, season, sender, number, d);
+        return writer::lay_message(kind, season, sender, number, d);
     }
     [0; 36]
 }
