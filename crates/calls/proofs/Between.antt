@@ -51,7 +51,7 @@ module _ (b : List ℕ) (h : legal b ≡ true) (bytes : Bytes b) where
   received-others p message j c d = rw h (any (requestOf message) (readOf message .five) d)
     where
       asking : (m : Five) → Other (m .sender) (m .number) j c → (o : Option Kind)
-          → look (answering b (askedAs p m o) .book) j c ≡ look b j c
+          → look (answering b (askedAs p (m .sender) (m .number) (bytesOf (m .declaration)) o) .book) j c ≡ look b j c
       asking m d none = refl
       asking m d (some k) = called-others (receiving p k (m .sender) (m .number) (bytesOf (m .declaration))) j c d
 
@@ -142,7 +142,7 @@ module _ (b d : List ℕ) (hb : legal b ≡ true) (hd : legal d ≡ true) (bb : 
   received-same p message j c t names e = rw (hb, hd, no-request message t) (go (readOf message .five) names)
     where
       asking : (m : Five) → m .sender ≡ j → m .number ≡ c → (o : Option Kind)
-          → Alike (answering b (askedAs p m o)) (answering d (askedAs p m o)) j c
+          → Alike (answering b (askedAs p (m .sender) (m .number) (bytesOf (m .declaration)) o)) (answering d (askedAs p (m .sender) (m .number) (bytesOf (m .declaration)) o)) j c
       asking m x y none = record { given = refl; entry = e }
       asking m x y (some k) =
           let a : Call = receiving p k (m .sender) (m .number) (bytesOf (m .declaration)) in

@@ -39,12 +39,12 @@ unfolding called
 published b c v = cond (legal b) (called b (publishing c v)) (refusal 1 b)
 
 -- the call that a message of the kind asks for
-abbrev pub askedAs : (house : ℕ) → Five → Option Kind → Option Call
-askedAs p m none = none
-askedAs p m (some k) = some (receiving p k (m .sender) (m .number) (bytesOf (m .declaration)))
+abbrev pub askedAs : (house sender number : ℕ) → Decl → Option Kind → Option Call
+askedAs p j c v none = none
+askedAs p j c v (some k) = some (receiving p k j c v)
 
 abbrev pub asked : (house : ℕ) → Five → Option Call
-asked p m = askedAs p m (kindOf (m .kind))
+asked p m = askedAs p (m .sender) (m .number) (bytesOf (m .declaration)) (kindOf (m .kind))
 
 -- A number that is no kind's asks for no call: 2. What is well formed has a kind (proofs/KindNumber.antt), so that it is never given here.
 abbrev pub answering : List ℕ → Option Call → Result

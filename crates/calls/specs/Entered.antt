@@ -1,5 +1,6 @@
 -- An accepted call at the bytes: what it gives, and the bytes that mean the book with the named entry as the step leaves it.
 use Prim.Native.Nat.{ℕ}
+use mathlib.Core.Path.{_≡_}
 use mathlib.Core.Bool.{Bool, true, false, cond, _&&_}
 use mathlib.Core.List.{List, [], _∷_}
 use mathlib.Core.Option.{Option, none, some}
@@ -14,7 +15,8 @@ use Rattle.message.specs.Message.{Five, wire}
 use Rattle.entry.specs.Entry.{Decl, Kind, SEND, ECHO, READY, Entry, putAt}
 use Rattle.protocol.specs.Steps.{Rules, Say, say, Out, publishes, takes}
 use Rattle.protocol.specs.Thresholds.{rulesOf}
-use Rattle.meaning.specs.Book.{Header, Meaning, headerOf, meant, look, write, ownOf, seasonOf}
+use Rattle.meaning.specs.Book.{Header, Meaning, headerOf, meant, look, write, ownOf, seasonOf, sheetOf}
+use Rattle.meaning.specs.Legal.{IsDecl}
 use Rattle.calls.specs.declared.Outcome.{Outcome}
 
 -- what a call gives, and each byte of the lent buffer afterwards
@@ -69,6 +71,11 @@ isDecl v = eqb (length v) 20 && allBytes v
 unfoldable pub okBy : Sheet → Decl → Bool
 unfolding isDecl
 okBy s v = isDecl v && plausible s (declarationAt v 0)
+
+-- 20 bytes, plausible by the book's sheet
+pub record Plausible (b : List ℕ) (v : Decl) : Type 0 where
+  pub decl : IsDecl v
+  pub ok : okBy (sheetOf b) v ≡ true
 
 -- the rules of a book: t and the quorum from the wall card
 unfoldable pub rulesBy : Header → Rules

@@ -377,7 +377,7 @@ fn open(book: &mut [u8], r: Numbers) -> Came {
 
 fn publish(book: &mut [u8], r: Numbers) -> Came {
     let declaration = octets::bytes_of(declaration_of(r));
-    let o = counter::publish(book, r[NUMBER], &declaration);
+    let o = publish::publish(book, r[NUMBER], &declaration);
     note(r, o)
 }
 
@@ -385,7 +385,7 @@ fn receive(book: &mut [u8], r: Numbers, hand: [u8; 40]) -> Came {
     let first = 0;
     let end = r[LENGTH] as usize;
     if end <= 40 {
-        let o = counter::receive(book, r[FROM], &hand[first..end]);
+        let o = receive::receive(book, r[FROM], &hand[first..end]);
         return note(r, o);
     }
     nothing(r)

@@ -7,6 +7,13 @@ ghost use Rattle.message.specs.Message.{isKind, fieldAt, tagged, wellFormed, is
 // The answer where there is no message.
 pub const MALFORMED: u8 = 2;
 
+// The kinds of a message on an entry, by their numbers.
+pub const SEND: u8 = 1;
+
+pub const ECHO: u8 = 2;
+
+pub const READY: u8 = 3;
+
 // 1 SEND, 2 ECHO, 3 READY.
 pub fn is_kind(kind: u8) -> bool
     ensures { λ r. ⌜ r ≡ isKind kind ⌝ }

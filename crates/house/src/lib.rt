@@ -48,7 +48,7 @@ pub extern "C" fn gm_open(
 pub extern "C" fn gm_publish(book: &mut [u8], number: u32, declaration: &[u8; 20]) -> Outcome
     ensures { λ r. ⌜ result r (now (book .exit)) ≡ published (now (book .entry)) number (now (declaration .entry)) ⌝ }
 {
-    counter::publish(book, number, declaration)
+    publish::publish(book, number, declaration)
 }
 
 // Receiving: 1 to 7 in order; a request 1 to 4, then 14.
@@ -56,7 +56,7 @@ pub extern "C" fn gm_publish(book: &mut [u8], number: u32, declaration: &[u8; 20
 pub extern "C" fn gm_receive(book: &mut [u8], house: u32, message: &[u8]) -> Outcome
     ensures { λ r. ⌜ result r (now (book .exit)) ≡ received (now (book .entry)) house (now (message .entry)) ⌝ }
 {
-    counter::receive(book, house, message)
+    receive::receive(book, house, message)
 }
 
 // The earliest waiting entry, or a plain none, or answer 1.

@@ -19,8 +19,8 @@ use Rattle.calls.specs.Entered.{result, handed, wired, entered, taken}
 use Rattle.calls.proofs.Entered.{letter-wired, entered-is}
 use Rattle.layout.specs.Places.{Within, Begins}
 use Rattle.layout.proofs.Begins.{begins}
-use Rattle.step.specs.declared.Marks.{Marks}
-use Rattle.step.specs.Marks.{echoMark, readyMarks}
+use Rattle.marks.specs.declared.Marks.{Marks}
+use Rattle.marks.specs.Marks.{echoMark, readyMarks}
 use Rattle.step.proofs.Taken.{taking, heard-in, has-one, base-one, echo-taken, ready-taken}
 
 -- what recording answers at the slot is what it answers of what was heard

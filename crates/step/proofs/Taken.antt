@@ -16,10 +16,10 @@ use Rattle.meaning.specs.Layout.{slotLength, heardSlot, slotPlace, entrySlot, e
 use Rattle.meaning.specs.Book.{headerOf, downOf, nOf, numbersOf, look, placeIn}
 use Rattle.meaning.specs.Legal.{legal, IsDecl, Has}
 use Rattle.meaning.proofs.Stores.{Stored, stored-entry, stored-heard}
-use Rattle.step.specs.declared.Marks.{Marks}
+use Rattle.marks.specs.declared.Marks.{Marks}
 use Rattle.calls.specs.Entered.{rulesBy}
 use Rattle.layout.specs.Places.{slotFrom}
-use Rattle.step.specs.Marks.{votesFrom, echoMark, readyMarks}
+use Rattle.marks.specs.Marks.{votesFrom, echoMark, readyMarks}
 use Rattle.meaning.proofs.Seen.{from-base, sent-seen, delivered-seen, echoes-seen, readies-seen}
 use Rattle.meaning.proofs.Agree.{agree-n, agree-numbers, agree-down}
 

@@ -1,4 +1,4 @@
--- `codec::is_field` meets its contract.
+-- `fields::is_field` meets its contract.
 use borrow.Author.Tests.{eq-eqb, ne-eqb}
 use borrow.Author.Needs.{needs}
 use Rattle.fields.proofs.is_field.Statement.{statement}

@@ -1,4 +1,4 @@
--- `codec::is_kind` meets its contract.
+-- `fields::is_kind` meets its contract.
 use Rattle.message.specs.Message.{isKind}
 use borrow.Author.Tests.{le-leb, lt-leb}
 use Rattle.fields.proofs.is_kind.Statement.{statement}

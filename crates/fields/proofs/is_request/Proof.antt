@@ -1,4 +1,4 @@
--- `codec::is_request` meets its contract.
+-- `fields::is_request` meets its contract.
 use Rattle.message.specs.Message.{isRequest}
 use borrow.Author.Tests.{eq-eqb, ne-eqb}
 use borrow.Author.Needs.{needs}

@@ -1,4 +1,4 @@
--- `codec::is_tagged` meets its contract.
+-- `fields::is_tagged` meets its contract.
 use Rattle.message.specs.Message.{tagged}
 use borrow.Author.Needs.{needs}
 use Rattle.fields.proofs.is_tagged.Statement.{statement}

@@ -1,4 +1,4 @@
--- `codec::is_well_formed` meets its contract.
+-- `fields::is_well_formed` meets its contract.
 use Rattle.message.specs.Message.{wellFormed}
 use borrow.Author.Tests.{eq-eqb, ne-eqb}
 use borrow.Author.Needs.{needs}

@@ -1,4 +1,4 @@
--- `codec::parts_of` meets its contract.
+-- `reader::parts_of` meets its contract.
 use Rattle.message.specs.Read.{readAnswer}
 use Rattle.message.specs.Message.{Told, told}
 use Rattle.message.proofs.Request.{request-long, request-names, no-request}

@@ -1,4 +1,4 @@
--- `codec::read_message` meets its contract.
+-- `reader::read_message` meets its contract.
 use Rattle.message.proofs.Form.{sized}
 use Rattle.message.specs.Message.{fiveAt, readAs, readOf}
 use lib.ListN.{length, getD}

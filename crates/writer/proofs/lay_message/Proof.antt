@@ -1,4 +1,4 @@
--- `codec::lay_message` meets its contract.
+-- `writer::lay_message` meets its contract.
 use Prim.Native.Nat.{ℕ, _/_, _%_}
 use mathlib.Core.Path.{_≡_, sym, _∙_}
 use mathlib.Core.List.{List, _∷_, _++_}

@@ -1,4 +1,4 @@
--- `codec::write_message` meets its contract.
+-- `writer::write_message` meets its contract.
 use mathlib.Core.Path.{ap, _∙_}
 use mathlib.Core.List.{List}
 use Prim.Native.Nat.{ℕ}

@@ -1,4 +1,4 @@
--- `codec::write_request` meets its contract.
+-- `writer::write_request` meets its contract.
 use Rattle.message.specs.Message.{requestWire}
 use Rattle.words.specs.Words.{listOf}
 use mathlib.Core.List.{_∷_}

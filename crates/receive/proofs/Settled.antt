@@ -1,0 +1,16 @@
+-- The contract that `calls` settles is that of the source, as Rattle reads it.
+use mathlib.Core.Path.{_≡_}
+use contract.Lifetimes.{Lfts}
+use borrow.Fn.World.{ArgsD, ResD}
+use borrow.Fn.Kinds.{endedOf}
+use denote.Triple.Clauses.{AtExit}
+use denote.Ref.{now}
+use Rattle.calls.proofs.Claims.{claims}
+use Rattle.receive.proofs.receive
+use Rattle.receive.proofs.receive.Reads as receive-reads
+use Rattle.receive.proofs.receive.Kinds as receive-kinds
+
+pub receive-settled : (κs : Lfts 2) (a : ArgsD receive.signature κs) (r r' : ResD receive.signature κs)
+    (s s' : AtExit (endedOf 2 receive-kinds.ps receive-kinds.r) κs) → receive-reads.Post κs a r s → receive-reads.Post κs a r' s'
+    → (r ≡ r') × (now (s .0) ≡ now (s' .0))
+receive-settled κs a r r' s s' p q = claims .settled .receive-settled _ _ _ r r' _ _ p q

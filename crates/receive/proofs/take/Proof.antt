@@ -1,0 +1,93 @@
+-- `receive::take` meets its contract.
+use Rattle.receive.proofs.Heard.{send-heard, echo-heard, ready-heard, another-heard, no-other-kind}
+use denote.Ref.{now}
+use borrow.Author.Needs.{needs}
+use Rattle.receive.proofs.take.Statement.{statement}
+use Rattle.receive.proofs.take.Tie as tie
+
+hear-send-requires : tie.Need-hear-send-requires
+hear-send-requires c κs = search needs
+
+same-length : tie.Need-same-length
+same-length c = search needs
+
+returns : tie.Need-returns
+returns c =
+    let at-hear-send = c .before .before in
+    let at-if1 = at-hear-send .before .before in
+    let at-match = at-if1 .before in
+    let start = at-match .before .before in
+    let a = start .args in
+    send-heard (now (a .book)) (a .house) (a .kind) (a .sender) (a .number) (a .d) (at-match .match .keys1) (at-if1 .if1 .taken) _
+    (at-hear-send .hear-send .ensures)
+
+refuse-requires : tie.Need-refuse-requires
+refuse-requires c κs = search needs
+
+hear-echo-requires : tie.Need-hear-echo-requires
+hear-echo-requires c κs = search needs
+
+hear-ready-requires : tie.Need-hear-ready-requires
+hear-ready-requires c κs = search needs
+
+refuse-requires-2 : tie.Need-refuse-requires-2
+refuse-requires-2 c κs = search needs
+
+returns-2 : tie.Need-returns-2
+returns-2 c =
+    let at-if1 = c .before in
+    let at-match = at-if1 .before in
+    let start = at-match .before .before in
+    let a = start .args in
+    another-heard (now (a .book)) (a .house) (a .kind) (a .sender) (a .number) (a .d) (start .pre .0) (start .pre .3) (start .pre .2 .ok)
+    (at-match .match .keys1)
+    (at-if1 .if1 .left) _ (c .refuse .ensures)
+
+same-length-2 : tie.Need-same-length-2
+same-length-2 c = search needs
+
+returns-3 : tie.Need-returns-3
+returns-3 c =
+    let at-hear-echo = c .before .before in
+    let at-match = at-hear-echo .before .before in
+    let start = at-match .before .before in
+    let a = start .args in
+    echo-heard (now (a .book)) (a .house) (a .kind) (a .sender) (a .number) (a .d) (at-match .match .keys2) _
+    (at-hear-echo .hear-echo .ensures)
+
+same-length-3 : tie.Need-same-length-3
+same-length-3 c = search needs
+
+returns-4 : tie.Need-returns-4
+returns-4 c =
+    let at-hear-ready = c .before .before in
+    let at-match = at-hear-ready .before .before in
+    let start = at-match .before .before in
+    let a = start .args in
+    ready-heard (now (a .book)) (a .house) (a .kind) (a .sender) (a .number) (a .d) (at-match .match .keys3) _
+    (at-hear-ready .hear-ready .ensures)
+
+returns-5 : tie.Need-returns-5
+returns-5 c =
+    let at-match = c .before in
+    let start = at-match .before .before in
+    let rest = at-match .match .rest in
+    absurd (no-other-kind (start .args .kind) (start .pre .4) (rest .0 .0 .1) (rest .0 .1) (rest .1))
+
+pub take-spec : {M : Type 1} → statement M
+take-spec =
+    tie.close
+    (tie.spec
+    hear-send-requires
+    same-length
+    returns
+    refuse-requires
+    hear-echo-requires
+    hear-ready-requires
+    refuse-requires-2
+    returns-2
+    same-length-2
+    returns-3
+    same-length-3
+    returns-4
+    returns-5)
