@@ -1,18 +1,6 @@
 -- What this crate promises holds.
-use mathlib.Core.Path.{sym, ap, _∙_}
-use Rattle.meaning.specs.Opening.{Opened}
+use mathlib.Core.Path.{sym, _∙_}
 use Rattle.book.specs.Claims.{Claims}
 
 pub claims : Claims
-claims =
-    record {
-      settled = record {
-        length-settled = λ n s r r' p q.
-            let e = p ∙ sym q in
-            λ i. record { answer = e i .answer; length = e i .length };
-        legal-settled = λ b r r' p q. p ∙ sym q;
-        open-settled = λ b n s own f d season sheet r r' after after' p q.
-            let e = p ∙ sym q in
-            (ap (λ (o : Opened). o .answer) e, ap (λ (o : Opened). o .book) e);
-      };
-    }
+claims = record { legal-settled = λ b r r' p q. p ∙ sym q }

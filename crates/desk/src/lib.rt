@@ -362,7 +362,7 @@ fn note(r: Numbers, o: Outcome) -> Came {
 
 fn open(book: &mut [u8], r: Numbers) -> Came {
     let sheet = sheet_of(r);
-    let answer = book::open_book(
+    let answer = opening::open_book(
         book,
         r[HOUSES],
         r[NUMBERS],
@@ -448,7 +448,7 @@ fn on_book(book: &mut [u8], r: Numbers, hand: [u8; 40]) -> Came {
 // ---- calls on no book
 
 fn length(r: Numbers) -> Numbers {
-    let found = book::length_of(r[HOUSES], r[NUMBERS]);
+    let found = sizes::length_of(r[HOUSES], r[NUMBERS]);
     let mut r = answered(r, found.answer);
     r[TAIL] = 2 * bit(found.answer == 0);
     if found.length < 65536 {

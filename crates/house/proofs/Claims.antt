@@ -1,6 +1,7 @@
 -- What the ten calls promise beside their contracts holds.
 use mathlib.Core.Path.{sym, _∙_}
-use Rattle.book.proofs.Claims as book
+use Rattle.sizes.proofs.Claims as sizes
+use Rattle.opening.proofs.Claims as opening
 use Rattle.calls.proofs.Claims as calls
 use Rattle.house.specs.Claims.{Claims}
 use Rattle.message.proofs.Trips.{trips}
@@ -10,7 +11,8 @@ claims =
     record {
       trips = trips;
       settled = record {
-        book = book.claims .settled;
+        sizes = sizes.claims;
+        opening = opening.claims;
         calls = calls.claims .settled;
         judge-settled = λ sheet d r r' p q. p ∙ sym q;
         write-settled = λ kind season sender number d r r' p q. p ∙ sym q;

@@ -39,12 +39,12 @@ use Rattle.house.proofs.gm_read.Kinds as read-kinds
 
 pub length-settled : (κs : Lfts 0) (a : ArgsD gm_length.signature κs) (r r' : ResD gm_length.signature κs)
     (s s' : AtExit (endedOf 0 length-kinds.ps length-kinds.r) κs) → length-reads.Post κs a r s → length-reads.Post κs a r' s' → r ≡ r'
-length-settled κs a r r' s s' p q = claims .settled .book .length-settled _ _ r r' p q
+length-settled κs a r r' s s' p q = claims .settled .sizes .length-settled _ _ r r' p q
 
 pub open-settled : (κs : Lfts 2) (a : ArgsD gm_open.signature κs) (r r' : ResD gm_open.signature κs)
     (s s' : AtExit (endedOf 2 open-kinds.ps open-kinds.r) κs) → open-reads.Post κs a r s → open-reads.Post κs a r' s'
     → (r ≡ r') × (now (s .0) ≡ now (s' .0))
-open-settled κs a r r' s s' p q = claims .settled .book .open-settled _ _ _ _ _ _ _ _ r r' _ _ p q
+open-settled κs a r r' s s' p q = claims .settled .opening .open-settled _ _ _ _ _ _ _ _ r r' _ _ p q
 
 pub publish-settled : (κs : Lfts 2) (a : ArgsD gm_publish.signature κs) (r r' : ResD gm_publish.signature κs)
     (s s' : AtExit (endedOf 2 publish-kinds.ps publish-kinds.r) κs) → publish-reads.Post κs a r s → publish-reads.Post κs a r' s'

@@ -5,15 +5,18 @@ use mathlib.Core.List.{List}
 use Rattle.words.specs.Settled.{Settled}
 use Rattle.sheet.specs.Kept.{judged}
 use Rattle.message.specs.declared.Written.{Written}
-use Rattle.book.specs.Claims as book
+use Rattle.sizes.specs.Claims as sizes
+use Rattle.opening.specs.Claims as opening
 use Rattle.calls.specs.Claims as calls
 use Rattle.message.specs.declared.ReadAnswer.{ReadAnswer}
 use Rattle.message.specs.Trips.{writes, reads, Trips}
 
 -- Two outcomes that meet a call's contract are equal, in what is handed back and in each byte of a lent book.
 pub record Settles : Type 0 where
-  -- `gm_length` and `gm_open`
-  pub book : book.Settles
+  -- `gm_length`
+  pub sizes : sizes.Claims
+  -- `gm_open`
+  pub opening : opening.Claims
   -- `gm_publish`, `gm_receive`, `gm_waiting`, `gm_return` and `gm_sent`
   pub calls : calls.Settles
   -- `gm_judge`, `gm_write` and `gm_read`

@@ -9,20 +9,20 @@ ghost use Rattle.calls.specs.Call.{published, received};
 ghost use Rattle.calls.specs.Search.{waiting};
 ghost use Rattle.calls.specs.Again.{returned, sentOf};
 ghost use Rattle.message.specs.Read.{readAnswer};
-use book::LengthAnswer;
 use calls::Outcome;
 use calls::Returned;
 use calls::Sent;
 use calls::Waiting;
 use message::ReadAnswer;
 use message::Written;
+use sizes::LengthAnswer;
 
 // The length of a book, or answer 9.
 #[no_mangle]
 pub extern "C" fn gm_length(n: u32, numbers: u32) -> LengthAnswer
     ensures { λ r. ⌜ _≡_ {A = Length} (record { answer = r .answer; length = r .length }) (lengthAnswer n numbers) ⌝ }
 {
-    book::length_of(n, numbers)
+    sizes::length_of(n, numbers)
 }
 
 // Opening: 9, 10, 11; else the whole buffer is written.
@@ -40,7 +40,7 @@ pub extern "C" fn gm_open(
     ensures { λ r. ⌜ _≡_ {A = Opened} (record { answer = r; book = now (book .exit) })
         (opened (now (book .entry)) n numbers own f d season (now (sheet .entry))) ⌝ }
 {
-    book::open_book(book, n, numbers, own, f, d, season, sheet)
+    opening::open_book(book, n, numbers, own, f, d, season, sheet)
 }
 
 // Publishing: 1, 4, 5, 8.

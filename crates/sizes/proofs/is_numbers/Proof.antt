@@ -1,8 +1,8 @@
--- `book::is_numbers` meets its contract.
+-- `sizes::is_numbers` meets its contract.
 use borrow.Author.Tests.{le-leb, lt-leb}
 use Rattle.meaning.specs.Layout.{mostNumbers, numbersOk}
-use Rattle.book.proofs.is_numbers.Statement.{statement}
-use Rattle.book.proofs.is_numbers.Tie as tie
+use Rattle.sizes.proofs.is_numbers.Statement.{statement}
+use Rattle.sizes.proofs.is_numbers.Tie as tie
 
 returns : tie.Need-returns
 unfolding numbersOk mostNumbers

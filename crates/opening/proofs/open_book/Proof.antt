@@ -1,13 +1,13 @@
--- `book::open_book` meets its contract.
+-- `opening::open_book` meets its contract.
 use mathlib.Core.Path.{sym, _∙_}
 use native.Mathlib.Omega.{arith}
 use Rattle.sheet.proofs.Gates.{sheet-sized}
 use Rattle.meaning.specs.Layout.{headLength, lengthOf}
-use Rattle.book.proofs.Sizes.{allowed-n, allowed-numbers, allowed-own, allowed-down, allowed-limit}
-use Rattle.book.proofs.Opening.{opens-0, opens-9, opens-10, opens-11}
+use Rattle.sizes.proofs.Sizes.{allowed-n, allowed-numbers, allowed-own, allowed-down, allowed-limit}
+use Rattle.opening.proofs.Opening.{opens-0, opens-9, opens-10, opens-11}
 use borrow.Author.Needs.{needs}
-use Rattle.book.proofs.open_book.Statement.{statement}
-use Rattle.book.proofs.open_book.Tie as tie
+use Rattle.opening.proofs.open_book.Statement.{statement}
+use Rattle.opening.proofs.open_book.Tie as tie
 
 is-allowed-requires : tie.Need-is-allowed-requires
 is-allowed-requires c κs = search needs

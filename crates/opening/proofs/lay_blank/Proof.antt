@@ -1,8 +1,8 @@
--- `book::lay_blank` meets its contract.
-use Rattle.book.proofs.Filling.{blank-laid}
+-- `opening::lay_blank` meets its contract.
+use Rattle.opening.proofs.Filling.{blank-laid}
 use borrow.Author.Needs.{needs}
-use Rattle.book.proofs.lay_blank.Statement.{statement}
-use Rattle.book.proofs.lay_blank.Tie as tie
+use Rattle.opening.proofs.lay_blank.Statement.{statement}
+use Rattle.opening.proofs.lay_blank.Tie as tie
 
 clear-requires : tie.Need-clear-requires
 clear-requires c κs = search needs

@@ -1,9 +1,9 @@
--- `book::length_of` meets its contract.
+-- `sizes::length_of` meets its contract.
 use Rattle.meaning.specs.Opening.{lengthAnswer}
-use Rattle.book.proofs.Sizes.{n-byte, numbers-byte}
+use Rattle.sizes.proofs.Sizes.{n-byte, numbers-byte}
 use borrow.Author.Needs.{needs}
-use Rattle.book.proofs.length_of.Statement.{statement}
-use Rattle.book.proofs.length_of.Tie as tie
+use Rattle.sizes.proofs.length_of.Statement.{statement}
+use Rattle.sizes.proofs.length_of.Tie as tie
 
 is-size-requires : tie.Need-is-size-requires
 is-size-requires c κs = search needs

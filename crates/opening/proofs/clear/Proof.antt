@@ -1,13 +1,13 @@
--- `book::clear` meets its contract.
+-- `opening::clear` meets its contract.
 use Prim.Native.Nat.{_≤_, _-_}
 use mathlib.Core.Path.{_≡_, refl}
 use native.Mathlib.Omega.{arith}
 use lib.ListN.{length, replicate, length-set}
 use lib.Seq.{paste, paste-zero}
-use Rattle.book.proofs.Filling.{zero-more, zeros-all}
+use Rattle.opening.proofs.Filling.{zero-more, zeros-all}
 use borrow.Author.Needs.{needs}
-use Rattle.book.proofs.clear.Statement.{statement}
-use Rattle.book.proofs.clear.Tie as tie
+use Rattle.opening.proofs.clear.Statement.{statement}
+use Rattle.opening.proofs.clear.Tie as tie
 
 abbrev Inv-loop : tie.InvT-loop
 Inv-loop b₀ i₀ i-end b i = (i ≤ i-end) × (b ≡ paste b₀ 0 (replicate (length b₀) 0) i) × (length b ≡ length b₀)

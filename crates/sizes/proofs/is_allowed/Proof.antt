@@ -1,9 +1,9 @@
--- `book::is_allowed` meets its contract.
+-- `sizes::is_allowed` meets its contract.
 use Rattle.meaning.specs.Layout.{mostLimit}
-use Rattle.book.proofs.Sizes.{size-refused, own-refused, down-refused, all-allowed}
+use Rattle.sizes.proofs.Sizes.{size-refused, own-refused, down-refused, all-allowed}
 use borrow.Author.Needs.{needs}
-use Rattle.book.proofs.is_allowed.Statement.{statement}
-use Rattle.book.proofs.is_allowed.Tie as tie
+use Rattle.sizes.proofs.is_allowed.Statement.{statement}
+use Rattle.sizes.proofs.is_allowed.Tie as tie
 
 is-size-requires : tie.Need-is-size-requires
 is-size-requires c κs = search needs

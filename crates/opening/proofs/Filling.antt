@@ -8,7 +8,7 @@ use lib.ListN.{length, take, drop, length-take, set, replicate, length-drop, len
 use lib.Seq.{paste, paste-suc, take-all, drop-drop, drop-append-add, getD-drop, ext-getD}
 use Rattle.words.specs.Words.{be32}
 use Rattle.meaning.specs.Layout.{sheetPlace, sheetLength, downPlace, limitPlace, helpedPlace}
-use Rattle.book.specs.Parts.{blank}
+use Rattle.opening.specs.Parts.{blank}
 
 drop-replicate : (m k : ℕ) → drop {A = ℕ} m (replicate k 0) ≡ replicate (k - m) 0
 drop-replicate m k =

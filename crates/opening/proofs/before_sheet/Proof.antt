@@ -1,11 +1,11 @@
--- `book::before_sheet` meets its contract.
+-- `opening::before_sheet` meets its contract.
 use mathlib.Core.Path.{ap}
 use mathlib.Core.List.{_∷_}
 use Rattle.words.specs.declared.Quad.{Quad}
 use Rattle.words.specs.Words.{listOf}
 use borrow.Author.Needs.{needs}
-use Rattle.book.proofs.before_sheet.Statement.{statement}
-use Rattle.book.proofs.before_sheet.Tie as tie
+use Rattle.opening.proofs.before_sheet.Statement.{statement}
+use Rattle.opening.proofs.before_sheet.Tie as tie
 
 quad-of-requires : tie.Need-quad-of-requires
 quad-of-requires c κs = search needs

@@ -14,7 +14,7 @@ use Rattle.meaning.specs.Book.{rows, helpBytes, head, write}
 use Rattle.meaning.proofs.Rows.{rows-zeros}
 use Rattle.meaning.specs.Opening.{headed, freshBook, Opened, allowed, opened}
 use Rattle.meaning.proofs.Opening.{allowed-facts, fresh-written}
-use Rattle.book.specs.Parts.{blank}
+use Rattle.opening.specs.Parts.{blank}
 
 module _ (b : List ℕ) (n s own f d season : ℕ) (sheet : List ℕ) where
   blank-fresh : own < n → Bytes sheet → isSheet sheet ≡ true → length b ≡ lengthOf n s

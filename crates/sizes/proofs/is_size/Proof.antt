@@ -1,7 +1,7 @@
--- `book::is_size` meets its contract.
+-- `sizes::is_size` meets its contract.
 use borrow.Author.Needs.{needs}
-use Rattle.book.proofs.is_size.Statement.{statement}
-use Rattle.book.proofs.is_size.Tie as tie
+use Rattle.sizes.proofs.is_size.Statement.{statement}
+use Rattle.sizes.proofs.is_size.Tie as tie
 
 is-houses-requires : tie.Need-is-houses-requires
 is-houses-requires c κs = search needs

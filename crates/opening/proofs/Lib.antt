@@ -1,0 +1,4 @@
+pub mod Filling
+pub mod Opening
+pub mod Claims
+pub mod Settled
