@@ -142,7 +142,8 @@ module _ (b d : List ℕ) (hb : legal b ≡ true) (hd : legal d ≡ true) (bb : 
   received-same p message j c t names e = rw (hb, hd, no-request message t) (go (readOf message .five) names)
     where
       asking : (m : Five) → m .sender ≡ j → m .number ≡ c → (o : Option Kind)
-          → Alike (answering b (askedAs p (m .sender) (m .number) (bytesOf (m .declaration)) o)) (answering d (askedAs p (m .sender) (m .number) (bytesOf (m .declaration)) o)) j c
+          → Alike (answering b (askedAs p (m .sender) (m .number) (bytesOf (m .declaration)) o))
+          (answering d (askedAs p (m .sender) (m .number) (bytesOf (m .declaration)) o)) j c
       asking m x y none = record { given = refl; entry = e }
       asking m x y (some k) =
           let a : Call = receiving p k (m .sender) (m .number) (bytesOf (m .declaration)) in

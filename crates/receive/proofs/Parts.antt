@@ -10,17 +10,15 @@ use lib.Dec.{eqb}
 use lib.ListN.{replicate}
 use borrow.Author.Tests.{ne-eqb, eqb-true}
 use Rattle.words.specs.Words.{Bytes}
-use Rattle.lot.specs.Declaration.{bytesOf}
 use Rattle.message.specs.declared.ReadAnswer.{ReadAnswer}
 use Rattle.message.specs.Message.{Five, isKind, wellFormed, fiveAt, readAs, malformed, readOf, requestOf}
 use Rattle.message.specs.Read.{readAnswer}
 use Rattle.message.proofs.RoundTrip.{read-known}
-use Rattle.entry.specs.Entry.{Kind}
 use Rattle.meaning.specs.Book.{seasonOf}
 use Rattle.meaning.specs.Legal.{legal, IsDecl}
 use Rattle.calls.specs.declared.Outcome.{Outcome}
-use Rattle.calls.specs.Entered.{Result, result, handed, kindOf}
-use Rattle.calls.specs.Call.{refusal, answering, askedAs, requestAnswer, requested, received}
+use Rattle.calls.specs.Entered.{Result, result, handed}
+use Rattle.calls.specs.Call.{refusal, requestAnswer, requested, received}
 use Rattle.calls.proofs.Declarations.{message-decl}
 use Rattle.receive.specs.Heard.{heardAs, heardParts}
 

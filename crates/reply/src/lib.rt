@@ -1,7 +1,6 @@
 // What a call hands back: a refusal, help, an acceptance with its message and delivery.
 ghost use mathlib.Core.Path.{_≡_};
 ghost use mathlib.Core.Option.{none};
-ghost use lib.ListN.{length};
 ghost use Rattle.lot.specs.Declaration.{declarationAt};
 ghost use Rattle.protocol.specs.Steps.{onlyIf};
 ghost use Rattle.meaning.specs.Legal.{IsDecl};
