@@ -17,9 +17,9 @@ abbrev pub Other : (j c j₂ c₂ : ℕ) → Type 0
 Other j c j₂ c₂ = (j₂ ≡ j) × (c₂ ≡ c) → ⊥
 
 -- two results give the same answer, message and delivery, and end agreeing on the entry of sender j and number c
-pub record Alike (r s : Result) (j c : ℕ) : Type 0 where
-  pub given : r .given ≡ s .given
-  pub entry : look (r .book) j c ≡ look (s .book) j c
+pub record Alike (r r' : Result) (j c : ℕ) : Type 0 where
+  pub given : r .given ≡ r' .given
+  pub entry : look (r .book) j c ≡ look (r' .book) j c
 
 pub record Between : Type 0 where
   -- An accepted publication or message changes the named entry alone; the entry that a message names is what reading its bytes gives.

@@ -70,7 +70,7 @@ isDecl v = eqb (length v) 20 && allBytes v
 -- what is plausible by the book's sheet: a declaration's 20 bytes, judged
 unfoldable pub okBy : Sheet → Decl → Bool
 unfolding isDecl
-okBy s v = isDecl v && plausible s (declarationAt v 0)
+okBy sheet v = isDecl v && plausible sheet (declarationAt v 0)
 
 -- 20 bytes, plausible by the book's sheet
 pub record Plausible (b : List ℕ) (v : Decl) : Type 0 where

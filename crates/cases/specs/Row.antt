@@ -81,7 +81,7 @@ freshBook n = opened (replicate (lengthOf n 1) 0) n 1 0 0 0 2026 (sheetBytes (sh
 abbrev pub Holds : Row → Type 0
 Holds (card n t q) = (countsOf n 0 .t ≡ t) × (countsOf n 0 .quorum ≡ q)
 Holds (short n vouchers) = vouchers < countsOf n 0 .quorum
-Holds (judge s d answer) = judged (sheetBytes s) (bytesOf d) ≡ answer
+Holds (judge sheet d answer) = judged (sheetBytes sheet) (bytesOf d) ≡ answer
 Holds (form m bytes) =
     (writtenOf (m .kind) (m .season) (m .sender) (m .number) (m .declaration) ≡ record { answer = 0; message = bytes })
     × (readOf bytes ≡ readAs m)

@@ -22,7 +22,7 @@ pub record Settles : Type 0 where
   -- `gm_judge`, `gm_write` and `gm_read`
   pub judge-settled : (sheet d : List ℕ) → Settled (λ (r : ℕ). r ≡ judged sheet d)
   pub write-settled : (kind season sender number : ℕ) (d : List ℕ) → Settled (λ (r : Written). r ≡ writes kind season sender number d)
-  pub read-settled : (s : List ℕ) → Settled (λ (r : ReadAnswer). r ≡ reads s)
+  pub read-settled : (bytes : List ℕ) → Settled (λ (r : ReadAnswer). r ≡ reads bytes)
 
 pub record Claims : Type 0 where
   pub trips : Trips

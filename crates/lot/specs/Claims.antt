@@ -12,7 +12,8 @@ pub record Claims : Type 0 where
   -- Two declarations are the same exactly when all 20 bytes are: as numbers,
   pub same-numbers : (d e : Declaration) → (bytesOf d ≡ bytesOf e) ↔ (d ≡ e)
   -- and as bytes.
-  pub same-bytes : (s r : List ℕ) → length s ≡ 20 → length r ≡ 20 → Bytes s → Bytes r → (declarationAt s 0 ≡ declarationAt r 0) ↔ (s ≡ r)
+  pub same-bytes : (bytes others : List ℕ) → length bytes ≡ 20 → length others ≡ 20 → Bytes bytes → Bytes others
+      → (declarationAt bytes 0 ≡ declarationAt others 0) ↔ (bytes ≡ others)
   -- The 20 bytes read and write unchanged, a NaN's bits too.
   pub numbers-of-bytes : (d : Declaration) → declarationAt (bytesOf d) 0 ≡ d
-  pub bytes-of-numbers : (s : List ℕ) → length s ≡ 20 → Bytes s → bytesOf (declarationAt s 0) ≡ s
+  pub bytes-of-numbers : (bytes : List ℕ) → length bytes ≡ 20 → Bytes bytes → bytesOf (declarationAt bytes 0) ≡ bytes

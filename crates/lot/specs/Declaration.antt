@@ -7,13 +7,13 @@ use Rattle.lot.specs.declared.Declaration.{Declaration}
 
 -- the declaration whose 20 bytes, big-endian, stand at i: lot, colonies, kilograms, moisture's bits, conductivity's bits
 unfoldable pub declarationAt : List ℕ → ℕ → Declaration
-declarationAt s i =
+declarationAt bytes i =
     record {
-      lot = wordAt s i;
-      colonies = wordAt s (i + 4);
-      kilograms = wordAt s (i + 8);
-      moisture = wordAt s (i + 12);
-      conductivity = wordAt s (i + 16);
+      lot = wordAt bytes i;
+      colonies = wordAt bytes (i + 4);
+      kilograms = wordAt bytes (i + 8);
+      moisture = wordAt bytes (i + 12);
+      conductivity = wordAt bytes (i + 16);
     }
 
 -- five numbers, one after the other

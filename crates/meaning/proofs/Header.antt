@@ -12,12 +12,12 @@ use Rattle.words.specs.Words.{Bytes}
 use Rattle.words.proofs.Laws.{be-wordAt}
 use Rattle.words.proofs.Listed.{listed, listed-is}
 use Rattle.sheet.specs.Sheet.{sheetLegal}
-use Rattle.sheet.specs.Kept.{sheetBytes, sheetAt, sheetLegalAt, isSheet}
+use Rattle.sheet.specs.Kept.{sheetLength, sheetBytes, sheetAt, sheetLegalAt, isSheet}
 use Rattle.sheet.proofs.Gates.{legal-sheet}
 use Rattle.sheet.proofs.OneForm.{bytes-of-sheet}
 use Rattle.meaning.specs.Slot.{part}
 use Rattle.meaning.specs.Book.{nOf, numbersOf, ownOf, downOf, limitOf, helpedOf, headerOf, helpOf, helpBytes, head, sheetOf}
-use Rattle.meaning.specs.Layout.{downPlace, limitPlace, helpedPlace, headLength, seasonPlace, sheetPlace, sheetLength}
+use Rattle.meaning.specs.Layout.{downPlace, limitPlace, helpedPlace, headLength, seasonPlace, sheetPlace}
 use Rattle.meaning.proofs.Agree.{agree-n}
 use Rattle.meaning.proofs.Rows.{rows-same, rows-parts}
 use Rattle.meaning.proofs.Parts.{part-length, getD-part, part-add, bytes-part}

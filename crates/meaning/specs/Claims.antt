@@ -27,12 +27,12 @@ pub record Claims : Type 0 where
   pub long : (b : List ℕ) → legal b ≡ true → length b ≡ lengthOf (nOf b) (numbersOf b)
   pub length-most : lengthOf 16 4 ≤ 49152
   -- Opening writes the whole buffer: nothing heard, sent, delivered or published, nobody helped.
-  pub opened-fresh : (b : List ℕ) (n s own f d season : ℕ) (sheet : List ℕ) → season < 2 ^ 32 → Bytes sheet
-      → opened b n s own f d season sheet .answer ≡ 0
-      → Means (opened b n s own f d season sheet .book) (freshBook (headed n s own f season (sheetAt sheet 0)) d)
+  pub opened-fresh : (b : List ℕ) (n numbers own f d season : ℕ) (sheet : List ℕ) → season < 2 ^ 32 → Bytes sheet
+      → opened b n numbers own f d season sheet .answer ≡ 0
+      → Means (opened b n numbers own f d season sheet .book) (freshBook (headed n numbers own f season (sheetAt sheet 0)) d)
   -- Every refusal of it leaves the lent buffer byte for byte.
-  pub opened-refused : (b : List ℕ) (n s own f d season : ℕ) (sheet : List ℕ)
-      → (opened b n s own f d season sheet .answer ≡ 0 → ⊥) → opened b n s own f d season sheet .book ≡ b
+  pub opened-refused : (b : List ℕ) (n numbers own f d season : ℕ) (sheet : List ℕ)
+      → (opened b n numbers own f d season sheet .answer ≡ 0 → ⊥) → opened b n numbers own f d season sheet .book ≡ b
   -- One more help counted for a house that was helped less than d times: that count and nothing else changes.
   pub helped : (b : List ℕ) → Lent b → (p : ℕ) → p < nOf b → helpedOf b p < limitOf b
       → Means (countHelp b p) (withHelp (meant b) (moreHelp (helpOf b) p))

@@ -12,7 +12,7 @@ mostNumbers = 4
 
 unfoldable pub numbersOk : ℕ → Bool
 unfolding mostNumbers
-numbersOk s = leb 1 s && leb s mostNumbers
+numbersOk numbers = leb 1 numbers && leb numbers mostNumbers
 
 -- the recovery limit d: 0 to 8
 unfoldable pub mostLimit : ℕ
@@ -43,10 +43,6 @@ limitPlace = 30
 abbrev pub helpedPlace : ℕ → ℕ
 helpedPlace p = 31 + p
 
--- the sheet's bytes
-abbrev pub sheetLength : ℕ
-sheetLength = 22
-
 -- the bytes before the slots
 unfoldable pub headLength : ℕ → ℕ
 headLength n = helpedPlace n
@@ -66,12 +62,12 @@ perEntry n = 2 * n + 3
 -- the slots of a book
 unfoldable pub slotCount : ℕ → ℕ → ℕ
 unfolding perEntry
-slotCount n s = s + s * n * perEntry n
+slotCount n numbers = numbers + numbers * n * perEntry n
 
 -- a length that depends on n and S only
 unfoldable pub lengthOf : ℕ → ℕ → ℕ
 unfolding headLength slotCount
-lengthOf n s = headLength n + slotLength * slotCount n s
+lengthOf n numbers = headLength n + slotLength * slotCount n numbers
 
 -- where slot k of a book of n houses begins
 unfoldable pub slotPlace : ℕ → ℕ → ℕ
@@ -83,9 +79,9 @@ abbrev pub publishedSlot : ℕ → ℕ
 publishedSlot c = c
 
 -- slot i of the entry of number c and sender j, counted over the book
-unfoldable pub entrySlot : (n s c j i : ℕ) → ℕ
+unfoldable pub entrySlot : (n numbers c j i : ℕ) → ℕ
 unfolding perEntry
-entrySlot n s c j i = s + (c * n + j) * perEntry n + i
+entrySlot n numbers c j i = numbers + (c * n + j) * perEntry n + i
 
 -- within an entry
 abbrev pub sendSlot : ℕ

@@ -13,7 +13,7 @@ use Rattle.meaning.specs.Book.{Header, Help, Meaning, write}
 
 -- the header that opening writes
 abbrev pub headed : (n numbers own f season : ℕ) → Sheet → Header
-headed n s own f season sheet = record { n = n; numbers = s; own = own; season = season; sheet = sheet; down = f }
+headed n numbers own f season sheet = record { n = n; numbers = numbers; own = own; season = season; sheet = sheet; down = f }
 
 -- nobody helped yet
 abbrev pub freshHelp : (d : ℕ) → Help
@@ -30,16 +30,16 @@ pub record Opened : Type 0 where
 
 -- 9: n, S, own number, f or d not allowed
 unfoldable pub allowed : (n numbers own f d : ℕ) → Bool
-allowed n s own f d = housesOk n && (numbersOk s && (ltb own n && (downOk n f && leb d mostLimit)))
+allowed n numbers own f d = housesOk n && (numbersOk numbers && (ltb own n && (downOk n f && leb d mostLimit)))
 
 -- Opening: 9, 10, 11; else it writes the whole buffer.
 unfoldable pub opened : List ℕ → (n numbers own f d season : ℕ) → List ℕ → Opened
 unfolding allowed
-opened b n s own f d season sheet =
-    cond (allowed n s own f d)
+opened b n numbers own f d season sheet =
+    cond (allowed n numbers own f d)
     (cond (isSheet sheet)
-    (cond (eqb (length b) (lengthOf n s))
-    (record { answer = 0; book = write (freshBook (headed n s own f season (sheetAt sheet 0)) d) })
+    (cond (eqb (length b) (lengthOf n numbers))
+    (record { answer = 0; book = write (freshBook (headed n numbers own f season (sheetAt sheet 0)) d) })
     (record { answer = 11; book = b }))
     (record { answer = 10; book = b }))
     (record { answer = 9; book = b })
@@ -50,5 +50,5 @@ pub record Length : Type 0 where
   pub length : ℕ
 
 unfoldable pub lengthAnswer : (n numbers : ℕ) → Length
-lengthAnswer n s =
-    cond (housesOk n && numbersOk s) (record { answer = 0; length = lengthOf n s }) (record { answer = 9; length = 0 })
+lengthAnswer n numbers =
+    cond (housesOk n && numbersOk numbers) (record { answer = 0; length = lengthOf n numbers }) (record { answer = 9; length = 0 })

@@ -38,16 +38,16 @@ wire m = fields (m .kind) (m .season) (m .sender) (m .number) (bytesOf (m .decla
 
 -- at i stand a tag and a two-byte length
 abbrev pub fieldAt : List ℕ → ℕ → ℕ → ℕ → Bool
-fieldAt s i tag len = eqb (getD s i 0) tag && eqb (getD s (i + 1) 0 * 256 + getD s (i + 2) 0) len
+fieldAt bytes i tag len = eqb (getD bytes i 0) tag && eqb (getD bytes (i + 1) 0 * 256 + getD bytes (i + 2) 0) len
 
 -- tag 1, length 1; tag 2, length 6; tag 3, length 20
 unfoldable pub tagged : List ℕ → Bool
-tagged s = fieldAt s 0 1 1 && (fieldAt s 4 2 6 && fieldAt s 13 3 20)
+tagged bytes = fieldAt bytes 0 1 1 && (fieldAt bytes 4 2 6 && fieldAt bytes 13 3 20)
 
 -- exactly these, in this order
 unfoldable pub wellFormed : List ℕ → Bool
 unfolding isKind tagged
-wellFormed s = eqb (length s) 36 && (tagged s && isKind (getD s 3 0))
+wellFormed bytes = eqb (length bytes) 36 && (tagged bytes && isKind (getD bytes 3 0))
 
 -- reading alone answers 2 or gives the same five things
 pub record Told : Type 0 where
@@ -62,18 +62,18 @@ malformed = record { answer = 2; five = none }
 
 unfoldable pub fiveAt : List ℕ → Five
 unfolding declarationAt
-fiveAt s =
+fiveAt bytes =
     record {
-      kind = getD s 3 0;
-      season = wordAt s 7;
-      sender = getD s 11 0;
-      number = getD s 12 0;
-      declaration = declarationAt s 16;
+      kind = getD bytes 3 0;
+      season = wordAt bytes 7;
+      sender = getD bytes 11 0;
+      number = getD bytes 12 0;
+      declaration = declarationAt bytes 16;
     }
 
 unfoldable pub readOf : List ℕ → Told
 unfolding wellFormed fiveAt
-readOf s = cond (wellFormed s) (readAs (fiveAt s)) malformed
+readOf bytes = cond (wellFormed bytes) (readAs (fiveAt bytes)) malformed
 
 -- the number and values of each of the reader's cases
 abbrev pub told : Reading → Told
@@ -105,9 +105,9 @@ unfoldable pub requestWire : ℕ → List ℕ
 requestWire season = field 1 (9 ∷ []) ++ field 2 (be32 season)
 
 unfoldable pub isRequest : List ℕ → Bool
-isRequest s = eqb (length s) 11 && (fieldAt s 0 1 1 && (fieldAt s 4 2 4 && eqb (getD s 3 0) 9))
+isRequest bytes = eqb (length bytes) 11 && (fieldAt bytes 0 1 1 && (fieldAt bytes 4 2 4 && eqb (getD bytes 3 0) 9))
 
 -- the season that a request names
 unfoldable pub requestOf : List ℕ → Option ℕ
 unfolding isRequest
-requestOf s = cond (isRequest s) (some (wordAt s 7)) none
+requestOf bytes = cond (isRequest bytes) (some (wordAt bytes 7)) none

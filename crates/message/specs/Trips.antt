@@ -17,7 +17,7 @@ writes kind season sender number d = writtenOf kind season sender number (declar
 
 -- what `gm_read` hands back
 abbrev pub reads : List ℕ → ReadAnswer
-reads s = readAnswer (requestOf s) (readOf s)
+reads bytes = readAnswer (requestOf bytes) (readOf bytes)
 
 -- writing what was read
 abbrev pub writesBack : ReadAnswer → Written
@@ -30,9 +30,10 @@ pub record Trips : Type 0 where
       → reads (writes kind season sender number d .message)
       ≡ record { answer = 0; kind = kind; season = season; sender = sender; number = number; declaration = d }
   -- bytes that read as a message are those that writing what was read gives
-  pub write-undoes-read : (s : List ℕ) → Bytes s → isKind (reads s .kind) ≡ true → writesBack (reads s) ≡ record { answer = 0; message = s }
+  pub write-undoes-read : (bytes : List ℕ) → Bytes bytes → isKind (reads bytes .kind) ≡ true
+      → writesBack (reads bytes) ≡ record { answer = 0; message = bytes }
   -- a request's 11 bytes read as kind 9 and the season alone
   pub read-undoes-request : (season : ℕ) → reads (requestWire season)
       ≡ record { answer = 0; kind = 9; season = season; sender = 0; number = 0; declaration = replicate 20 0 }
   -- bytes that read as kind 9 are a request of the season that was read
-  pub request-undoes-read : (s : List ℕ) → Bytes s → reads s .kind ≡ 9 → s ≡ requestWire (reads s .season)
+  pub request-undoes-read : (bytes : List ℕ) → Bytes bytes → reads bytes .kind ≡ 9 → bytes ≡ requestWire (reads bytes .season)

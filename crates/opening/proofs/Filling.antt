@@ -7,7 +7,8 @@ use native.Mathlib.Numerals.{add-one}
 use lib.ListN.{length, take, drop, length-take, set, replicate, length-drop, length-replicate, getD-replicate, drop-of-length-le}
 use lib.Seq.{paste, paste-suc, take-all, drop-drop, drop-append-add, getD-drop, ext-getD}
 use Rattle.words.specs.Words.{be32}
-use Rattle.meaning.specs.Layout.{sheetPlace, sheetLength, downPlace, limitPlace, helpedPlace}
+use Rattle.sheet.specs.Kept.{sheetLength}
+use Rattle.meaning.specs.Layout.{sheetPlace, downPlace, limitPlace, helpedPlace}
 use Rattle.opening.specs.Parts.{blank}
 
 drop-replicate : (m k : ℕ) → drop {A = ℕ} m (replicate k 0) ≡ replicate (k - m) 0

@@ -7,4 +7,4 @@ use Rattle.meaning.specs.Layout.{helpedPlace}
 
 -- so many bytes: a header with nobody helped, and zeros
 unfoldable pub blank : (size n numbers own f d season : ℕ) → List ℕ → List ℕ
-blank size n s own f d season sheet = n ∷ s ∷ own ∷ be32 season ++ (sheet ++ (f ∷ d ∷ replicate (size - helpedPlace 0) 0))
+blank size n numbers own f d season sheet = n ∷ numbers ∷ own ∷ be32 season ++ (sheet ++ (f ∷ d ∷ replicate (size - helpedPlace 0) 0))

@@ -4,7 +4,8 @@ ghost use mathlib.Core.List.{_∷_};
 ghost use Prim.Native.Nat.{_<_};
 ghost use lib.ListN.{length, replicate};
 ghost use Rattle.words.specs.Words.{be32};
-ghost use Rattle.meaning.specs.Layout.{limitPlace, sheetLength};
+ghost use Rattle.sheet.specs.Kept.{sheetLength};
+ghost use Rattle.meaning.specs.Layout.{limitPlace};
 ghost use Rattle.meaning.specs.Opening.{Opened, opened};
 ghost use Rattle.opening.specs.Parts.{blank};
 

@@ -1,7 +1,7 @@
 -- Copies and requests at the bytes beside the protocol's: each says what the other says, so both are posted, found, consumed and counted
 -- alike.
 use Prim.Native.Nat.{ℕ, zero, suc, _<_}
-use mathlib.Core.Path.{_≡_, refl, ap, _∙_}
+use mathlib.Core.Path.{_≡_, refl, ap, ap₂}
 use mathlib.Core.Bool.{Bool, true, false, cond}
 use mathlib.Core.List.{List, [], _∷_, _++_}
 use mathlib.Core.Option.{Option, none, some}
@@ -40,9 +40,7 @@ read-letter season j c k v = ap (λ (x : Told). x .five) (read-of-wire (fiveFor 
 
 -- and asks for the call that says it
 pub asked-is : (p season j c : ℕ) (k : Kind) (v : Decl) → IsDecl v → asked p (fiveFor season j c k v) ≡ some (receiving p k j c v)
-asked-is p season j c k v d =
-    ap (askedAs p (fiveFor season j c k v)) (kind-is k)
-    ∙ ap (λ (v : Decl). some (receiving p k j c v)) (bytes-of-numbers v (d .long) (d .bytes))
+asked-is p season j c k v d = ap₂ (askedAs p j c) (bytes-of-numbers v (d .long) (d .bytes)) (kind-is k)
 
 -- ---- two lists side by side
 

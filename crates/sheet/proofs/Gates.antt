@@ -8,7 +8,7 @@ use lib.ListN.{length}
 use borrow.Author.Tests.{eqb-true}
 use Rattle.sheet.specs.Sheet.{gateLegal, sheetLegal}
 use Rattle.sheet.specs.declared.Kept.{Kept}
-use Rattle.sheet.specs.Kept.{gateOf, keptForm, keptLegal, keptAt, sheetAt, sheetLegalAt, isSheet}
+use Rattle.sheet.specs.Kept.{sheetLength, gateOf, keptForm, keptLegal, keptAt, sheetAt, sheetLegalAt, isSheet}
 
 pub legal-gate : (k : Kept) → keptLegal k ≡ true → gateLegal (gateOf k) ≡ true
 unfolding keptLegal
@@ -21,10 +21,10 @@ legal-sheet b i h =
     rw (legal-gate (keptAt b (i + 4)) (g .0), legal-gate (keptAt b (i + 13)) (g .1))
 
 module _ (s : List ℕ) (h : isSheet s ≡ true) where
-  pub sheet-sized : length s ≡ 22
+  pub sheet-sized : length s ≡ sheetLength
   unfolding isSheet
-  sheet-sized = eqb-true (length s) 22 (and-eq-true-iff (eqb (length s) 22) (sheetLegalAt s 0) .0 h .0)
+  sheet-sized = eqb-true (length s) sheetLength (and-eq-true-iff (eqb (length s) sheetLength) (sheetLegalAt s 0) .0 h .0)
 
   pub sheet-legal : sheetLegal (sheetAt s 0) ≡ true
   unfolding isSheet
-  sheet-legal = legal-sheet s 0 (and-eq-true-iff (eqb (length s) 22) (sheetLegalAt s 0) .0 h .1)
+  sheet-legal = legal-sheet s 0 (and-eq-true-iff (eqb (length s) sheetLength) (sheetLegalAt s 0) .0 h .1)

@@ -21,7 +21,7 @@ use Rattle.lot.specs.declared.Declaration.{Declaration}
 use Rattle.lot.specs.Declaration.{bytesOf}
 use Rattle.sheet.specs.Sheet.{GateFits, gateLegal, sheetLegal, plausible, judgedBy}
 use Rattle.sheet.specs.Kept.{keptOf, keptBytes, laid, sheetBytes, gateOf, keptForm, keptLegal, keptAt, sheetAt, sheetLegalAt, isSheet}
-use Rattle.sheet.specs.Kept.{judged}
+use Rattle.sheet.specs.Kept.{judged, sheetLength}
 use Rattle.lot.proofs.Declared.{numbers-of-bytes}
 use Rattle.sheet.proofs.Finite.{no-nan, at-most-finite, low-finite, high-finite}
 use Rattle.sheet.proofs.Gates.{legal-gate, sheet-sized}
@@ -164,7 +164,7 @@ module _ (b : List ℕ) (bytes : Bytes b) (h : isSheet b ≡ true) where
   unfolding isSheet sheetLegalAt
   both =
       and-eq-true-iff (keptLegal (keptAt b 4)) (keptLegal (keptAt b 13)) .0
-      (and-eq-true-iff (eqb (length b) 22) (sheetLegalAt b 0) .0 h .1)
+      (and-eq-true-iff (eqb (length b) sheetLength) (sheetLegalAt b 0) .0 h .1)
 
   pub bytes-of-sheet : sheetBytes (sheetAt b 0) ≡ b
   unfolding sheetBytes sheetAt
@@ -174,7 +174,8 @@ module _ (b : List ℕ) (bytes : Bytes b) (h : isSheet b ≡ true) where
       let m = kept-of-gate (keptAt b 4) (small 5) (small 9) (both .0) in
       let c = kept-of-gate (keptAt b 13) (small 14) (small 18) (both .1) in
       ap₂ (laid (wordAt b 0)) m c
-      ∙ sym (listed-is b 22 (sheet-sized b h) ∙ (λ i. w 0 i ++ (getD b 4 0 ∷ w 5 i ++ (w 9 i ++ (getD b 13 0 ∷ w 14 i ++ w 18 i)))))
+      ∙ sym
+      (listed-is b sheetLength (sheet-sized b h) ∙ (λ i. w 0 i ++ (getD b 4 0 ∷ w 5 i ++ (w 9 i ++ (getD b 13 0 ∷ w 14 i ++ w 18 i)))))
 
 -- one byte form per meaning
 pub one-form : (b c : List ℕ) → Bytes b → Bytes c → isSheet b ≡ true → isSheet c ≡ true → sheetAt b 0 ≡ sheetAt c 0 → b ≡ c

@@ -13,16 +13,17 @@ use Rattle.sheet.specs.Kept.{sheetBytes, sheetAt, isSheet, judged}
 
 pub record Claims : Type 0 where
   -- A declaration is plausible exactly when document 01's conditions hold.
-  pub exactly : (s : Sheet) (d : Declaration) → (plausible s d ≡ true) ↔ Plausible s d
+  pub exactly : (sheet : Sheet) (d : Declaration) → (plausible sheet d ≡ true) ↔ Plausible sheet d
   -- So no colonies and no kilograms is plausible: no kilograms, of however many colonies, where the readings are admitted.
-  pub nothing : (s : Sheet) (d : Declaration) → d .kilograms ≡ 0 → admitted s (readingsOf d) ≡ true → plausible s d ≡ true
+  pub nothing : (sheet : Sheet) (d : Declaration) → d .kilograms ≡ 0 → admitted sheet (readingsOf d) ≡ true → plausible sheet d ≡ true
   -- Sheet limits are kept as their bits: the bytes of a sheet read as that sheet,
-  pub sheet-of-bytes : (s : Sheet) → GateFits (s .moisture) → GateFits (s .conductivity) → sheetAt (sheetBytes s) 0 ≡ s
+  pub sheet-of-bytes : (sheet : Sheet) → GateFits (sheet .moisture) → GateFits (sheet .conductivity) → sheetAt (sheetBytes sheet) 0 ≡ sheet
   -- they are a legal sheet's exactly when it is legal,
-  pub legal-bytes : (s : Sheet) → GateFits (s .moisture) → GateFits (s .conductivity) → isSheet (sheetBytes s) ≡ sheetLegal s
+  pub legal-bytes : (sheet : Sheet) → GateFits (sheet .moisture) → GateFits (sheet .conductivity)
+      → isSheet (sheetBytes sheet) ≡ sheetLegal sheet
   -- and judging at the bytes is judging by that sheet.
-  pub judged-bytes : (s : Sheet) → GateFits (s .moisture) → GateFits (s .conductivity) → (d : Declaration)
-      → judged (sheetBytes s) (bytesOf d) ≡ judgedBy s d
+  pub judged-bytes : (sheet : Sheet) → GateFits (sheet .moisture) → GateFits (sheet .conductivity) → (d : Declaration)
+      → judged (sheetBytes sheet) (bytesOf d) ≡ judgedBy sheet d
   -- Bytes that are a legal sheet's are the bytes of the sheet that they read as,
   pub bytes-of-sheet : (b : List ℕ) → Bytes b → isSheet b ≡ true → sheetBytes (sheetAt b 0) ≡ b
   -- so a sheet has one byte form.

@@ -27,7 +27,7 @@ abbrev pub laid : ℕ → Kept → Kept → List ℕ
 laid cap m c = be32 cap ++ (keptBytes m ++ keptBytes c)
 
 unfoldable pub sheetBytes : Sheet → List ℕ
-sheetBytes s = laid (s .cap) (keptOf (s .moisture)) (keptOf (s .conductivity))
+sheetBytes sheet = laid (sheet .cap) (keptOf (sheet .moisture)) (keptOf (sheet .conductivity))
 
 -- a kind is 0 open, 1 at most, 2 between
 unfoldable pub gateOf : Kept → Gate
@@ -37,12 +37,12 @@ gateOf k =
 
 -- the nine bytes of a gate, and the 22 of a sheet, where they stand
 abbrev pub keptAt : List ℕ → ℕ → Kept
-keptAt s i = record { kind = getD s i 0; low = wordAt s (i + 1); high = wordAt s (i + 5) }
+keptAt bytes i = record { kind = getD bytes i 0; low = wordAt bytes (i + 1); high = wordAt bytes (i + 5) }
 
 unfoldable pub sheetAt : List ℕ → ℕ → Sheet
 unfolding gateOf
-sheetAt s i =
-    record { cap = wordAt s i; moisture = gateOf (keptAt s (i + 4)); conductivity = gateOf (keptAt s (i + 13)) }
+sheetAt bytes i =
+    record { cap = wordAt bytes i; moisture = gateOf (keptAt bytes (i + 4)); conductivity = gateOf (keptAt bytes (i + 13)) }
 
 -- a known kind, and zero for each limit that it does not use
 unfoldable pub keptForm : Kept → Bool
@@ -57,11 +57,15 @@ keptLegal k = keptForm k && gateLegal (gateOf k)
 -- the 22 bytes at i are the one form of a legal sheet
 unfoldable pub sheetLegalAt : List ℕ → ℕ → Bool
 unfolding keptLegal
-sheetLegalAt s i = keptLegal (keptAt s (i + 4)) && keptLegal (keptAt s (i + 13))
+sheetLegalAt bytes i = keptLegal (keptAt bytes (i + 4)) && keptLegal (keptAt bytes (i + 13))
+
+-- a sheet's bytes
+abbrev pub sheetLength : ℕ
+sheetLength = 22
 
 unfoldable pub isSheet : List ℕ → Bool
 unfolding sheetLegalAt
-isSheet s = eqb (length s) 22 && sheetLegalAt s 0
+isSheet bytes = eqb (length bytes) sheetLength && sheetLegalAt bytes 0
 
 -- judging at the bytes: bytes that are no legal sheet's are 10, then 5, else 0
 unfoldable pub judged : List ℕ → List ℕ → ℕ

@@ -13,8 +13,8 @@ use Rattle.lot.specs.declared.Declaration.{Declaration}
 -- neither NaN nor infinite
 unfoldable pub finite : Float → Bool
 finite nan = false
-finite (inf s) = false
-finite (fin s m e) = true
+finite (inf sign) = false
+finite (fin sign m e) = true
 
 -- open, at most a limit, or between a low and a high limit; limits count as inside
 unfoldable pub within : Gate → Float → Bool
@@ -38,7 +38,7 @@ gateLegal (Between low high) = finite low && (finite high && not (lt high low))
 
 unfoldable pub sheetLegal : Sheet → Bool
 unfolding gateLegal
-sheetLegal s = gateLegal (s .moisture) && gateLegal (s .conductivity)
+sheetLegal sheet = gateLegal (sheet .moisture) && gateLegal (sheet .conductivity)
 
 -- each limit is a value of binary32, as every `f32` is
 abbrev pub GateFits : Gate → Type 0
@@ -57,25 +57,25 @@ passes g x = finite x && within g x
 
 unfoldable pub admitted : Sheet → Readings → Bool
 unfolding passes
-admitted s r = passes (s .moisture) (r .moisture) && passes (s .conductivity) (r .conductivity)
+admitted sheet r = passes (sheet .moisture) (r .moisture) && passes (sheet .conductivity) (r .conductivity)
 
 -- kilograms is at most colonies times cap (the exact product), and both readings pass
 unfoldable pub plausible : Sheet → Declaration → Bool
 unfolding admitted
-plausible s d = leb (d .kilograms) (d .colonies * s .cap) && admitted s (readingsOf d)
+plausible sheet d = leb (d .kilograms) (d .colonies * sheet .cap) && admitted sheet (readingsOf d)
 
 -- judging takes a sheet and a declaration and answers 10, then 5, else 0
 unfoldable pub judgedBy : Sheet → Declaration → ℕ
 unfolding sheetLegal plausible
-judgedBy s d = cond (sheetLegal s) (cond (plausible s d) 0 5) 10
+judgedBy sheet d = cond (sheetLegal sheet) (cond (plausible sheet d) 0 5) 10
 
 -- a declaration is plausible exactly when all of these hold (proofs/Exactly.antt)
-pub record Plausible (s : Sheet) (d : Declaration) : Type 0 where
+pub record Plausible (sheet : Sheet) (d : Declaration) : Type 0 where
   -- kilograms is at most colonies times cap
-  pub weight : d .kilograms ≤ d .colonies * s .cap
+  pub weight : d .kilograms ≤ d .colonies * sheet .cap
   -- neither reading is NaN or infinite
   pub moisture-finite : finite (ofBits binary32 (d .moisture)) ≡ true
   pub conductivity-finite : finite (ofBits binary32 (d .conductivity)) ≡ true
   -- each reading is within its gate
-  pub moisture-within : within (s .moisture) (ofBits binary32 (d .moisture)) ≡ true
-  pub conductivity-within : within (s .conductivity) (ofBits binary32 (d .conductivity)) ≡ true
+  pub moisture-within : within (sheet .moisture) (ofBits binary32 (d .moisture)) ≡ true
+  pub conductivity-within : within (sheet .conductivity) (ofBits binary32 (d .conductivity)) ≡ true

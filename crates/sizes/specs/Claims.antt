@@ -8,5 +8,5 @@ use Rattle.sizes.specs.declared.LengthAnswer.{LengthAnswer}
 -- Two outcomes that meet the contract of `length_of` are equal.
 pub record Claims : Type 0 where
   -- A public answer gives that length, or answer 9.
-  pub length-settled : (n s : ℕ)
-      → Settled (λ (r : LengthAnswer). _≡_ {A = Length} (record { answer = r .answer; length = r .length }) (lengthAnswer n s))
+  pub length-settled : (n numbers : ℕ)
+      → Settled (λ (r : LengthAnswer). _≡_ {A = Length} (record { answer = r .answer; length = r .length }) (lengthAnswer n numbers))

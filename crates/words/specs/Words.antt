@@ -6,7 +6,7 @@ use Rattle.words.specs.declared.Quad.{Quad}
 
 -- each element is a byte
 abbrev pub Bytes : List ℕ → Type 0
-Bytes s = (i : ℕ) → getD s i 0 < 256
+Bytes bytes = (i : ℕ) → getD bytes i 0 < 256
 
 -- the four bytes of a number, the highest first
 abbrev pub quadOf : ℕ → Quad
@@ -25,4 +25,4 @@ word a b c d = a * 16777216 + b * 65536 + c * 256 + d
 
 -- the number whose four bytes stand at i
 abbrev pub wordAt : List ℕ → ℕ → ℕ
-wordAt s i = word (getD s i 0) (getD s (i + 1) 0) (getD s (i + 2) 0) (getD s (i + 3) 0)
+wordAt bytes i = word (getD bytes i 0) (getD bytes (i + 1) 0) (getD bytes (i + 2) 0) (getD bytes (i + 3) 0)
