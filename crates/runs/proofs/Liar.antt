@@ -1,7 +1,7 @@
 -- The run of four houses with a liar: the premises of the claims are met, and without the help nobody delivers.
 use mathlib.Core.Path.{_≡_, refl, sym, ap, subst, _∙_}
 use mathlib.Core.Bool.{Bool, true, false, not, cond, _&&_}
-use mathlib.Core.List.{List, [], _∷_, _++_}
+use mathlib.Core.List.{List, [], _∷_}
 use Prim.Native.Nat.{ℕ, _≤_}
 use native.Mathlib.Omega.{arith}
 use lib.Dec.{eqb, ltb, lit<, lit≤}
@@ -15,8 +15,8 @@ use Rattle.meaning.specs.Layout.{mostLimit}
 use Rattle.season.specs.Run.{State, Open}
 use Rattle.season.proofs.Calls.{wall, Means}
 use Rattle.season.proofs.Season.{downs-same, copies-same, copies-left, requests-left}
-use Rattle.runs.specs.Sample.{sample, consumeFrom}
-use Rattle.runs.specs.Liar.{houses, before, steps, end, unhelped, delivered, Seen, seen, met, Met}
+use Rattle.runs.specs.Sample.{sample}
+use Rattle.runs.specs.Liar.{houses, steps, end, unasked, unhelped, delivered, Seen, seen, met, Met}
 use Rattle.runs.proofs.Sample.{sample-open}
 use Rattle.runs.proofs.Means.{endOf, means, helped-is, heard-is}
 
@@ -67,8 +67,8 @@ told-met : told (endOf houses steps) ≡ met
 unfolding houses steps endOf
 told-met = refl
 
-told-nothing : told-deliveries (endOf houses (before ++ consumeFrom 4 29)) ≡ [] ∷ [] ∷ [] ∷ []
-unfolding houses before consumeFrom endOf
+told-nothing : told-deliveries (endOf houses unasked) ≡ [] ∷ [] ∷ [] ∷ []
+unfolding houses unasked endOf
 told-nothing = refl
 
 computed : seen end ≡ met
@@ -77,8 +77,7 @@ computed = seen-told end (endOf houses steps) (means houses opened steps) ∙ to
 
 unhelped-nothing : delivered unhelped ≡ [] ∷ [] ∷ [] ∷ []
 unfolding unhelped
-unhelped-nothing =
-    let l = before ++ consumeFrom 4 29 in deliveries-told unhelped (endOf houses l) (means houses opened l) ∙ told-nothing
+unhelped-nothing = deliveries-told unhelped (endOf houses unasked) (means houses opened unasked) ∙ told-nothing
 
 at-one : (b : Bool) → cond b 1 0 ≤ 1
 at-one true = omega arith
