@@ -279,6 +279,9 @@ module _ (H : Houses) where
         after : State
         after = receives H r p message s (s .mail)
 
+        test : protocol.underWrong (wall H) z p r ≡ t
+        test = ap (λ (t : Bool). t && isWrong H p) (up-is r)
+
         honest : t ≡ true → T (isHonest H r)
         honest e = and-l (isHonest H r) (not (s .power .down r)) (and-l (isUp H s r) (isWrong H p) (T-of e))
 
@@ -287,7 +290,7 @@ module _ (H : Houses) where
 
         goes : (z₂ : protocol.State) → (T (isHonest H r) → Means H after z₂)
             → Means H (cond t after s) (cond (protocol.underWrong (wall H) z p r) z₂ z)
-        goes z₂ f = rw (up-is r) (if-means t s after z z₂ M (λ e. f (honest e)))
+        goes z₂ f = rw test (if-means t s after z z₂ M (λ e. f (honest e)))
 
         Ends : Option protocol.Step → Type 0
         Ends x = Means H (cond t after s) (stepped H x z)
