@@ -5,14 +5,14 @@ use mathlib.Core.Path.{_≡_, sym, ap}
 use mathlib.Core.Bool.{true}
 use mathlib.Core.List.{List}
 use lib.Dec.{T, ltb}
-use lib.Ieee.{ofBits, le}
+use lib.Ieee.{ofBits}
 use borrow.Author.Tests.{lt-ltb}
 use native.Mathlib.Omega.{arith}
-use Rattle.card.specs.Card.{tolerated, fitting, quorum, amplify, deliver}
-use Rattle.lot.specs.Declaration.{declarationAt, bytesOf}
+use Rattle.card.specs.Card.{fitting, quorum, amplify, deliver}
+use Rattle.lot.specs.Declaration.{bytesOf}
 use Rattle.sheet.specs.Sheet.{plausible}
 use Rattle.sheet.specs.Kept.{sheetAt}
-use Rattle.message.specs.Message.{wire, readOf, requestOf, requestWire, isKind}
+use Rattle.message.specs.Message.{wire, readOf, requestOf}
 use Rattle.entry.specs.Entry.{Kind, SEND, ECHO, READY, Entry, heard, same}
 use Rattle.protocol.specs.Steps.{publishes, takesSend, takesEcho, takesReady, recording, receive, publish}
 use Rattle.protocol.specs.Book.{Book, outcome, after}
@@ -24,13 +24,11 @@ use Rattle.calls.specs.Entered.{okBy}
 use Rattle.season.specs.Run.{Houses, isHonest, Open, State, Step, start, run}
 use Rattle.season.proofs.Calls.{wall, n-is, numbers-is, Means}
 use Rattle.season.proofs.Steps.{stepsOf, season-means}
-use Rattle.runs.specs.Sample.{sample}
 
 -- the protocol's state at the end of the run that these steps mean; with this unfolded it computes
 unfoldable pub endOf : Houses → List Step → protocol.State
-unfolding sample wallOf tolerated fitting quorum amplify deliver okBy plausible declarationAt bytesOf sheetAt le ofBits
-    wire readOf requestOf requestWire isKind protocol.run protocol.step protocol.called protocol.consumes protocol.helpAnswer outcome
-    after publish publishes receive recording takesSend takesEcho takesReady same
+unfolding wallOf fitting quorum amplify deliver okBy plausible bytesOf sheetAt ofBits wire readOf requestOf protocol.run protocol.step
+    protocol.called protocol.consumes outcome after publish publishes receive recording takesSend takesEcho takesReady same
 endOf H l = protocol.run (wall H) (stepsOf H l) protocol.start
 
 pub means : (H : Houses) → Open H → (l : List Step) → Means H (run H l (start H)) (endOf H l)
