@@ -1,4 +1,5 @@
 pub mod Sample
+pub mod Means
 pub mod PowerCut
 pub mod Liar
 pub mod Plain

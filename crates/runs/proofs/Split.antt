@@ -1,51 +1,82 @@
--- The run with a lying sender, computed at the bytes: the premises of the claims are met, and so what they claim comes of it.
-use mathlib.Core.Path.{_≡_, refl, sym, ap, subst}
+-- The run with a lying sender: the premises of the claims are met, and so what they claim comes of it.
+use mathlib.Core.Path.{_≡_, refl, sym, ap, subst, _∙_}
+use mathlib.Core.Bool.{not, _&&_}
 use mathlib.Core.List.{List, [], _∷_}
 use Prim.Native.Nat.{ℕ, _≤_}
-use lib.Dec.{ltb, lit<, lit≤}
-use lib.Ieee.{ofBits, le}
-use Rattle.card.specs.Card.{tolerated, fitting, downOk, mostDown, quorum, amplify, deliver}
+use lib.Dec.{T, ltb, lit<, lit≤}
+use Rattle.card.specs.Card.{tolerated, fitting, downOk, mostDown}
 use Rattle.card.specs.Card as card
-use Rattle.lot.specs.Declaration.{declarationAt, bytesOf}
-use Rattle.sheet.specs.Sheet.{plausible}
-use Rattle.sheet.specs.Kept.{sheetBytes, sheetAt, isSheet}
-use Rattle.message.specs.Message.{wire, readOf, requestOf, requestWire, isKind}
-use Rattle.entry.specs.Entry.{same}
-use Rattle.protocol.specs.Steps.{publishes, takesSend, takesEcho, takesReady, recording, receive, publish}
-use Rattle.protocol.specs.Book.{outcome}
-use Rattle.protocol.specs.Run.{helpAnswer}
-use Rattle.protocol.specs.Thresholds.{rulesOf}
-use Rattle.meaning.specs.Slot.{slotAt}
-use Rattle.meaning.specs.Layout.{numbersOk, mostLimit, lengthOf, entrySlot}
-use Rattle.meaning.specs.Book.{helpedOf, countHelp, meant, write}
-use Rattle.meaning.specs.Legal.{legal}
-use Rattle.meaning.specs.Opening.{opened}
-use Rattle.calls.specs.Call.{published, received}
-use Rattle.calls.specs.Again.{returned, sentOf}
-use Rattle.season.specs.Run.{run}
+use Rattle.entry.specs.Entry.{SEND}
+use Rattle.entry.specs.Lists.{tally}
+use Rattle.protocol.specs.Run as protocol
+use Rattle.protocol.specs.Thresholds.{downs}
+use Rattle.meaning.specs.Layout.{mostLimit, sendSlot}
+use Rattle.meaning.specs.Book.{slotIn}
+use Rattle.season.specs.Run.{isHonest, Open, State}
+use Rattle.season.specs.Claims.{Everywhere}
+use Rattle.season.proofs.Calls.{wall, Means}
+use Rattle.season.proofs.Season.{downs-same, copies-same, readies-counted, copies-left, requests-left, claims}
 use Rattle.runs.specs.Sample.{sample, lot}
 use Rattle.runs.specs.Split.{houses, steps, end, Seen, seen, met, Met}
-use Rattle.season.specs.Claims.{Everywhere}
-use Rattle.season.proofs.Season.{claims}
 use Rattle.runs.proofs.Sample.{sample-open}
+use Rattle.runs.proofs.Means.{endOf, means, heard-is}
+
+opened : Open houses
+unfolding houses sample fitting tolerated card.housesOk downOk mostDown mostLimit
+opened = sample-open 4 0 0 (λ p. ltb 0 p) refl refl refl
+
+-- what is read off the protocol's state
+abbrev told : protocol.State → Seen
+told z =
+    record {
+      heard = z .gave .books 1 0 0 .send ∷ z .gave .books 2 0 0 .send ∷ z .gave .books 3 0 0 .send ∷ [];
+      deliveries = z .gave .deliveries 1 0 0 ∷ z .gave .deliveries 2 0 0 ∷ z .gave .deliveries 3 0 0 ∷ [];
+      copies = protocol.copies 0 0 z;
+      readies = protocol.readies 0 0 z;
+      left = protocol.copiesOf 0 0 (λ m. protocol.upCopy (wall houses) z m && not (m .consumed)) (z .mail);
+      requests = tally (λ m. protocol.upRequest (wall houses) z m && not (m .consumed)) (z .power .requests);
+      down = downs (wall houses) z;
+      returned = z .power .returned;
+    }
+
+seen-told : (s : State) (z : protocol.State) → Means houses s z → seen s ≡ told z
+unfolding seen houses sample
+seen-told s z M =
+    λ i.
+    let d = sym (M .gave .deliveries) i in
+    record {
+      heard = send 1 tt i ∷ send 2 tt i ∷ send 3 tt i ∷ [];
+      deliveries = d 1 0 0 ∷ d 2 0 0 ∷ d 3 0 0 ∷ [];
+      copies = copies-same houses s z M 0 0 i;
+      readies = readies-counted houses s z M 0 0 i;
+      left = copies-left houses s z M 0 0 i;
+      requests = requests-left houses s z M 0 0 i;
+      down = sym (downs-same houses s z M) i;
+      returned = sym (M .returned) i;
+    }
+  where
+    send : (r : ℕ) → T (isHonest houses r) → slotIn (s .gave .books r) 0 0 sendSlot ≡ z .gave .books r 0 0 .send
+    send r t = heard-is houses s z M r t 0 0 (lit< tt) (lit< tt) SEND 0 (lit< tt)
+
+-- the protocol's run, computed
+told-met : told (endOf houses steps) ≡ met
+unfolding houses steps endOf
+told-met = refl
 
 computed : seen end ≡ met
-unfolding end seen run published received opened card.housesOk numbersOk mostLimit downOk mostDown legal meant write sheetAt sheetBytes
-    isSheet slotAt entrySlot lengthOf helpedOf countHelp returned sentOf plausible declarationAt readOf requestOf requestWire wire
-    bytesOf outcome publish publishes receive recording takesSend takesEcho takesReady helpAnswer rulesOf tolerated fitting quorum
-    amplify deliver same le ofBits isKind
-computed = refl
+unfolding end
+computed = seen-told end (endOf houses steps) (means houses opened steps) ∙ told-met
 
 abbrev first : List (List (List ℕ)) → List (List ℕ)
 first [] = []
 first (x ∷ l) = x
 
 pub split : Met
-unfolding houses sample seen fitting tolerated card.housesOk downOk mostDown mostLimit
+unfolding houses sample seen fitting tolerated
 split =
     record {
       computed = computed;
-      opened = sample-open 4 0 0 (λ p. ltb 0 p) refl refl refl;
+      opened = opened;
       few = lit≤ tt;
       limited = λ r t. subst (λ (f : ℕ → ℕ). f r ≤ 0) (sym (ap (λ (x : Seen). x .returned) computed)) (lit≤ tt);
       low = subst (λ (x : ℕ). x ≤ 0) (sym (ap (λ (x : Seen). x .down) computed)) (lit≤ tt);

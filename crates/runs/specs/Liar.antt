@@ -37,9 +37,13 @@ unfolding houses steps
 end = run houses steps (start houses)
 
 -- the same, where the requests do not come
+unfoldable pub unasked : List Step
+unfolding before consumeFrom
+unasked = before ++ consumeFrom 4 29
+
 unfoldable pub unhelped : State
-unfolding houses before consumeFrom
-unhelped = run houses (before ++ consumeFrom 4 29) (start houses)
+unfolding houses unasked
+unhelped = run houses unasked (start houses)
 
 abbrev pub delivered : State → List (List (List ℕ))
 delivered s = s .gave .deliveries 0 0 0 ∷ s .gave .deliveries 1 0 0 ∷ s .gave .deliveries 2 0 0 ∷ []

@@ -88,11 +88,11 @@ module _ (H : Houses) where
     pub limit : limitOf b ≡ H .limit
 
   module _ (r : ℕ) (b : List ℕ) (K : IsOf r b) where
-    n-is : nOf b ≡ H .n
+    pub n-is : nOf b ≡ H .n
     unfolding headerOf
     n-is = ap (λ (h : Header). h .n) (K .header)
 
-    numbers-is : numbersOf b ≡ H .numbers
+    pub numbers-is : numbersOf b ≡ H .numbers
     unfolding headerOf
     numbers-is = ap (λ (h : Header). h .numbers) (K .header)
 

@@ -48,7 +48,7 @@ use Rattle.season.proofs.Mail.{Says, says-on-it, says-ready, Asks, Both
 use Rattle.season.proofs.Calls.{wall, Means, answer-is, asked-answer}
 use Rattle.season.proofs.Outbox.{reads, outbox, sent}
 use Rattle.season.proofs.Steps as steps-proofs
-use Rattle.season.proofs.Steps.{copy-called, up-is, consumption-means, season-means}
+use Rattle.season.proofs.Steps.{stepsOf, copy-called, up-is, consumption-means, season-means}
 
 -- what the steps take for plausible, judging answers 0
 judged-zero : (sheet v : List ℕ) → isSheet sheet ≡ true → T (okBy (sheetAt sheet 0) v) → judged sheet v ≡ 0
@@ -78,7 +78,7 @@ module _ (H : Houses) (s : State) (z : protocol.State) (M : Means H s z) where
   unfolding wallOf rulesOf
   between-same m x S = honest-both (m .from) (m .to) (x .from) (x .to) (S .from) (S .to)
 
-  downs-same : downs (wall H) z ≡ season.downs H s
+  pub downs-same : downs (wall H) z ≡ season.downs H s
   unfolding wallOf rulesOf
   downs-same = λ i. count (λ p. isHonest H p && M .down i p) (H .n)
 
@@ -118,10 +118,10 @@ module _ (H : Houses) (s : State) (z : protocol.State) (M : Means H s z) where
         mails-tally (Says (H .season)) (λ m. onIt j c m && P m) (λ x. protocol.onIt j c x && Q x)
         (λ m x S. ap₂ _&&_ (says-on-it (H .season) j c m x S) (f m x S)) (s .mail) (z .mail) (M .mail)
 
-    copies-same : copies j c s ≡ protocol.copies j c z
+    pub copies-same : copies j c s ≡ protocol.copies j c z
     copies-same = counted (λ m. true) (λ x. true) (λ m x S. refl)
 
-    between-counted : between H j c s ≡ protocol.between (wall H) j c z
+    pub between-counted : between H j c s ≡ protocol.between (wall H) j c z
     between-counted = counted (isBetween H) (protocol.isBetween (wall H)) between-same
 
     consumed-counted : consumedBetween H j c s ≡ protocol.consumedBetween (wall H) j c z
@@ -129,16 +129,16 @@ module _ (H : Houses) (s : State) (z : protocol.State) (M : Means H s z) where
         counted (λ m. isBetween H m && m .consumed) (λ x. protocol.isBetween (wall H) x && x .consumed)
         (λ m x S. ap₂ _&&_ (between-same m x S) (S .consumed))
 
-    readies-counted : readies j c s ≡ protocol.readies j c z
+    pub readies-counted : readies j c s ≡ protocol.readies j c z
     readies-counted = counted isReady (λ x. sameKind READY (x .kind)) (says-ready (H .season))
 
-    copies-left : copiesOf j c (λ m. upBetween H s m && not (m .consumed)) s
+    pub copies-left : copiesOf j c (λ m. upBetween H s m && not (m .consumed)) s
         ≡ protocol.copiesOf j c (λ x. protocol.upCopy (wall H) z x && not (x .consumed)) (z .mail)
     copies-left =
         counted (λ m. upBetween H s m && not (m .consumed)) (λ x. protocol.upCopy (wall H) z x && not (x .consumed))
         (λ m x S. ap₂ (λ (a b : Bool). a && not b) (up-both (m .from) (m .to) (x .from) (x .to) (S .from) (S .to)) (S .consumed))
 
-    requests-left : tally (λ m. upBetween H s m && not (m .consumed)) (s .power .requests)
+    pub requests-left : tally (λ m. upBetween H s m && not (m .consumed)) (s .power .requests)
         ≡ tally (λ x. protocol.upRequest (wall H) z x && not (x .consumed)) (z .power .requests)
     requests-left =
         mails-tally (Asks (H .season)) (λ m. upBetween H s m && not (m .consumed))
@@ -152,16 +152,16 @@ module _ (H : Houses) (s : State) (z : protocol.State) (M : Means H s z) where
     drained-from : protocol.Drained (wall H) j c z → Drained H j c s
     drained-from D = record { copies = copies-left ∙ D .copies; requests = requests-left ∙ D .requests }
 
-    unconsumed-counted : copiesOf j c (λ m. isBetween H m && not (m .consumed)) s
+    pub unconsumed-counted : copiesOf j c (λ m. isBetween H m && not (m .consumed)) s
         ≡ protocol.copiesOf j c (λ x. protocol.isBetween (wall H) x && not (x .consumed)) (z .mail)
     unconsumed-counted =
         counted (λ m. isBetween H m && not (m .consumed)) (λ x. protocol.isBetween (wall H) x && not (x .consumed))
         (λ m x S. ap₂ (λ (a b : Bool). a && not b) (between-same m x S) (S .consumed))
 
-    deliveries-same : (r : ℕ) → z .gave .deliveries r j c ≡ s .gave .deliveries r j c
+    pub deliveries-same : (r : ℕ) → z .gave .deliveries r j c ≡ s .gave .deliveries r j c
     deliveries-same r = ap (λ (f : Noted). f r j c) (M .gave .deliveries)
 
-    publications-same : z .gave .publications j j c ≡ s .gave .publications j j c
+    pub publications-same : z .gave .publications j j c ≡ s .gave .publications j j c
     publications-same = ap (λ (f : Noted). f j j c) (M .gave .publications)
 
 module _ (H : Houses) (O : Open H) (l : List Step) (j c : ℕ) (hj : j < H .n) (hc : c < H .numbers) where
@@ -169,13 +169,13 @@ module _ (H : Houses) (O : Open H) (l : List Step) (j c : ℕ) (hj : j < H .n) (
   s = run H l (start H)
 
   abbrev steps : List protocol.Step
-  steps = season-means H O l .0
+  steps = stepsOf H l
 
   abbrev z : protocol.State
   z = protocol.run (wall H) steps protocol.start
 
   M : Means H s z
-  M = season-means H O l .1
+  M = season-means H O l
 
   -- what opening answered 0 shows
   fits : (r : ℕ) → T (isHonest H r) → 2 * H .down < H .n

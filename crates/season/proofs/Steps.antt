@@ -1,4 +1,5 @@
--- A step of a run at the bytes is a step of the protocol's run or leaves it; so every run at the bytes means a run of the protocol.
+-- A step of a run at the bytes is a step of the protocol's run or leaves it; so every run at the bytes means a run of the protocol, whose
+-- steps are told from its own.
 use Prim.Native.Nat.{ℕ, suc}
 use mathlib.Core.Path.{_≡_, refl, sym, ap, subst, _∙_}
 use mathlib.Core.Logic.{_⊎_, inl, inr, ⊎-elim}
@@ -7,7 +8,7 @@ use mathlib.Core.List.{List, [], _∷_, _++_}
 use mathlib.Core.Option.{Option, none, some}
 use native.Mathlib.Decide.{ℕ-discrete}
 use lib.Dec.{T, eqb}
-use borrow.Author.Tests.{eq-eqb}
+use borrow.Author.Tests.{eqb-true, eqb-false, eq-eqb}
 use Rattle.lot.specs.Declaration.{bytesOf}
 use Rattle.message.specs.Message.{Five, readOf, requestOf}
 use Rattle.message.proofs.Request.{request-of-wire, request-unread, message-unasked}
@@ -16,7 +17,7 @@ use Rattle.meaning.specs.Legal.{legal}
 use Rattle.meaning.specs.Opening.{freshBook}
 use Rattle.meaning.proofs.Opening.{opened-legal, opened-bytes, opened-meant}
 use Rattle.entry.specs.Entry.{Decl, fresh, Kind}
-use Rattle.entry.specs.Lists.{upd, at, each}
+use Rattle.entry.specs.Lists.{upd, at, each, push}
 use Rattle.protocol.specs.Book.{Call, publishing, receiving, senderOf, numberOf, publication}
 use Rattle.protocol.specs.Run as protocol
 use Rattle.protocol.specs.Claims as protocol-claims
@@ -34,12 +35,47 @@ use Rattle.season.proofs.Mail.{mails-changed, mails-requests}
 use Rattle.season.proofs.Calls.{publication-of, wall, header, IsOf, season-is, Means, call-means, sends-is, refusal-means}
 use Rattle.season.proofs.Calls.{again-means, request-means, other-means}
 
+-- ---- the step of the protocol that a step means, or none
+
+-- a message from house p to house r that asks for a call of the kind
+abbrev calledAs : (from house : ℕ) → Five → Option Kind → Option protocol.Step
+calledAs p r m none = none
+calledAs p r m (some k) = some (protocol.wrong p r k (m .sender) (m .number) (bytesOf (m .declaration)))
+
+-- any bytes: a request of the season, or a message of it
+abbrev heardAs : (season from house : ℕ) → Option ℕ → Option Five → Option protocol.Step
+heardAs season p r (some asked) x = cond (eqb asked season) (some (protocol.plead p r)) none
+heardAs season p r none none = none
+heardAs season p r none (some m) = cond (eqb (m .season) season) (calledAs p r m (kindOf (m .kind))) none
+
+abbrev stepOf : Houses → Step → Option protocol.Step
+stepOf H (publish r c v) = some (protocol.publish r c v)
+stepOf H (consume i) = some (protocol.consume i)
+stepOf H (wrong p r message) = heardAs (H .season) p r (requestOf message) (readOf message .five)
+stepOf H (crash r) = some (protocol.crash r)
+stepOf H (comeback r) = some (protocol.comeback r)
+stepOf H (help i) = some (protocol.help i)
+
+abbrev pub stepsOf : Houses → List Step → List protocol.Step
+stepsOf H [] = []
+stepsOf H (a ∷ l) = push (stepOf H a) (stepsOf H l)
+
+-- none leaves the state
+abbrev stepped : Houses → Option protocol.Step → protocol.State → protocol.State
+stepped H none z = z
+stepped H (some x) z = protocol.step (wall H) x z
+
 module _ (H : Houses) where
   -- where both runs test the same
   if-means : (t : Bool) (s s₂ : State) (z z₂ : protocol.State) → Means H s z → (t ≡ true → Means H s₂ z₂)
       → Means H (cond t s₂ s) (cond t z₂ z)
   if-means true s s₂ z z₂ M f = f refl
   if-means false s s₂ z z₂ M f = M
+
+  -- where the protocol's run stays
+  alone-means : (t : Bool) (s s₂ : State) (z : protocol.State) → Means H s z → (t ≡ true → Means H s₂ z) → Means H (cond t s₂ s) z
+  alone-means true s s₂ z M f = f refl
+  alone-means false s s₂ z M f = M
 
   -- ---- receiving
 
@@ -95,45 +131,42 @@ module _ (H : Houses) where
     help-means p message e =
         rw (heard r p b message K, request-unread message (H .season) e, e) (request-means H r s z M honest p)
 
-    -- any bytes: no step of the protocol, the call that they ask for, or a request
-    wrong-means : (p : ℕ) (message : List ℕ)
-        → Means H (receives H r p message s (s .mail)) z
-        ⊎ (((k : Kind) × (m : Five) × Means H (receives H r p message s (s .mail)) (protocol.called (wall H) r (says p k m) z (z .mail)))
-        ⊎ Means H (receives H r p message s (s .mail)) (protocol.helps (wall H) r p z))
-    unfolding receives
-    wrong-means p message = any (requestOf message) refl
-      where
-        after : State
-        after = receives H r p message s (s .mail)
+    -- any other bytes: refused, or the call that they ask for
+    module _ (p : ℕ) (message : List ℕ) where
+      abbrev after : State
+      after = receives H r p message s (s .mail)
 
-        Ends : Type 0
-        Ends =
-            Means H after z
-            ⊎ (((k : Kind) × (m : Five) × Means H after (protocol.called (wall H) r (says p k m) z (z .mail)))
-            ⊎ Means H after (protocol.helps (wall H) r p z))
+      other-request : (season : ℕ) → requestOf message ≡ some season → eqb season (H .season) ≡ false → Means H after z
+      unfolding receives
+      other-request season e q =
+          rw (heard r p b message K, request-unread message season e, e)
+          (other-means H r s z M honest p season (eqb-false season (H .season) q))
 
-        left : (x : Option Five) → State
-        left x = ended r (namedBy x) (heardFrom b p x) none s (s .mail ++ sends H r p (heardFrom b p x))
+      module _ (e : requestOf message ≡ none) where
+        unread : readOf message .five ≡ none → Means H after z
+        unfolding receives
+        unread f = rw (heard r p b message K, e, f) (refusal-means H r s z M honest nothing 2)
 
-        asking : (m : Five) (o : Option Kind) → kindOf (m .kind) ≡ o → eqb (m .season) (seasonOf b) ≡ true → after ≡ left (some m) → Ends
-        asking m none f e q = inl (rw (q, e, f) (refusal-means H r s z M honest (entry (m .sender) (m .number)) 2))
-        asking m (some k) f e q = inr (inl (k, m, rw (q, e, f) (called-means p (says p k m) refl (s .mail) (z .mail) (M .mail))))
+        module _ (m : Five) (f : readOf message .five ≡ some m) where
+          season-same : eqb (m .season) (seasonOf b) ≡ eqb (m .season) (H .season)
+          season-same = ap (eqb (m .season)) (season-is H r b K)
 
-        in-season : (m : Five) (t : Bool) → eqb (m .season) (seasonOf b) ≡ t → after ≡ left (some m) → Ends
-        in-season m true e q = asking m (kindOf (m .kind)) refl e q
-        in-season m false e q = inl (rw (q, e) (refusal-means H r s z M honest (entry (m .sender) (m .number)) 3))
+          other-season : eqb (m .season) (H .season) ≡ false → Means H after z
+          unfolding receives
+          other-season q =
+              rw (heard r p b message K, e, f, season-same, q) (refusal-means H r s z M honest (entry (m .sender) (m .number)) 3)
 
-        five : (x : Option Five) → after ≡ left x → Ends
-        five none q = inl (rw q (refusal-means H r s z M honest nothing 2))
-        five (some m) q = in-season m (eqb (m .season) (seasonOf b)) refl q
+          module _ (q : eqb (m .season) (H .season) ≡ true) where
+            no-kind : kindOf (m .kind) ≡ none → Means H after z
+            unfolding receives
+            no-kind g =
+                rw (heard r p b message K, e, f, season-same, q, g) (refusal-means H r s z M honest (entry (m .sender) (m .number)) 2)
 
-        any : (o : Option ℕ) → requestOf message ≡ o → Ends
-        any none e = five (readOf message .five) (rw (heard r p b message K, e))
-        any (some season) e = go (ℕ-discrete season (H .season))
-          where
-            go : Dec (season ≡ H .season) → Ends
-            go (yes q) = inr (inr (help-means p message (e ∙ ap some q)))
-            go (no f) = inl (rw (heard r p b message K, request-unread message season e, e) (other-means H r s z M honest p season f))
+            call-asked : (k : Kind) → kindOf (m .kind) ≡ some k
+                → Means H after (protocol.called (wall H) r (says p k m) z (z .mail))
+            unfolding receives
+            call-asked k g =
+                rw (heard r p b message K, e, f, season-same, q, g) (called-means p (says p k m) refl (s .mail) (z .mail) (M .mail))
 
   request-is : (r : ℕ) (b : List ℕ) → IsOf H r b → requestOf (returned b .request) ≡ some (H .season)
   unfolding returned
@@ -234,69 +267,87 @@ module _ (H : Houses) where
               (mails-requests (H .season) r (returned b .request) (request-is r b K) (H .n));
         }
 
-    step-means : (a : Step) → Means H (step H a s) z ⊎ ((x : protocol.Step) × Means H (step H a s) (protocol.step (wall H) x z))
+    -- any bytes, under a wrong house's number
+    wrong-means : (p r : ℕ) (message : List ℕ)
+        → Means H (step H (wrong p r message) s) (stepped H (stepOf H (wrong p r message)) z)
     unfolding step protocol.step wallOf rulesOf
-    step-means (publish r c v) =
-        inr (
-          protocol.publish r c v,
-          rw (up-is r)
-              (if-means (isUp H s r) s _ z _ M (λ t. publish-means r s z M (and-l (isHonest H r) (not (s .power .down r)) (T-of t)) c v)),
-        )
-    step-means (consume i) =
-        inr (
-          protocol.consume i,
-          consumes-means i (at (s .mail) i) (at (z .mail) i) (mails-at (Says (H .season)) (s .mail) (z .mail) (M .mail) i),
-        )
-    step-means (crash r) = inr (protocol.crash r, rw (up-is r) (if-means (isUp H s r) s _ z _ M (λ t. goes-means r)))
-    step-means (comeback r) =
-        inr (
-          protocol.comeback r,
-          rw (down-is r)
-              (if-means (isHonest H r && s .power .down r) s _ z _ M
-              (λ t. comes-means r (and-l (isHonest H r) (s .power .down r) (T-of t)))),
-        )
-    step-means (help i) =
-        inr (
-          protocol.help i,
-          asks-means i (at (s .power .requests) i) (at (z .power .requests) i)
-              (mails-at (Asks (H .season)) (s .power .requests) (z .power .requests) (M .requests) i),
-        )
-    step-means (wrong p r message) = go (underWrong H s p r) refl
+    wrong-means p r message = any (requestOf message) (readOf message .five) refl refl
       where
+        t : Bool
+        t = underWrong H s p r
+
         after : State
         after = receives H r p message s (s .mail)
 
-        test : protocol.underWrong (wall H) z p r ≡ underWrong H s p r
+        test : protocol.underWrong (wall H) z p r ≡ t
         test = ap (λ (t : Bool). t && isWrong H p) (up-is r)
 
-        Ends : Bool → Type 0
-        Ends t = Means H (cond t after s) z ⊎ ((x : protocol.Step) × Means H (cond t after s) (protocol.step (wall H) x z))
+        honest : t ≡ true → T (isHonest H r)
+        honest e = and-l (isHonest H r) (not (s .power .down r)) (and-l (isUp H s r) (isWrong H p) (T-of e))
 
-        go : (t : Bool) → underWrong H s p r ≡ t → Ends t
-        go false e = inl M
-        go true e =
-            ⊎-elim inl
-            (λ w. inr (⊎-elim
-            (λ x. let m = x .1 in (
-              protocol.wrong p r (x .0) (m .sender) (m .number) (bytesOf (m .declaration)),
-              subst (λ (t : Bool). Means H after (cond t (protocol.called (wall H) r (says p (x .0) m) z (z .mail)) z)) (sym (test ∙ e))
-                  (x .2),
-            ))
-            (λ x. (
-              protocol.plead p r,
-              subst (λ (t : Bool). Means H after (cond t (protocol.helps (wall H) r p z) z)) (sym (test ∙ e)) x,
-            )) w))
-            (wrong-means r s z M
-            (and-l (isHonest H r) (not (s .power .down r)) (and-l (isUp H s r) (isWrong H p) (T-of e))) p message)
+        stays : (T (isHonest H r) → Means H after z) → Means H (cond t after s) z
+        stays f = alone-means t s after z M (λ e. f (honest e))
+
+        goes : (z₂ : protocol.State) → (T (isHonest H r) → Means H after z₂)
+            → Means H (cond t after s) (cond (protocol.underWrong (wall H) z p r) z₂ z)
+        goes z₂ f = rw test (if-means t s after z z₂ M (λ e. f (honest e)))
+
+        Ends : Option protocol.Step → Type 0
+        Ends x = Means H (cond t after s) (stepped H x z)
+
+        Asked : Five → Type 0
+        Asked m = (requestOf message ≡ none) × (readOf message .five ≡ some m)
+
+        kind : (m : Five) → Asked m → eqb (m .season) (H .season) ≡ true → (o : Option Kind) → kindOf (m .kind) ≡ o
+            → Ends (calledAs p r m o)
+        kind m A q none g = stays (λ h. no-kind r s z M h p message (A .0) m (A .1) q g)
+        kind m A q (some k) g = goes _ (λ h. call-asked r s z M h p message (A .0) m (A .1) q k g)
+
+        season : (m : Five) → Asked m → (w : Bool) → eqb (m .season) (H .season) ≡ w
+            → Ends (cond w (calledAs p r m (kindOf (m .kind))) none)
+        season m A true q = kind m A q (kindOf (m .kind)) refl
+        season m A false q = stays (λ h. other-season r s z M h p message (A .0) m (A .1) q)
+
+        request : (x : ℕ) → requestOf message ≡ some x → (w : Bool) → eqb x (H .season) ≡ w
+            → Ends (cond w (some (protocol.plead p r)) none)
+        request x e true q = goes _ (λ h. help-means r s z M h p message (e ∙ ap some (eqb-true x (H .season) q)))
+        request x e false q = stays (λ h. other-request r s z M h p message x e q)
+
+        any : (o : Option ℕ) (x : Option Five) → requestOf message ≡ o → readOf message .five ≡ x → Ends (heardAs (H .season) p r o x)
+        any (some y) x e f = request y e (eqb y (H .season)) refl
+        any none none e f = stays (λ h. unread r s z M h p message e f)
+        any none (some m) e f = season m (e, f) (eqb (m .season) (H .season)) refl
+
+    step-means : (a : Step) → Means H (step H a s) (stepped H (stepOf H a) z)
+    unfolding step protocol.step wallOf rulesOf
+    step-means (publish r c v) =
+        rw (up-is r)
+        (if-means (isUp H s r) s _ z _ M (λ t. publish-means r s z M (and-l (isHonest H r) (not (s .power .down r)) (T-of t)) c v))
+    step-means (consume i) =
+        consumes-means i (at (s .mail) i) (at (z .mail) i) (mails-at (Says (H .season)) (s .mail) (z .mail) (M .mail) i)
+    step-means (wrong p r message) = wrong-means p r message
+    step-means (crash r) = rw (up-is r) (if-means (isUp H s r) s _ z _ M (λ t. goes-means r))
+    step-means (comeback r) =
+        rw (down-is r)
+        (if-means (isHonest H r && s .power .down r) s _ z _ M
+        (λ t. comes-means r (and-l (isHonest H r) (s .power .down r) (T-of t))))
+    step-means (help i) =
+        asks-means i (at (s .power .requests) i) (at (z .power .requests) i)
+        (mails-at (Asks (H .season)) (s .power .requests) (z .power .requests) (M .requests) i)
+
+  run-pushed : (x : Option protocol.Step) (l : List protocol.Step) (z : protocol.State)
+      → protocol.run (wall H) (push x l) z ≡ protocol.run (wall H) l (stepped H x z)
+  unfolding protocol.run
+  run-pushed none l z = refl
+  run-pushed (some x) l z = refl
 
   run-means : (l : List Step) (s : State) (z : protocol.State) → Means H s z
-      → (x : List protocol.Step) × Means H (run H l s) (protocol.run (wall H) x z)
+      → Means H (run H l s) (protocol.run (wall H) (stepsOf H l) z)
   unfolding run protocol.run
-  run-means [] s z M = ([], M)
+  run-means [] s z M = M
   run-means (a ∷ l) s z M =
-      ⊎-elim (λ N. run-means l (step H a s) z N)
-      (λ x. let rest = run-means l (step H a s) (protocol.step (wall H) (x .0) z) (x .1) in (x .0 ∷ rest .0, rest .1))
-      (step-means s z M a)
+      rw (run-pushed (stepOf H a) (stepsOf H l) z)
+      (run-means l (step H a s) (stepped H (stepOf H a) z) (step-means s z M a))
 
   -- what is consumed at the bytes is consumed in the protocol, at the same places
   pub consumption-means : (l k : List ℕ) (s : State) (z : protocol.State) → Means H s z
@@ -357,5 +408,5 @@ module _ (H : Houses) where
         }
 
     -- every run at the bytes means a run of the protocol
-    pub season-means : (l : List Step) → (x : List protocol.Step) × Means H (run H l (start H)) (protocol.run (wall H) x protocol.start)
+    pub season-means : (l : List Step) → Means H (run H l (start H)) (protocol.run (wall H) (stepsOf H l) protocol.start)
     season-means l = run-means l (start H) protocol.start start-means

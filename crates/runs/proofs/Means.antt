@@ -1,0 +1,63 @@
+-- What is read off a run at the bytes is read off the protocol's run that it means, which has entries in place of bytes and so computes in
+-- a hundredth of the time.
+use Prim.Native.Nat.{ℕ, _<_}
+use mathlib.Core.Path.{_≡_, sym, ap}
+use mathlib.Core.Bool.{true}
+use mathlib.Core.List.{List}
+use lib.Dec.{T, ltb}
+use lib.Ieee.{ofBits}
+use borrow.Author.Tests.{lt-ltb}
+use native.Mathlib.Omega.{arith}
+use Rattle.card.specs.Card.{fitting, quorum, amplify, deliver}
+use Rattle.lot.specs.Declaration.{bytesOf}
+use Rattle.sheet.specs.Sheet.{plausible}
+use Rattle.sheet.specs.Kept.{sheetAt}
+use Rattle.message.specs.Message.{wire, readOf, requestOf}
+use Rattle.entry.specs.Entry.{Kind, SEND, ECHO, READY, Entry, heard, same}
+use Rattle.protocol.specs.Steps.{publishes, takesSend, takesEcho, takesReady, recording, receive, publish}
+use Rattle.protocol.specs.Book.{Book, outcome, after}
+use Rattle.protocol.specs.Run as protocol
+use Rattle.protocol.specs.Thresholds.{wallOf}
+use Rattle.meaning.specs.Layout.{heardSlot}
+use Rattle.meaning.specs.Book.{nOf, numbersOf, helpedOf, slotIn, entryOf, look}
+use Rattle.calls.specs.Entered.{okBy}
+use Rattle.season.specs.Run.{Houses, isHonest, Open, State, Step, start, run}
+use Rattle.season.proofs.Calls.{wall, n-is, numbers-is, Means}
+use Rattle.season.proofs.Steps.{stepsOf, season-means}
+
+-- the protocol's state at the end of the run that these steps mean; with this unfolded it computes
+unfoldable pub endOf : Houses → List Step → protocol.State
+unfolding wallOf fitting quorum amplify deliver okBy plausible bytesOf sheetAt ofBits wire readOf requestOf protocol.run protocol.step
+    protocol.called protocol.consumes outcome after publish publishes receive recording takesSend takesEcho takesReady same
+endOf H l = protocol.run (wall H) (stepsOf H l) protocol.start
+
+pub means : (H : Houses) → Open H → (l : List Step) → Means H (run H l (start H)) (endOf H l)
+unfolding endOf
+means H O l = season-means H O l
+
+module _ (H : Houses) (s : State) (z : protocol.State) (M : Means H s z) (r : ℕ) (honest : T (isHonest H r)) where
+  abbrev b : List ℕ
+  b = s .gave .books r
+
+  below : (i : ℕ) → i < H .n → ltb i (nOf b) ≡ true
+  below i l = lt-ltb i (nOf b) (omega (arith, n-is H r b (M .gave .books r honest), l))
+
+  -- how often house r helped asker p
+  pub helped-is : (p : ℕ) → helpedOf b p ≡ z .power .helped r p
+  helped-is p = sym (ap (λ (f : ℕ → ℕ). f p) (M .gave .helped r honest))
+
+  module _ (j c : ℕ) (lj : j < H .n) (lc : c < H .numbers) where
+    numbered : ltb c (numbersOf b) ≡ true
+    numbered = lt-ltb c (numbersOf b) (omega (arith, numbers-is H r b (M .gave .books r honest), lc))
+
+    entry-is : entryOf b j c ≡ z .gave .books r j c
+    unfolding look
+    entry-is = rw (below j lj, numbered) at (sym (ap (λ (E : Book). E j c) (M .gave .entries r honest)))
+
+    -- what house r heard of a kind from house p
+    pub heard-is : (k : Kind) (p : ℕ) → p < H .n → slotIn b j c (heardSlot (H .n) k p) ≡ heard k p (z .gave .books r j c)
+    unfolding entryOf
+    heard-is SEND p l = ap (λ (e : Entry). e .send) entry-is
+    heard-is ECHO p l = rw (below p l) at (ap (λ (e : Entry). e .echo p) entry-is)
+    heard-is READY p l =
+        rw (← n-is H r b (M .gave .books r honest)) (rw (below p l) at (ap (λ (e : Entry). e .ready p) entry-is))
