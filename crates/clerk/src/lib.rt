@@ -2,29 +2,29 @@
 // with them what follows a call in a season, where a message given is posted, who asked is helped, and a house that returns sends again.
 ghost use Prim.Native.Nat.{_≤_, _<_};
 use calls::Waiting;
-use hand::BYTES;
 use hand::Came;
-use hand::FROM;
-use hand::GIVES;
-use hand::HONEST;
-use hand::HOUSES;
-use hand::KIND;
-use hand::NUMBER;
-use hand::OWN;
-use hand::SENDER;
 use hand::answered;
 use hand::nothing;
+use octets::wide;
 use post::COPIES;
 use post::ROOM;
 use post::bit;
 use post::byte;
 use post::copy;
 use post::has;
+use script::BYTES;
+use script::CALL;
+use script::FROM;
+use script::GIVES;
+use script::HONEST;
+use script::HOUSES;
+use script::KIND;
+use script::NUMBER;
 use script::Numbers;
+use script::OWN;
+use script::SENDER;
 use script::WRONG;
-use script::wide;
 use std::num::wrapping_add_u32;
-use telling::CALL;
 use telling::say_line;
 use telling::told;
 
@@ -34,6 +34,8 @@ const WAITS: usize = 101; // e
 const SENT: u32 = 13;
 
 const WAITING: u32 = 14;
+
+const SHOW: u32 = 16;
 
 const BACK: u32 = 27;
 
@@ -115,7 +117,9 @@ fn send_kind(s: &[u8], desk: &mut [u8], r: Numbers, kind: u32, first: u32, end: 
     let came = look_up(desk, r);
     let r = came.r;
     let message = came.message;
-    stage::send_again(s, desk, r, message, first, end);
+    if r[GIVES] == 1 {
+        stage::send_again(s, desk, hand::read(r, &message), message, first, end);
+    }
 }
 
 // All that a house sent on the entry of house 0, which alone publishes in these seasons.
@@ -172,6 +176,7 @@ pub fn take_step(s: &[u8], desk: &mut [u8], r: Numbers) {
     match r[CALL] {
         2..=4 => told(s, outset::on_nothing(r)),
         11..=14 => look(s, desk, r),
+        SHOW => hand::show(s, r),
         BACK => start_again(s, desk, r),
         _ => stage::take_step(s, desk, r),
     }

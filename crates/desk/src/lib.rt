@@ -1,19 +1,35 @@
 // The desk: the books of several houses in one buffer, and the calls that change one: opening, publishing and receiving. Each is made with
 // the numbers that a script set, and what came of it is put among them, to be told.
 ghost use Prim.Native.Nat.{_≤_, _<_};
-use hand::BYTES;
+use calls::Outcome;
 use hand::Came;
-use hand::FROM;
-use hand::LENGTH;
-use hand::NUMBER;
-use hand::OWN;
+use hand::MOISTURE;
+use hand::answered;
 use hand::declaration_of;
-use hand::note;
+use hand::given;
 use hand::nothing;
+use hand::read;
+use hand::reading_of;
 use post::ROOM;
+use post::bit;
+use script::BYTES;
+use script::CALL;
+use script::DELIVERS;
+use script::FROM;
+use script::GIVES;
+use script::KIND;
+use script::LENGTH;
+use script::NUMBER;
 use script::Numbers;
+use script::OWN;
 use script::WRONG;
-use telling::CALL;
+
+// What came of a call, by the letters of its numbers.
+const GIVEN_KIND: usize = 75; // K
+
+const GIVEN_MOISTURE: usize = 77; // M
+
+const DELIVERED_MOISTURE: usize = 68; // D
 
 // The calls, by their numbers in the script.
 const OPEN: u32 = 5;
@@ -21,6 +37,27 @@ const OPEN: u32 = 5;
 const OPEN_WITH: u32 = 6;
 
 const PUBLISH: u32 = 7;
+
+// ---- what came of a call
+
+fn moisture_of(declaration: [u8; 20]) -> u32 {
+    reading_of(octets::declaration_at(&declaration, 0).moisture)
+}
+
+fn note(r: Numbers, o: Outcome) -> Came {
+    let message = o.message;
+    let declaration = o.declaration;
+    let g = read(r, &message);
+    let mut r = answered(r, o.answer);
+    r[GIVES] = given(o.answer, o.gives, o.helps);
+    r[GIVEN_KIND] = g[KIND];
+    r[GIVEN_MOISTURE] = g[MOISTURE];
+    r[DELIVERS] = bit(o.delivers);
+    r[DELIVERED_MOISTURE] = moisture_of(declaration);
+    Came { r, message }
+}
+
+// ---- the calls
 
 fn publish(book: &mut [u8], r: Numbers) -> Came {
     let declaration = octets::bytes_of(declaration_of(r));

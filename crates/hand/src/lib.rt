@@ -1,28 +1,26 @@
-// What is handed in and handed back, by a script's numbers: a message laid as they say, bytes read into them, and what came of a call put
+// What is handed in and handed back, by a script's numbers: a message laid as they say, bytes read into them, and the answer of a call put
 // among them, to be told.
 ghost use Prim.Native.Nat.{_≤_, _<_};
-use calls::Outcome;
 use lot::Declaration;
 use message::Written;
-use post::bit;
+use octets::wide;
 use post::byte;
 use post::copy;
 use post::put;
+use script::FREE;
+use script::KIND;
+use script::LENGTH;
+use script::NUMBER;
 use script::Numbers;
+use script::SEASON;
+use script::SENDER;
+use script::TEXT;
 use script::WRONG;
-use script::wide;
+use telling::say;
+use telling::say_bytes;
+use telling::tell;
 
 // ---- the numbers, by their letters
-
-pub const HOUSES: usize = 110; // n
-
-pub const OWN: usize = 111; // o
-
-pub const HELP_LIMIT: usize = 100; // d
-
-pub const HONEST: usize = 104; // h
-
-pub const SEASON: usize = 121; // y
 
 const LOT: usize = 76; // L
 
@@ -30,32 +28,9 @@ const COLONIES: usize = 66; // B
 
 const KILOGRAMS: usize = 119; // w
 
-const MOISTURE: usize = 109; // m
+pub const MOISTURE: usize = 109; // m
 
-pub const KIND: usize = 107; // k
-
-pub const SENDER: usize = 115; // s
-
-pub const NUMBER: usize = 106; // j
-
-pub const FROM: usize = 112; // p
-
-pub const LENGTH: usize = 108; // l
-
-pub const BYTES: usize = 98; // b
-
-// What came of a call.
 const ANSWER: usize = 97; // a
-
-pub const GIVES: usize = 103; // g
-
-const GIVEN_KIND: usize = 75; // K
-
-const GIVEN_MOISTURE: usize = 77; // M
-
-pub const DELIVERS: usize = 118; // v
-
-const DELIVERED_MOISTURE: usize = 68; // D
 
 const READS: usize = 117; // u
 
@@ -79,7 +54,7 @@ fn bits_of(reading: u32) -> u32 {
     }
 }
 
-fn reading_of(bits: u32) -> u32 {
+pub fn reading_of(bits: u32) -> u32 {
     match bits {
         0x418c_0000 => 1,
         0x4194_0000 => 2,
@@ -218,20 +193,11 @@ pub fn given(answer: u8, gives: bool, helps: bool) -> u32 {
     0
 }
 
-fn moisture_of(declaration: [u8; 20]) -> u32 {
-    reading_of(octets::declaration_at(&declaration, 0).moisture)
-}
-
-pub fn note(r: Numbers, o: Outcome) -> Came {
-    let message = o.message;
-    let declaration = o.declaration;
-    let g = read(r, &message);
-    let mut r = r;
-    r[ANSWER] = wide(o.answer);
-    r[GIVES] = given(o.answer, o.gives, o.helps);
-    r[GIVEN_KIND] = g[KIND];
-    r[GIVEN_MOISTURE] = g[MOISTURE];
-    r[DELIVERS] = bit(o.delivers);
-    r[DELIVERED_MOISTURE] = moisture_of(declaration);
-    Came { r, message }
+// Bytes laid as the numbers say: what they read as, in the line's own words, and the bytes from number x on.
+pub fn show(s: &[u8], r: Numbers) {
+    let hand = lay(r);
+    let r = read_hand(r, hand);
+    tell(s, r[TEXT], r);
+    say_bytes(&hand, r[FREE], r[LENGTH]);
+    say(b"\n");
 }

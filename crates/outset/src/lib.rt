@@ -2,21 +2,21 @@
 // a lot judged by the sheet, and opening.
 ghost use Prim.Native.Nat.{_≤_, _<_};
 use card::Counts;
-use hand::BYTES;
 use hand::Came;
-use hand::HELP_LIMIT;
-use hand::HOUSES;
-use hand::OWN;
-use hand::SEASON;
 use hand::answered;
 use hand::declaration_of;
 use hand::nothing;
 use post::bit;
+use script::BYTES;
+use script::CALL;
+use script::HELP_LIMIT;
+use script::HOUSES;
 use script::Numbers;
+use script::OWN;
+use script::SEASON;
+use script::TAIL;
 use script::WRONG;
 use sheet::Kept;
-use telling::CALL;
-use telling::TAIL;
 
 // ---- the numbers, by their letters
 

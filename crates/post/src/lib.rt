@@ -1,6 +1,6 @@
 // A season's post, as bytes: how each house stands, and two lists, the copies sent and the requests for help, each with the house it is
 // from, the house it goes to, whether it came, and its bytes. They stand in one buffer, after the books.
-ghost use Prim.Native.Nat.{_*_, _≤_, _<_};
+ghost use Prim.Native.Nat.{_≤_, _<_};
 
 // The bytes on which books lie.
 pub const ROOM: usize = 17000;
@@ -146,30 +146,4 @@ pub fn begin(desk: &mut [u8]) {
     copy(desk, DOWN, &none, 0);
     copy(desk, COPIES, &none, 0);
     copy(desk, REQUESTS, &none, 0);
-}
-
-// ---- the bounds
-
-// A product, with a bound by which sums of it fit.
-fn times(a: u32, b: u8) -> u32
-    requires { ⌜ a < 65536 ⌝ }
-    ensures { λ r. ⌜ r ≤ a * 255 ⌝ }
-{
-    a * b as u32
-}
-
-pub struct Bounds {
-    pub copies: u32,
-    pub readys: u32,
-}
-
-// With h honest houses of n, each back at most d times.
-pub fn bounds_of(n: u32, h: u32, d: u32) -> Bounds {
-    let n = wide(byte(n));
-    let hn = times(n, byte(h));
-    let hnd = times(hn, byte(d));
-    Bounds {
-        copies: n + 2 * hn + 6 * hnd,
-        readys: hn + 2 * hnd,
-    }
 }

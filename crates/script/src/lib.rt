@@ -13,7 +13,7 @@ use std::num::wrapping_add_u32;
 pub type Numbers = [u32; 128];
 
 // Below the letters: the letter that waits for its number; where the text of a line begins, if it has one; whether the words of the
-// line are done; whether one of them was not understood.
+// line are done; whether one of them was not understood; where the line begins.
 const WAITS: usize = 0;
 
 pub const TEXT: usize = 1;
@@ -22,13 +22,51 @@ const DONE: usize = 2;
 
 pub const WRONG: usize = 3;
 
-// The letter of a number that stands by itself: x.
-const FREE: u32 = 120;
+pub const LINE: usize = 4;
 
 // What `number_at` adds to a number, so that it is told from no number.
 const SOUND: u32 = 2000000;
 
 const NO_NUMBER: u32 = 1000000;
+
+// ---- the numbers that the crates above know, by their letters
+
+// The call; how what is told of it ends.
+pub const CALL: usize = 99; // c
+
+pub const TAIL: usize = 122; // z
+
+// The book and the season.
+pub const HOUSES: usize = 110; // n
+
+pub const OWN: usize = 111; // o
+
+pub const HELP_LIMIT: usize = 100; // d
+
+pub const SEASON: usize = 121; // y
+
+pub const BYTES: usize = 98; // b
+
+pub const HONEST: usize = 104; // h
+
+// The message.
+pub const KIND: usize = 107; // k
+
+pub const SENDER: usize = 115; // s
+
+pub const NUMBER: usize = 106; // j
+
+pub const FROM: usize = 112; // p
+
+pub const LENGTH: usize = 108; // l
+
+// What came of a call: a message or help given, a delivery.
+pub const GIVES: usize = 103; // g
+
+pub const DELIVERS: usize = 118; // v
+
+// A number that stands by itself.
+pub const FREE: usize = 120; // x
 
 // ---- bytes, letters, numbers
 
@@ -212,7 +250,7 @@ fn take_word(s: &[u8], at: u32, r: Numbers) -> Numbers {
     let mut r = r;
     let name = find(s, 0, 0, at);
     if name == 0 {
-        r[WAITS] = FREE;
+        r[WAITS] = FREE as u32;
         return take_number(s, at, r);
     }
     let letter = byte_at(s, wrapping_add_u32(name, 4294967292));

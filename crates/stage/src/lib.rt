@@ -1,22 +1,14 @@
 // The steps of a season that call on no book: a copy is taken from the post, what is given goes to all, a house goes down, how a house
 // stands, how many copies there are; and what is told of each.
-ghost use Prim.Native.Nat.{_≤_, _<_};
-use hand::DELIVERS;
-use hand::FROM;
-use hand::GIVES;
-use hand::HELP_LIMIT;
-use hand::HONEST;
-use hand::HOUSES;
-use hand::LENGTH;
-use hand::OWN;
-use hand::read;
-use hand::read_hand;
+ghost use Prim.Native.Nat.{_*_, _≤_, _<_};
+use octets::wide;
 use post::COPIES;
 use post::DELIVERED;
 use post::DOWN;
 use post::REQUESTS;
 use post::RETURNS;
 use post::bit;
+use post::byte;
 use post::copy;
 use post::count;
 use post::count_if;
@@ -25,22 +17,26 @@ use post::is_left;
 use post::listed;
 use post::post_all;
 use post::put;
+use script::CALL;
+use script::DELIVERS;
+use script::FREE;
+use script::FROM;
+use script::GIVES;
+use script::HELP_LIMIT;
+use script::HONEST;
+use script::HOUSES;
+use script::LENGTH;
 use script::Numbers;
-use script::TEXT;
+use script::OWN;
 use script::WRONG;
 use std::num::wrapping_add_u32;
-use telling::CALL;
 use telling::say;
 use telling::say_bytes;
 use telling::say_line;
-use telling::tell;
 use telling::tell_phrase;
 use telling::told;
 
-// The number of a copy or a request, or of the first byte shown; the number of the last of several; how a copy fares; a bound;
-// whether a house is down, whether it has delivered; whether some houses are wrong.
-pub const WHICH: usize = 120; // x
-
+// The number of the last of several copies or requests; how a copy fares; a bound; whether a house is down, whether it has delivered; whether some houses are wrong.
 const LAST: usize = 88; // X
 
 const FARES: usize = 105; // i
@@ -54,8 +50,6 @@ const HAS_DELIVERED: usize = 89; // Y
 const SOME_WRONG: usize = 73; // I
 
 // The steps, by their numbers in the script.
-const SHOW: u32 = 16;
-
 const BEGIN: u32 = 20;
 
 pub const COPY: u32 = 21;
@@ -94,18 +88,20 @@ fn to_whom(first: u32, end: u32) -> u32 {
 fn numbered(r: Numbers, first: u32, so_far: u32, end: u32) -> Numbers {
     let mut r = r;
     r[FROM] = first;
-    r[WHICH] = wrapping_add_u32(so_far, 1);
+    r[FREE] = wrapping_add_u32(so_far, 1);
     r[LAST] = wrapping_add_u32(so_far, end);
     r
 }
 
-// What a call gave of what a house sent goes again to the houses from `first` to before `end`.
+fn post_to(desk: &mut [u8], r: Numbers, list_at: u32, first: u32, end: u32, message: [u8; 36]) {
+    post_all(desk, list_at, r[OWN], r[HONEST], first, end, message);
+}
+
+// A message that was sent is sent again to the houses from `first` to before `end`.
 pub fn send_again(s: &[u8], desk: &mut [u8], r: Numbers, message: [u8; 36], first: u32, end: u32) {
-    if r[GIVES] == 1 {
-        let r = numbered(read(r, &message), first, has(desk, COPIES, 0), end);
-        say_line(s, to_whom(first, end), r);
-        post_all(desk, COPIES, r[OWN], r[HONEST], first, end, message);
-    }
+    let r = numbered(r, first, has(desk, COPIES, 0), end);
+    say_line(s, to_whom(first, end), r);
+    post_to(desk, r, COPIES, first, end, message);
 }
 
 // A request goes to all.
@@ -115,14 +111,14 @@ pub fn ask_all(s: &[u8], desk: &mut [u8], r: Numbers, request: [u8; 36]) {
     tell_phrase(s, ASKS, r);
     say_bytes(&request, 0, 11);
     say(b"\n");
-    post_all(desk, REQUESTS, r[OWN], r[HONEST], 0, houses, request);
+    post_to(desk, r, REQUESTS, 0, houses, request);
 }
 
 // What came of a call in a season: a delivery is noted, and a message given goes to all.
 pub fn give(desk: &mut [u8], r: Numbers, message: [u8; 36]) {
     count_if(desk, DELIVERED, r[OWN], r[DELIVERS] == 1);
     if r[GIVES] == 1 {
-        post_all(desk, COPIES, r[OWN], r[HONEST], 0, r[HOUSES], message);
+        post_to(desk, r, COPIES, 0, r[HOUSES], message);
     }
 }
 
@@ -152,7 +148,6 @@ fn arrive(desk: &[u8], r: Numbers, at: u32, length: u32) -> Taken
     r[FROM] = has(desk, at, 0);
     r[OWN] = has(desk, at, 1);
     r[LENGTH] = length;
-    r = read_hand(r, hand);
     r[FARES] = fares(desk, r);
     Taken {
         r,
@@ -177,11 +172,11 @@ fn length_of(call: u32) -> u32 {
 }
 
 // Number x of its list, which has to be left.
-fn take(desk: &mut [u8], r: Numbers) -> Taken {
+pub fn take(desk: &mut [u8], r: Numbers) -> Taken {
     let list_at = list_of(r[CALL]);
     let mut r = r;
-    if is_left(desk, list_at, r[WHICH]) {
-        let at = listed(list_at, r[WHICH]);
+    if is_left(desk, list_at, r[FREE]) {
+        let at = listed(list_at, r[FREE]);
         put(desk, at, 2, 1);
         return arrive(desk, r, at, length_of(r[CALL]));
     }
@@ -191,16 +186,6 @@ fn take(desk: &mut [u8], r: Numbers) -> Taken {
         hand: [0; 40],
         is_received: false,
     }
-}
-
-// The same; and it is told where nobody receives it.
-pub fn come(s: &[u8], desk: &mut [u8], r: Numbers) -> Taken {
-    let taken = take(desk, r);
-    let r = taken.r;
-    if !taken.is_received {
-        told(s, r);
-    }
-    taken
 }
 
 // ---- down and back
@@ -223,33 +208,48 @@ pub fn go_up(desk: &mut [u8], own: u32) {
 
 // ---- what is told
 
-// Bytes laid as the numbers say: what they read as, in the line's own words, and the bytes from number x on.
-fn show(s: &[u8], r: Numbers) {
-    let hand = hand::lay(r);
-    let r = read_hand(r, hand);
-    tell(s, r[TEXT], r);
-    say_bytes(&hand, r[WHICH], r[LENGTH]);
-    say(b"\n");
-}
-
 fn stand(s: &[u8], desk: &[u8], r: Numbers) {
     let mut r = r;
     r[IS_DOWN] = has(desk, DOWN, r[OWN]);
-    r[WHICH] = has(desk, RETURNS, r[OWN]);
+    r[FREE] = has(desk, RETURNS, r[OWN]);
     r[HAS_DELIVERED] = has(desk, DELIVERED, r[OWN]);
     told(s, r);
 }
 
+// A product, with a bound by which sums of it fit.
+fn times(a: u32, b: u8) -> u32
+    requires { ⌜ a < 65536 ⌝ }
+    ensures { λ r. ⌜ r ≤ a * 255 ⌝ }
+{
+    a * b as u32
+}
+
+struct Bounds {
+    copies: u32,
+    readys: u32,
+}
+
+// With h honest houses of n, each back at most d times.
+fn bounds_of(n: u32, h: u32, d: u32) -> Bounds {
+    let n = wide(byte(n));
+    let hn = times(n, byte(h));
+    let hnd = times(hn, byte(d));
+    Bounds {
+        copies: n + 2 * hn + 6 * hnd,
+        readys: hn + 2 * hnd,
+    }
+}
+
 // The copies sent, those between honest houses where some are not, the READYs, and the bounds.
 fn bound(s: &[u8], desk: &[u8], r: Numbers) {
-    let bounds = post::bounds_of(r[HOUSES], r[HONEST], r[HELP_LIMIT]);
+    let bounds = bounds_of(r[HOUSES], r[HONEST], r[HELP_LIMIT]);
     let mut r = r;
-    r[WHICH] = has(desk, COPIES, 0);
+    r[FREE] = has(desk, COPIES, 0);
     r[LAST] = has(desk, COPIES, 1);
-    r[SOME_WRONG] = bit(r[LAST] < r[WHICH]);
+    r[SOME_WRONG] = bit(r[LAST] < r[FREE]);
     r[BOUND] = bounds.copies;
     told(s, r);
-    r[WHICH] = has(desk, COPIES, 2);
+    r[FREE] = has(desk, COPIES, 2);
     r[BOUND] = bounds.readys;
     say_line(s, READYS, r);
 }
@@ -263,7 +263,6 @@ fn refuse(s: &[u8], r: Numbers) {
 // A step that calls on no book, or a call that there is not.
 pub fn take_step(s: &[u8], desk: &mut [u8], r: Numbers) {
     match r[CALL] {
-        SHOW => show(s, r),
         BEGIN => post::begin(desk),
         GO_DOWN => go_down(s, desk, r),
         STAND => stand(s, desk, r),

@@ -2,7 +2,10 @@
 // is told, <o> is the number o in decimal digits, and [k] the name of k's value, in which there may be such holes again.
 ghost use Prim.Native.Nat.{_≤_, _<_};
 use libc::STDOUT_FILENO;
+use script::CALL;
+use script::LINE;
 use script::Numbers;
+use script::TAIL;
 use script::TEXT;
 use script::WRONG;
 use script::byte_at;
@@ -11,14 +14,6 @@ use script::get;
 use script::text_at;
 use script::wide;
 use std::num::wrapping_add_u32;
-
-// The call; how what is told of it ends.
-pub const CALL: usize = 99; // c
-
-pub const TAIL: usize = 122; // z
-
-// Below the letters: where the line begins that is being read.
-pub const LINE: usize = 4;
 
 pub fn say(text: &[u8]) {
     io::write_all(STDOUT_FILENO, text);

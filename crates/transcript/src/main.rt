@@ -2,6 +2,9 @@
 // was given and what was delivered. A line that begins with '>' is a call, with '#' or ':' none; every other line is told as it is.
 use libc::STDIN_FILENO;
 use post::COPIES;
+use script::CALL;
+use script::FREE;
+use script::LINE;
 use script::Numbers;
 use script::WRONG;
 use script::usual;
@@ -9,10 +12,7 @@ use script::words;
 use stage::COPIES_ON;
 use stage::COPY;
 use stage::REQUEST;
-use stage::WHICH;
 use std::num::wrapping_add_u32;
-use telling::CALL;
-use telling::LINE;
 use telling::told;
 
 // The call that makes none, by its number in the script.
@@ -35,19 +35,22 @@ fn hand_in(s: &[u8], desk: &mut [u8], r: Numbers) {
 
 // Number x of a list comes.
 fn come(s: &[u8], desk: &mut [u8], r: Numbers) {
-    let taken = stage::come(s, desk, r);
+    let taken = stage::take(desk, r);
     let r = taken.r;
     let hand = taken.hand;
+    let r = hand::read_hand(r, hand);
     if taken.is_received {
         act(s, desk, r, hand);
+        return;
     }
+    told(s, r);
 }
 
 // Copy k comes, if it is left.
 fn come_if(s: &[u8], desk: &mut [u8], r: Numbers, k: u32) {
     let mut r = r;
     r[CALL] = COPY;
-    r[WHICH] = k;
+    r[FREE] = k;
     if post::is_left(desk, COPIES, k) {
         come(s, desk, r);
     }
@@ -55,7 +58,7 @@ fn come_if(s: &[u8], desk: &mut [u8], r: Numbers, k: u32) {
 
 // Copy x and those after it come, each in its turn.
 fn come_from(s: &[u8], desk: &mut [u8], r: Numbers) {
-    let mut k = r[WHICH];
+    let mut k = r[FREE];
     while k < 64 {
         come_if(s, desk, r, k);
         k += 1;
