@@ -137,9 +137,8 @@ fn send_all(s: &[u8], desk: &mut [u8], r: Numbers, first: u32, end: u32) {
 
 // A helper sends to the asker alone.
 fn help(s: &[u8], desk: &mut [u8], r: Numbers) {
-    if r[FROM] < r[HOUSES] {
-        send_all(s, desk, r, r[FROM], wrapping_add_u32(r[FROM], 1));
-    }
+    let asker = r[FROM];
+    send_all(s, desk, r, asker, wrapping_add_u32(asker, 1));
 }
 
 // What came of a call is told; in a season a message given is posted, and who asked is helped.

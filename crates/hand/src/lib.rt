@@ -16,7 +16,7 @@ use script::SEASON;
 use script::SENDER;
 use script::TEXT;
 use script::WRONG;
-use telling::say;
+use telling::end_line;
 use telling::say_bytes;
 use telling::tell;
 
@@ -199,5 +199,5 @@ pub fn show(s: &[u8], r: Numbers) {
     let r = read_hand(r, hand);
     tell(s, r[TEXT], r);
     say_bytes(&hand, r[FREE], r[LENGTH]);
-    say(b"\n");
+    end_line();
 }

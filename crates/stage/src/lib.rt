@@ -30,13 +30,14 @@ use script::Numbers;
 use script::OWN;
 use script::WRONG;
 use std::num::wrapping_add_u32;
-use telling::say;
+use telling::end_line;
 use telling::say_bytes;
 use telling::say_line;
 use telling::tell_phrase;
 use telling::told;
 
-// The number of the last of several copies or requests; how a copy fares; a bound; whether a house is down, whether it has delivered; whether some houses are wrong.
+// The number of the last of several copies or requests; how a copy fares; a bound; whether a house is down, whether it has delivered;
+// whether some houses are wrong.
 const LAST: usize = 88; // X
 
 const FARES: usize = 105; // i
@@ -110,7 +111,7 @@ pub fn ask_all(s: &[u8], desk: &mut [u8], r: Numbers, request: [u8; 36]) {
     let r = numbered(r, 0, has(desk, REQUESTS, 0), houses);
     tell_phrase(s, ASKS, r);
     say_bytes(&request, 0, 11);
-    say(b"\n");
+    end_line();
     post_to(desk, r, REQUESTS, 0, houses, request);
 }
 

@@ -15,7 +15,7 @@ use script::text_at;
 use script::wide;
 use std::num::wrapping_add_u32;
 
-pub fn say(text: &[u8]) {
+fn say(text: &[u8]) {
     io::write_all(STDOUT_FILENO, text);
 }
 
@@ -107,15 +107,19 @@ pub fn tell_phrase(s: &[u8], phrase: u32, r: Numbers) {
 
 // ---- lines
 
+pub fn end_line() {
+    say(b"\n");
+}
+
 // Tells what stands at a place, and the line ends.
 pub fn tell_line(s: &[u8], at: u32, r: Numbers) {
     tell(s, at, r);
-    say(b"\n");
+    end_line();
 }
 
 pub fn say_line(s: &[u8], phrase: u32, r: Numbers) {
     tell_phrase(s, phrase, r);
-    say(b"\n");
+    end_line();
 }
 
 // What is told of a call: as the script has it for every such call, or the line's own text and the answer.
