@@ -1,5 +1,5 @@
-// Reads a script and tells what it says. A script sets numbers, each of which has a letter, and tells phrases with those numbers in
-// them; which words set which number, and what is told, the script says itself, so that a new scene costs lines and no function.
+// Reads a script. A script sets numbers, each of which has a letter, and tells phrases with those numbers in them; which words set which
+// number, and what is told, the script says itself, so that a new scene costs lines and no function.
 //
 // A line that begins with ':' names something, in fixed columns: a letter, a value of two digits, a blank, and the name.
 //   :o-- own              the word `own` sets o to the number after it
@@ -7,14 +7,13 @@
 //   :a02 , malformed      where a is 2, [a] tells ", malformed"
 // In what is told, <o> is the number o in decimal digits, and [k] the name of k's value, in which there may be such holes again.
 ghost use Prim.Native.Nat.{_≤_, _<_};
-use libc::STDOUT_FILENO;
 use std::num::wrapping_add_u32;
 
 // The numbers, by letter.
 pub type Numbers = [u32; 128];
 
 // Below the letters: the letter that waits for its number; where the text of a line begins, if it has one; whether the words of the
-// line are done; whether one of them was not understood.
+// line are done; whether one of them was not understood; where the line begins.
 const WAITS: usize = 0;
 
 pub const TEXT: usize = 1;
@@ -23,17 +22,51 @@ const DONE: usize = 2;
 
 pub const WRONG: usize = 3;
 
-// The letter of a number that stands by itself: x.
-const FREE: u32 = 120;
+pub const LINE: usize = 4;
 
 // What `number_at` adds to a number, so that it is told from no number.
 const SOUND: u32 = 2000000;
 
 const NO_NUMBER: u32 = 1000000;
 
-pub fn say(text: &[u8]) {
-    io::write_all(STDOUT_FILENO, text);
-}
+// ---- the numbers that the crates above know, by their letters
+
+// The call; how what is told of it ends.
+pub const CALL: usize = 99; // c
+
+pub const TAIL: usize = 122; // z
+
+// The book and the season.
+pub const HOUSES: usize = 110; // n
+
+pub const OWN: usize = 111; // o
+
+pub const HELP_LIMIT: usize = 100; // d
+
+pub const SEASON: usize = 121; // y
+
+pub const BYTES: usize = 98; // b
+
+pub const HONEST: usize = 104; // h
+
+// The message.
+pub const KIND: usize = 107; // k
+
+pub const SENDER: usize = 115; // s
+
+pub const NUMBER: usize = 106; // j
+
+pub const FROM: usize = 112; // p
+
+pub const LENGTH: usize = 108; // l
+
+// What came of a call: a message or help given, a delivery.
+pub const GIVES: usize = 103; // g
+
+pub const DELIVERS: usize = 118; // v
+
+// A number that stands by itself.
+pub const FREE: usize = 120; // x
 
 // ---- bytes, letters, numbers
 
@@ -70,7 +103,7 @@ fn letter_at(s: &[u8], at: u32) -> u8 {
 }
 
 // The same, with 0 for what ends a line; at 0, which is nowhere, it has ended.
-fn text_at(s: &[u8], at: u32) -> u8 {
+pub fn text_at(s: &[u8], at: u32) -> u8 {
     let c = byte_at(s, at);
     if at == 0 {
         return 0;
@@ -81,7 +114,7 @@ fn text_at(s: &[u8], at: u32) -> u8 {
     c
 }
 
-fn get(r: Numbers, letter: u8) -> u32 {
+pub fn get(r: Numbers, letter: u8) -> u32 {
     let i = wide(letter) as usize;
     if i < 128 {
         return r[i];
@@ -182,7 +215,7 @@ fn is_name(s: &[u8], at: u32, letter: u8, value: u32, word: u32) -> bool {
 }
 
 // Where the name stands, or 0.
-fn find(s: &[u8], letter: u8, value: u32, word: u32) -> u32 {
+pub fn find(s: &[u8], letter: u8, value: u32, word: u32) -> u32 {
     let end = size(s);
     let mut at: u32 = 0;
     while at < end {
@@ -192,92 +225,6 @@ fn find(s: &[u8], letter: u8, value: u32, word: u32) -> u32 {
         at += 1;
     }
     0
-}
-
-// ---- telling
-
-// Where it goes on, and where after the name that is being told, and after the one around that, and so on; 0 is nowhere.
-struct Spot {
-    at: u32,
-    then: u32,
-    after: u32,
-    last: u32,
-}
-
-fn move_to(p: Spot, at: u32) -> Spot {
-    Spot {
-        at,
-        then: p.then,
-        after: p.after,
-        last: p.last,
-    }
-}
-
-fn go_in(p: Spot, name: u32, then: u32) -> Spot {
-    Spot {
-        at: name,
-        then,
-        after: p.then,
-        last: p.after,
-    }
-}
-
-fn go_out(p: Spot) -> Spot {
-    Spot {
-        at: p.then,
-        then: p.after,
-        after: p.last,
-        last: 0,
-    }
-}
-
-fn say_number(n: u32) {
-    io::print_decimal(STDOUT_FILENO, n as u64);
-}
-
-fn say_letter(c: u8) {
-    let one: [u8; 1] = [c];
-    say(&one);
-}
-
-// A letter or a hole at a time.
-fn step(s: &[u8], p: Spot, r: Numbers) -> Spot {
-    let at = p.at;
-    let letter = byte_at(s, wrapping_add_u32(at, 1));
-    let next = wrapping_add_u32(at, 3);
-    let c = text_at(s, at);
-    match c {
-        0 => go_out(p),
-        b'[' => go_in(p, find(s, letter, get(r, letter), 0), next),
-        b'<' => {
-            say_number(get(r, letter));
-            move_to(p, next)
-        }
-        _ => {
-            say_letter(c);
-            move_to(p, wrapping_add_u32(at, 1))
-        }
-    }
-}
-
-// Tells what stands at a place, to the end of its line.
-pub fn tell(s: &[u8], at: u32, r: Numbers) {
-    let mut p = Spot {
-        at,
-        then: 0,
-        after: 0,
-        last: 0,
-    };
-    let mut i: u32 = 0;
-    while i < 512 {
-        p = step(s, p, r);
-        i += 1;
-    }
-}
-
-// Tells the name of a letter's value.
-pub fn tell_name(s: &[u8], letter: u8, value: u32, r: Numbers) {
-    tell(s, find(s, letter, value, 0), r);
 }
 
 // ---- words
@@ -303,7 +250,7 @@ fn take_word(s: &[u8], at: u32, r: Numbers) -> Numbers {
     let mut r = r;
     let name = find(s, 0, 0, at);
     if name == 0 {
-        r[WAITS] = FREE;
+        r[WAITS] = FREE as u32;
         return take_number(s, at, r);
     }
     let letter = byte_at(s, wrapping_add_u32(name, 4294967292));
@@ -371,23 +318,20 @@ pub fn words(s: &[u8], at: u32, r: Numbers) -> Numbers {
     r
 }
 
-// The words that a name is made of.
-pub fn words_of(s: &[u8], letter: u8, value: u32, r: Numbers) -> Numbers {
-    words(s, find(s, letter, value, 0), r)
+// What is set on every line that sets nothing else.
+pub fn usual(s: &[u8]) -> Numbers {
+    words(s, find(s, b'U', 0, 0), [0; 128])
 }
 
-// ---- bytes told
+// ---- lines
 
-fn say_hex(c: u8) {
-    say(b" ");
-    io::print_hex(STDOUT_FILENO, wide(c) as u64, 2);
-}
-
-// Bytes from a place to before another, in hexadecimal.
-pub fn say_bytes(bytes: &[u8], first: u32, end: u32) {
-    let mut at = first;
-    while at < end {
-        say_hex(byte_at(bytes, at));
-        at += 1;
+// Where a line ends, what the one after it begins with; 0 elsewhere, and before a remark or a name.
+pub fn line_after(s: &[u8], at: u32) -> u8 {
+    if byte_at(s, at) != b'\n' {
+        return 0;
+    }
+    match byte_at(s, wrapping_add_u32(at, 1)) {
+        b'#' | b':' => 0,
+        c => c,
     }
 }

@@ -1,55 +1,78 @@
 // Shows the software at work: runs the script that it is given (the file `stdin`), call by call, and tells of each call its answer, what
 // was given and what was delivered. A line that begins with '>' is a call, with '#' or ':' none; every other line is told as it is.
-mod season;
-
-use desk::CALL;
-use desk::WITH;
 use libc::STDIN_FILENO;
+use post::COPIES;
+use script::CALL;
+use script::FREE;
+use script::LINE;
 use script::Numbers;
 use script::WRONG;
-use script::byte_at;
-use script::say;
-use script::size;
-use script::tell;
+use script::usual;
 use script::words;
-use script::words_of;
-use season::LINE;
-use season::told;
+use stage::COPIES_ON;
+use stage::COPY;
+use stage::REQUEST;
 use std::num::wrapping_add_u32;
+use telling::told;
 
-// What is set on every line that sets nothing else.
-fn usual(s: &[u8]) -> Numbers {
-    words_of(s, b'U', 0, [0; 128])
+// The call that makes none, by its number in the script.
+const WITH: u32 = 1;
+
+// ---- calls that change a book
+
+fn act(s: &[u8], desk: &mut [u8], r: Numbers, hand: [u8; 40]) {
+    let came = desk::on_desk(desk, r, hand);
+    let r = came.r;
+    let message = came.message;
+    clerk::follow(s, desk, r, message);
 }
 
 // Bytes laid as the numbers say, and handed in; calls for which there is nothing to hand in look at none.
 fn hand_in(s: &[u8], desk: &mut [u8], r: Numbers) {
-    let hand = desk::lay(r);
-    season::act(s, desk, desk::read_hand(r, hand), hand);
+    let hand = hand::lay(r);
+    act(s, desk, hand::read_hand(r, hand), hand);
 }
 
-// Bytes laid as the numbers say: what they read as, in the line's own words, and the bytes that are not skipped.
-fn show(s: &[u8], r: Numbers) {
-    let hand = desk::lay(r);
-    let r = desk::read_hand(r, hand);
-    tell(s, r[script::TEXT], r);
-    script::say_bytes(&hand, r[desk::SKIP], r[desk::LENGTH]);
-    say(b"\n");
-}
-
-fn refuse(s: &[u8], r: Numbers) {
-    let mut r = r;
-    r[WRONG] = 1;
+// Number x of a list comes.
+fn come(s: &[u8], desk: &mut [u8], r: Numbers) {
+    let taken = stage::take(desk, r);
+    let r = taken.r;
+    let hand = taken.hand;
+    let r = hand::read_hand(r, hand);
+    if taken.is_received {
+        act(s, desk, r, hand);
+        return;
+    }
     told(s, r);
 }
 
+// Copy k comes, if it is left.
+fn come_if(s: &[u8], desk: &mut [u8], r: Numbers, k: u32) {
+    let mut r = r;
+    r[CALL] = COPY;
+    r[FREE] = k;
+    if post::is_left(desk, COPIES, k) {
+        come(s, desk, r);
+    }
+}
+
+// Copy x and those after it come, each in its turn.
+fn come_from(s: &[u8], desk: &mut [u8], r: Numbers) {
+    let mut k = r[FREE];
+    while k < 64 {
+        come_if(s, desk, r, k);
+        k += 1;
+    }
+}
+
+// ---- the script
+
 fn call(s: &[u8], desk: &mut [u8], r: Numbers) {
     match r[CALL] {
-        2..=4 => told(s, desk::on_nothing(r)),
-        5..=14 => hand_in(s, desk, r),
-        16 => show(s, r),
-        20..=28 => season::take_step(s, desk, r),
-        _ => refuse(s, r),
+        5..=10 => hand_in(s, desk, r),
+        COPY | REQUEST => come(s, desk, r),
+        COPIES_ON => come_from(s, desk, r),
+        _ => clerk::take_step(s, desk, r),
     }
 }
 
@@ -68,32 +91,25 @@ fn call_line(s: &[u8], desk: &mut [u8], base: Numbers, at: u32) -> Numbers {
     base
 }
 
+// The line after a place, where one ends there.
 fn line(s: &[u8], desk: &mut [u8], base: Numbers, at: u32) -> Numbers {
-    match byte_at(s, at) {
-        b'>' => call_line(s, desk, base, wrapping_add_u32(at, 1)),
-        b'#' | b':' | 0 => base,
+    match script::line_after(s, at) {
+        0 => base,
+        b'>' => call_line(s, desk, base, wrapping_add_u32(at, 2)),
         _ => {
-            tell(s, at, base);
-            say(b"\n");
+            telling::tell_line(s, wrapping_add_u32(at, 1), base);
             base
         }
     }
 }
 
-fn line_after(s: &[u8], desk: &mut [u8], base: Numbers, at: u32) -> Numbers {
-    if byte_at(s, at) == b'\n' {
-        return line(s, desk, base, wrapping_add_u32(at, 1));
-    }
-    base
-}
-
 // Each line but the first.
 fn play(s: &[u8], desk: &mut [u8]) {
     let mut base = usual(s);
-    let end = size(s);
+    let end = script::size(s);
     let mut at: u32 = 0;
     while at < end {
-        let next = line_after(s, desk, base, at);
+        let next = line(s, desk, base, at);
         base = next;
         at += 1;
     }

@@ -1,25 +1,28 @@
--- `transcript::season::post_all` meets its contract: the loop ends with the range.
+-- `post::copy` meets its contract: the loop ends at the last byte.
 use Prim.Native.Nat.{_-_}
 use mathlib.Core.Path.{_≡_}
 use lib.ListN.{length}
 use borrow.Author.Needs.{needs}
-use Rattle.transcript.proofs.season.post_all.Statement.{statement}
-use Rattle.transcript.proofs.season.post_all.Tie as tie
+use Rattle.post.proofs.copy.Statement.{statement}
+use Rattle.post.proofs.copy.Tie as tie
 
 abbrev Inv-loop : tie.InvT-loop
-Inv-loop desk₀ r list-at first end message to₀ desk to = length desk ≡ length desk₀
+Inv-loop to₀ at from first i₀ to i = length to ≡ length to₀
 
 abbrev μ-loop : tie.MeasureT-loop
-μ-loop desk₀ r list-at first end message to₀ desk to = end - to
+μ-loop to₀ at from first i₀ to i = 36 - i
 
 loop-holds : tie.Need-loop-holds Inv-loop μ-loop
 loop-holds c = search needs
 
-post-one-requires : tie.Need-post-one-requires Inv-loop μ-loop
-post-one-requires c κs = search needs
+has-requires : tie.Need-has-requires Inv-loop μ-loop
+has-requires c κs = search needs
 
-add-to : tie.Need-add-to Inv-loop μ-loop
-add-to c = search needs
+put-requires : tie.Need-put-requires Inv-loop μ-loop
+put-requires c κs = search needs
+
+add-i : tie.Need-add-i Inv-loop μ-loop
+add-i c = search needs
 
 loop-less : tie.Need-loop-less Inv-loop μ-loop
 loop-less c = search needs
@@ -33,15 +36,16 @@ same-length c = search needs
 returns : tie.Need-returns Inv-loop μ-loop
 returns c = search needs
 
-pub post-all-spec : {M : Type 1} → statement M
-post-all-spec =
+pub copy-spec : {M : Type 1} → statement M
+copy-spec =
     tie.close
     (tie.spec
     Inv-loop
     μ-loop
     loop-holds
-    post-one-requires
-    add-to
+    has-requires
+    put-requires
+    add-i
     loop-less
     loop-again
     same-length

@@ -1,8 +1,8 @@
--- `script::say_bytes` meets its contract: the loop ends at the last byte.
+-- `telling::say_bytes` meets its contract: the loop ends at the last byte.
 use Prim.Native.Nat.{_-_}
 use borrow.Author.Needs.{needs}
-use Rattle.script.proofs.say_bytes.Statement.{statement}
-use Rattle.script.proofs.say_bytes.Tie as tie
+use Rattle.telling.proofs.say_bytes.Statement.{statement}
+use Rattle.telling.proofs.say_bytes.Tie as tie
 
 abbrev Inv-loop : tie.InvT-loop
 Inv-loop bytes first end at₀ at = Unit {0}

@@ -1,8 +1,8 @@
--- `desk::counts_of` meets its contract: the card has the column that is asked for.
+-- `outset::counts_of` meets its contract: the card has the column that is asked for.
 use mathlib.Core.Path.{_∙_, sym}
 use borrow.Author.Needs.{needs}
-use Rattle.desk.proofs.counts_of.Statement.{statement}
-use Rattle.desk.proofs.counts_of.Tie as tie
+use Rattle.outset.proofs.counts_of.Statement.{statement}
+use Rattle.outset.proofs.counts_of.Tie as tie
 
 is-houses-requires : tie.Need-is-houses-requires
 is-houses-requires c κs = search needs

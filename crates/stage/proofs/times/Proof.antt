@@ -1,10 +1,10 @@
--- `transcript::season::times` meets its contract: a byte is at most 255.
+-- `stage::times` meets its contract: a byte is at most 255.
 use Prim.Native.Nat.{_*_, _≤_}
 use native.Mathlib.Nat.{mul-le-mul-left}
 use native.Mathlib.Omega.{arith}
 use borrow.Author.Needs.{needs}
-use Rattle.transcript.proofs.season.times.Statement.{statement}
-use Rattle.transcript.proofs.season.times.Tie as tie
+use Rattle.stage.proofs.times.Statement.{statement}
+use Rattle.stage.proofs.times.Tie as tie
 
 mul-result : tie.Need-mul-result
 mul-result c =

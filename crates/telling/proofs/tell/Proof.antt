@@ -1,8 +1,8 @@
--- `script::tell` meets its contract: the loop ends at the longest text.
+-- `telling::tell` meets its contract: the loop ends at the longest text.
 use Prim.Native.Nat.{_-_}
 use borrow.Author.Needs.{needs}
-use Rattle.script.proofs.tell.Statement.{statement}
-use Rattle.script.proofs.tell.Tie as tie
+use Rattle.telling.proofs.tell.Statement.{statement}
+use Rattle.telling.proofs.tell.Tie as tie
 
 abbrev Inv-loop : tie.InvT-loop
 Inv-loop s at r p₀ i₀ p i = Unit {0}

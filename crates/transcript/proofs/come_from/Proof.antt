@@ -1,28 +1,28 @@
--- `desk::copy` meets its contract: the loop ends at the last byte.
+-- `transcript::come_from` meets its contract: the loop ends past the longest list.
 use Prim.Native.Nat.{_-_}
 use mathlib.Core.Path.{_≡_}
 use lib.ListN.{length}
 use borrow.Author.Needs.{needs}
-use Rattle.desk.proofs.copy.Statement.{statement}
-use Rattle.desk.proofs.copy.Tie as tie
+use Rattle.transcript.proofs.come_from.Statement.{statement}
+use Rattle.transcript.proofs.come_from.Tie as tie
 
 abbrev Inv-loop : tie.InvT-loop
-Inv-loop to₀ at from first i₀ to i = length to ≡ length to₀
+Inv-loop s desk₀ r k₀ desk k = length desk ≡ length desk₀
 
 abbrev μ-loop : tie.MeasureT-loop
-μ-loop to₀ at from first i₀ to i = 36 - i
+μ-loop s desk₀ r k₀ desk k = 64 - k
+
+array-read-k : tie.Need-array-read-k Inv-loop μ-loop
+array-read-k c = search needs
 
 loop-holds : tie.Need-loop-holds Inv-loop μ-loop
 loop-holds c = search needs
 
-has-requires : tie.Need-has-requires Inv-loop μ-loop
-has-requires c κs = search needs
+come-if-requires : tie.Need-come-if-requires Inv-loop μ-loop
+come-if-requires c κs = search needs
 
-put-requires : tie.Need-put-requires Inv-loop μ-loop
-put-requires c κs = search needs
-
-add-i : tie.Need-add-i Inv-loop μ-loop
-add-i c = search needs
+add-k : tie.Need-add-k Inv-loop μ-loop
+add-k c = search needs
 
 loop-less : tie.Need-loop-less Inv-loop μ-loop
 loop-less c = search needs
@@ -36,16 +36,16 @@ same-length c = search needs
 returns : tie.Need-returns Inv-loop μ-loop
 returns c = search needs
 
-pub copy-spec : {M : Type 1} → statement M
-copy-spec =
+pub come-from-spec : {M : Type 1} → statement M
+come-from-spec =
     tie.close
     (tie.spec
     Inv-loop
     μ-loop
+    array-read-k
     loop-holds
-    has-requires
-    put-requires
-    add-i
+    come-if-requires
+    add-k
     loop-less
     loop-again
     same-length
