@@ -1,6 +1,6 @@
 // The clerk of each house: the calls that change no book, which tell what was sent, which entry waits and what a house asks on return; and
 // with them what follows a call in a season, where a message given is posted, who asked is helped, and a house that returns sends again.
-ghost use Prim.Native.Nat.{_≤_, _<_};
+ghost use Prim.Native.Nat.{_<_};
 use calls::Waiting;
 use hand::Came;
 use hand::answered;

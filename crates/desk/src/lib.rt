@@ -1,6 +1,6 @@
 // The desk: the books of several houses in one buffer, and the calls that change one: opening, publishing and receiving. Each is made with
 // the numbers that a script set, and what came of it is put among them, to be told.
-ghost use Prim.Native.Nat.{_≤_, _<_};
+ghost use Prim.Native.Nat.{_<_};
 use calls::Outcome;
 use hand::Came;
 use hand::MOISTURE;

@@ -1,6 +1,6 @@
 // What is handed in and handed back, by a script's numbers: a message laid as they say, bytes read into them, and the answer of a call put
 // among them, to be told.
-ghost use Prim.Native.Nat.{_≤_, _<_};
+ghost use Prim.Native.Nat.{_<_};
 use lot::Declaration;
 use message::Written;
 use octets::wide;

@@ -1,6 +1,6 @@
 // The calls that are made before there is a book to call on, with the numbers that a script set: the wall card's column, a book's length,
 // a lot judged by the sheet, and opening.
-ghost use Prim.Native.Nat.{_≤_, _<_};
+ghost use Prim.Native.Nat.{_<_};
 use card::Counts;
 use hand::Came;
 use hand::answered;

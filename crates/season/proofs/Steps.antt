@@ -1,12 +1,10 @@
 -- A step of a run at the bytes is a step of the protocol's run or leaves it; so every run at the bytes means a run of the protocol, whose
 -- steps are told from its own.
 use Prim.Native.Nat.{ℕ, suc}
-use mathlib.Core.Path.{_≡_, refl, sym, ap, subst, _∙_}
-use mathlib.Core.Logic.{_⊎_, inl, inr, ⊎-elim}
+use mathlib.Core.Path.{_≡_, refl, sym, ap, _∙_}
 use mathlib.Core.Bool.{Bool, true, false, not, cond, _&&_}
 use mathlib.Core.List.{List, [], _∷_, _++_}
 use mathlib.Core.Option.{Option, none, some}
-use native.Mathlib.Decide.{ℕ-discrete}
 use lib.Dec.{T, eqb}
 use borrow.Author.Tests.{eqb-true, eqb-false, eq-eqb}
 use Rattle.lot.specs.Declaration.{bytesOf}
@@ -23,10 +21,10 @@ use Rattle.protocol.specs.Run as protocol
 use Rattle.protocol.specs.Claims as protocol-claims
 use Rattle.protocol.specs.Thresholds.{wallOf, rulesOf}
 use Rattle.entry.proofs.Basics.{T-of, and-l}
-use Rattle.calls.specs.Call.{answering, called, published, asked, heardFrom, heardAny, received}
+use Rattle.calls.specs.Call.{answering, called, published, asked, heardAny, received}
 use Rattle.calls.specs.Entered.{kindOf}
 use Rattle.calls.specs.Again.{returned}
-use Rattle.season.specs.Run.{Houses, isHonest, isWrong, isUp, Open, opens, Copy, State, start, namedBy, nothing, entry, sends, ended}
+use Rattle.season.specs.Run.{Houses, isHonest, isWrong, isUp, Open, opens, Copy, State, start, nothing, entry, sends, ended}
 use Rattle.season.specs.Run.{publicationOf, Step, publish, consume, wrong, crash, comeback, help, publishes, receives, consumedCopy}
 use Rattle.season.specs.Run.{consumeAt, consumes, goesDown, toAll, again, comes, requestTaken, asks, underWrong, step, run}
 use Rattle.season.specs.Claims.{consumption}

@@ -1,6 +1,6 @@
 // Tells what a script says: a phrase, in which the numbers that are set stand in holes, and of a call the phrase that is its own. In what
 // is told, <o> is the number o in decimal digits, and [k] the name of k's value, in which there may be such holes again.
-ghost use Prim.Native.Nat.{_≤_, _<_};
+ghost use Prim.Native.Nat.{_<_};
 use libc::STDOUT_FILENO;
 use script::CALL;
 use script::LINE;
