@@ -56,7 +56,7 @@ pub fn echo_mark(book: &[u8], base: usize, d: [u8; 20]) -> bool
 {
     let n = layout::n_of(book);
     let counts = counts::counts_of(n, layout::down_of(book));
-    let votes = slots::count_same(book, layout::echo_at(base, 0), n, d);
+    let votes = vouchers::count_same(book, layout::echo_at(base, 0), n, d);
     is_reached(book, layout::ready_sent_at(base, n), counts.quorum, votes)
 }
 
@@ -67,7 +67,7 @@ pub fn ready_marks(book: &[u8], base: usize, d: [u8; 20]) -> Marks
 {
     let n = layout::n_of(book);
     let counts = counts::counts_of(n, layout::down_of(book));
-    let votes = slots::count_same(book, layout::ready_at(base, n, 0), n, d);
+    let votes = vouchers::count_same(book, layout::ready_at(base, n, 0), n, d);
     Marks {
         gives: is_reached(book, layout::ready_sent_at(base, n), counts.amplify, votes),
         delivers: is_reached(book, layout::delivered_at(base, n), counts.deliver, votes),

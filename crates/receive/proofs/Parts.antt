@@ -20,7 +20,8 @@ use Rattle.calls.specs.declared.Outcome.{Outcome}
 use Rattle.calls.specs.Entered.{Result, result, handed}
 use Rattle.calls.specs.Call.{refusal, requestAnswer, requested, received}
 use Rattle.calls.proofs.Declarations.{message-decl}
-use Rattle.receive.specs.Heard.{heardAs, heardParts}
+use Rattle.admit.specs.Heard.{heardAs}
+use Rattle.receive.specs.Heard.{heardParts}
 
 zero-bytes : (n : ℕ) → Bytes (replicate n 0)
 zero-bytes zero i = omega arith

@@ -4,14 +4,10 @@ use mathlib.Core.Bool.{cond}
 use mathlib.Core.List.{List}
 use lib.Dec.{eqb}
 use Rattle.message.specs.declared.ReadAnswer.{ReadAnswer}
-use Rattle.entry.specs.Entry.{Decl}
 use Rattle.meaning.specs.Book.{seasonOf}
-use Rattle.calls.specs.Entered.{Result, kindOf}
-use Rattle.calls.specs.Call.{refusal, askedAs, answering, requested}
-
--- a message of the book's season
-unfoldable pub heardAs : List ℕ → (house kind sender number : ℕ) → Decl → Result
-heardAs b p kind j c v = answering b (askedAs p j c v (kindOf kind))
+use Rattle.calls.specs.Entered.{Result}
+use Rattle.calls.specs.Call.{refusal, requested}
+use Rattle.admit.specs.Heard.{heardAs}
 
 -- 3, then a request, which is kind 9, or a message
 unfoldable pub heardParts : List ℕ → (house : ℕ) → ReadAnswer → Result

@@ -1,4 +1,4 @@
--- What the presence byte says of a slot, one slot more in a count, and the bytes after a slot is filled.
+-- What the presence byte says of a slot, and the bytes after a slot is filled.
 use Prim.Native.Nat.{ℕ, _+_, _<_, _≤_}
 use mathlib.Core.Path.{_≡_, refl}
 use mathlib.Core.Bool.{Bool, true, false, cond}
@@ -10,8 +10,7 @@ use lib.Dec.{eqb}
 use lib.ListN.{length, getD, take, drop, set, replicate}
 use lib.Seq.{paste, take-suc-set, drop-set-lt, take-all, append-snoc}
 use borrow.Author.Tests.{eq-eqb, ne-eqb}
-use Rattle.card.specs.Count.{count}
-use Rattle.entry.specs.Entry.{same, isSome, holds}
+use Rattle.entry.specs.Entry.{same, isSome}
 use Rattle.meaning.specs.Layout.{slotLength}
 use Rattle.meaning.specs.Slot.{part, slotAt, slotOk, putSlot}
 
@@ -25,14 +24,6 @@ module _ (b : List ℕ) (at : ℕ) where
       go true = refl
       go false = refl
 
-  pub holds-full : (d : List ℕ) (r : Bool) → getD b at 0 ≡ 1 → r ≡ same (part b (at + 1) 20) d → r ≡ holds (slotAt b at) d
-  unfolding slotAt
-  holds-full d r e q = rw (eq-eqb _ _ e) q
-
-  pub holds-empty : (d : List ℕ) → (getD b at 0 ≡ 1 → ⊥) → false ≡ holds (slotAt b at) d
-  unfolding slotAt
-  holds-empty d f = rw (ne-eqb _ _ f)
-
   pub ok-full : getD b at 0 ≡ 1 → true ≡ slotOk b at
   unfolding slotOk
   ok-full e = rw (eq-eqb _ _ e)
@@ -44,14 +35,6 @@ module _ (b : List ℕ) (at : ℕ) where
   pub ok-neither : (getD b at 0 ≡ 1 → ⊥) → (getD b at 0 ≡ 0 → ⊥) → false ≡ slotOk b at
   unfolding slotOk
   ok-neither f e = rw (ne-eqb _ _ f, ne-eqb _ _ e)
-
--- one more of a count, by the answer of its test
-module _ (P : ℕ → Bool) (p : ℕ) (r : Bool) (m : ℕ) (e : r ≡ P p) (h : m ≡ count P p) where
-  pub count-hit : (k : ℕ) → r ≡ true → k ≡ m + 1 → k ≡ count P (p + 1)
-  count-hit k t q = rw (add-one p, ← e, t) (omega arith)
-
-  pub count-miss : (k : ℕ) → r ≡ false → k ≡ m → k ≡ count P (p + 1)
-  count-miss k t q = rw (add-one p, ← e, t) (omega arith)
 
 -- the presence byte is stored, and then the 20 bytes after it
 pub put-done : (b : List ℕ) (at : ℕ) (d : List ℕ) → at + slotLength ≤ length b → length d ≡ 20

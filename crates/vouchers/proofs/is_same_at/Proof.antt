@@ -1,9 +1,9 @@
--- `slots::is_same_at` meets its contract.
+-- `vouchers::is_same_at` meets its contract.
 use mathlib.Core.Path.{sym, _∙_}
 use Rattle.slots.proofs.Same.{first-differs, second-differs, third-decides}
 use borrow.Author.Needs.{needs}
-use Rattle.slots.proofs.is_same_at.Statement.{statement}
-use Rattle.slots.proofs.is_same_at.Tie as tie
+use Rattle.vouchers.proofs.is_same_at.Statement.{statement}
+use Rattle.vouchers.proofs.is_same_at.Tie as tie
 
 two-words-at-requires : tie.Need-two-words-at-requires
 two-words-at-requires c κs = search needs

@@ -1,8 +1,8 @@
--- `slots::holds_at` meets its contract.
-use Rattle.slots.proofs.Slots.{holds-full, holds-empty}
+-- `vouchers::holds_at` meets its contract.
+use Rattle.vouchers.proofs.Counting.{holds-full, holds-empty}
 use borrow.Author.Needs.{needs}
-use Rattle.slots.proofs.holds_at.Statement.{statement}
-use Rattle.slots.proofs.holds_at.Tie as tie
+use Rattle.vouchers.proofs.holds_at.Statement.{statement}
+use Rattle.vouchers.proofs.holds_at.Tie as tie
 
 shared-slice-read-if1 : tie.Need-shared-slice-read-if1
 shared-slice-read-if1 c = search needs

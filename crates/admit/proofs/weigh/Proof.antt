@@ -1,13 +1,13 @@
--- `receive::weigh` meets its contract.
-use Rattle.receive.proofs.Heard.{implausible-heard}
+-- `admit::weigh` meets its contract.
+use Rattle.admit.proofs.Heard.{implausible-heard}
 use Rattle.calls.proofs.Declarations.{plausible-ok}
 use Rattle.calls.proofs.Checking.{book-sheet}
 use Rattle.meaning.specs.Book.{sheetOf}
 use denote.Ref.{now}
 use mathlib.Core.Path.{sym, _∙_}
 use borrow.Author.Needs.{needs}
-use Rattle.receive.proofs.weigh.Statement.{statement}
-use Rattle.receive.proofs.weigh.Tie as tie
+use Rattle.admit.proofs.weigh.Statement.{statement}
+use Rattle.admit.proofs.weigh.Tie as tie
 
 entry-at-requires : tie.Need-entry-at-requires
 entry-at-requires c κs = search needs

@@ -1,4 +1,4 @@
--- `slots::count_same` meets its contract.
+-- `vouchers::count_same` meets its contract.
 use Prim.Native.Nat.{_≤_, _-_}
 use mathlib.Core.Path.{_≡_, refl}
 use mathlib.Core.Logic.{⊎-elim}
@@ -7,10 +7,10 @@ use Rattle.card.specs.Count.{count}
 use Rattle.entry.specs.Entry.{holds}
 use Rattle.meaning.specs.Layout.{placeFrom}
 use Rattle.meaning.specs.Slot.{slotAt}
-use Rattle.slots.proofs.Slots.{count-hit, count-miss}
+use Rattle.vouchers.proofs.Counting.{count-hit, count-miss}
 use borrow.Author.Needs.{needs}
-use Rattle.slots.proofs.count_same.Statement.{statement}
-use Rattle.slots.proofs.count_same.Tie as tie
+use Rattle.vouchers.proofs.count_same.Statement.{statement}
+use Rattle.vouchers.proofs.count_same.Tie as tie
 
 abbrev Inv-loop : tie.InvT-loop
 Inv-loop b at n d found₀ p₀ found p = (p ≤ n) × ((found ≡ count (λ i. holds (slotAt b (placeFrom at i)) d) p) × (found ≤ p))

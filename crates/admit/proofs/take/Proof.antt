@@ -1,9 +1,9 @@
--- `receive::take` meets its contract.
-use Rattle.receive.proofs.Heard.{send-heard, echo-heard, ready-heard, another-heard, no-other-kind}
+-- `admit::take` meets its contract.
+use Rattle.admit.proofs.Heard.{send-heard, echo-heard, ready-heard, another-heard, no-other-kind}
 use denote.Ref.{now}
 use borrow.Author.Needs.{needs}
-use Rattle.receive.proofs.take.Statement.{statement}
-use Rattle.receive.proofs.take.Tie as tie
+use Rattle.admit.proofs.take.Statement.{statement}
+use Rattle.admit.proofs.take.Tie as tie
 
 hear-send-requires : tie.Need-hear-send-requires
 hear-send-requires c κs = search needs

@@ -1,12 +1,12 @@
--- `receive::find` meets its contract.
-use Rattle.receive.proofs.Heard.{missing-heard}
+-- `admit::find` meets its contract.
+use Rattle.admit.proofs.Heard.{missing-heard}
 use Rattle.meaning.proofs.Room.{header-room}
 use mathlib.Core.Logic.{inl, inr}
 use denote.Ref.{now}
 use native.Mathlib.Omega.{arith}
 use borrow.Author.Needs.{needs}
-use Rattle.receive.proofs.find.Statement.{statement}
-use Rattle.receive.proofs.find.Tie as tie
+use Rattle.admit.proofs.find.Statement.{statement}
+use Rattle.admit.proofs.find.Tie as tie
 
 n-of-requires : tie.Need-n-of-requires
 n-of-requires c κs =
