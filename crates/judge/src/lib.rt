@@ -2,72 +2,17 @@
 ghost use mathlib.Core.Path.{_≡_};
 ghost use Prim.Native.Nat.{_+_, _<_};
 ghost use lib.ListN.{length};
-ghost use Rattle.sheet.specs.Sheet.{limitsFinite};
-ghost use Rattle.sheet.specs.Kept.{keptAt, gateOf, keptForm, keptLegal, laid, sheetAt, sheetLegalAt, isSheet, judged};
-use sheet::Gate;
+ghost use Rattle.sheet.specs.Kept.{keptLegal, laid, sheetAt, sheetLegalAt, isSheet, judged};
 use sheet::Kept;
 use sheet::Sheet;
-
-// The kind and limits that stand at i.
-fn kept_at(bytes: &[u8], i: usize) -> Kept
-    requires { ⌜ i + 8 < length (now bytes) ⌝ }
-    ensures { λ r. ⌜ r ≡ keptAt (now (bytes .entry)) i ⌝ }
-{
-    Kept {
-        kind: bytes[i],
-        low: octets::word_at(bytes, i + 1),
-        high: octets::word_at(bytes, i + 5),
-    }
-}
-
-fn gate_of(k: Kept) -> Gate
-    ensures { λ r. ⌜ r ≡ gateOf k ⌝ }
-{
-    if k.kind == 0 {
-        return Gate::Open;
-    }
-    if k.kind == 1 {
-        return Gate::AtMost(floats::float_of(k.high));
-    }
-    Gate::Between(floats::float_of(k.low), floats::float_of(k.high))
-}
-
-// A known kind, and zero for each limit that it does not use.
-fn is_form(k: Kept) -> bool
-    ensures { λ r. ⌜ r ≡ keptForm k ⌝ }
-{
-    if k.kind == 0 {
-        return k.low == 0 && k.high == 0;
-    }
-    if k.kind == 1 {
-        return k.low == 0;
-    }
-    k.kind == 2
-}
-
-// No limit is NaN or infinite.
-fn has_finite_limits(k: Kept) -> bool
-    ensures { λ r. ⌜ r ≡ limitsFinite (gateOf k) ⌝ }
-{
-    if k.kind == 0 {
-        return true;
-    }
-    if k.kind == 1 {
-        return floats::is_finite(k.high);
-    }
-    if floats::is_finite(k.low) {
-        return floats::is_finite(k.high);
-    }
-    false
-}
 
 // The one form of a legal gate.
 fn is_legal_kept(k: Kept) -> bool
     ensures { λ r. ⌜ r ≡ keptLegal k ⌝ }
 {
-    if is_form(k) {
-        if has_finite_limits(k) {
-            return gates::is_legal_gate(gate_of(k));
+    if kept::is_form(k) {
+        if kept::has_finite_limits(k) {
+            return gates::is_legal_gate(kept::gate_of(k));
         }
     }
     false
@@ -80,8 +25,8 @@ pub fn sheet_at(bytes: &[u8], i: usize) -> Sheet
 {
     Sheet {
         cap: octets::word_at(bytes, i),
-        moisture: gate_of(kept_at(bytes, i + 4)),
-        conductivity: gate_of(kept_at(bytes, i + 13)),
+        moisture: kept::gate_of(kept::kept_at(bytes, i + 4)),
+        conductivity: kept::gate_of(kept::kept_at(bytes, i + 13)),
     }
 }
 
@@ -90,8 +35,8 @@ pub fn is_sheet_at(bytes: &[u8], i: usize) -> bool
     requires { ⌜ i + 21 < length (now bytes) ⌝ }
     ensures { λ r. ⌜ r ≡ sheetLegalAt (now (bytes .entry)) i ⌝ }
 {
-    if is_legal_kept(kept_at(bytes, i + 4)) {
-        return is_legal_kept(kept_at(bytes, i + 13));
+    if is_legal_kept(kept::kept_at(bytes, i + 4)) {
+        return is_legal_kept(kept::kept_at(bytes, i + 13));
     }
     false
 }

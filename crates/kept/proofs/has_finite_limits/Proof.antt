@@ -1,11 +1,11 @@
--- `judge::has_finite_limits` meets its contract.
+-- `kept::has_finite_limits` meets its contract.
 use borrow.Author.Tests.{eq-eqb, ne-eqb}
 use mathlib.Core.Path.{refl}
 use Rattle.sheet.specs.Sheet.{limitsFinite}
 use Rattle.sheet.specs.Kept.{gateOf}
 use borrow.Author.Needs.{needs}
-use Rattle.judge.proofs.has_finite_limits.Statement.{statement}
-use Rattle.judge.proofs.has_finite_limits.Tie as tie
+use Rattle.kept.proofs.has_finite_limits.Statement.{statement}
+use Rattle.kept.proofs.has_finite_limits.Tie as tie
 
 returns : tie.Need-returns
 unfolding limitsFinite gateOf

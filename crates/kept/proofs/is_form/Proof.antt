@@ -1,8 +1,8 @@
--- `judge::is_form` meets its contract.
+-- `kept::is_form` meets its contract.
 use borrow.Author.Tests.{eq-eqb, ne-eqb}
 use Rattle.sheet.specs.Kept.{keptForm}
-use Rattle.judge.proofs.is_form.Statement.{statement}
-use Rattle.judge.proofs.is_form.Tie as tie
+use Rattle.kept.proofs.is_form.Statement.{statement}
+use Rattle.kept.proofs.is_form.Tie as tie
 
 returns : tie.Need-returns
 unfolding keptForm

@@ -1,11 +1,11 @@
--- `judge::gate_of` meets its contract.
+-- `kept::gate_of` meets its contract.
 use borrow.Author.Tests.{eq-eqb, ne-eqb}
 use Rattle.sheet.specs.Kept.{gateOf}
 use Rattle.sheet.specs.declared.Gate.the-variants.{AtMost, Between}
 use mathlib.Core.Path.{ap, ap₂}
 use borrow.Author.Needs.{needs}
-use Rattle.judge.proofs.gate_of.Statement.{statement}
-use Rattle.judge.proofs.gate_of.Tie as tie
+use Rattle.kept.proofs.gate_of.Statement.{statement}
+use Rattle.kept.proofs.gate_of.Tie as tie
 
 returns : tie.Need-returns
 unfolding gateOf

@@ -1,7 +1,7 @@
--- `judge::kept_at` meets its contract.
+-- `kept::kept_at` meets its contract.
 use borrow.Author.Needs.{needs}
-use Rattle.judge.proofs.kept_at.Statement.{statement}
-use Rattle.judge.proofs.kept_at.Tie as tie
+use Rattle.kept.proofs.kept_at.Statement.{statement}
+use Rattle.kept.proofs.kept_at.Tie as tie
 
 shared-slice-read-t4 : tie.Need-shared-slice-read-t4
 shared-slice-read-t4 c = search needs
