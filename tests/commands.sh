@@ -207,15 +207,23 @@ fresh 'built again'
 
 # ---- the gate
 
+touch "$tree/target/staticlib/earlier"
 echo 'exit 1' >"$tree/tests/part.sh"
+echo 'echo compared' >"$tree/tests/compare.sh"
 try .ci/run
 ended 1 'ci: tests/part.sh failed' '.ci/run, a test fails'
-[ ! -e "$tree/target/staticlib" ] || wrong '.ci/run tested the archive of an earlier run'
+[ ! -e "$tree/target/staticlib/earlier" ] || wrong '.ci/run left what an earlier run made'
 [ "$(tail -n 1 <<<"$said")" = 'ci: tests/part.sh failed' ] || wrong '.ci/run says something after a test that failed'
-echo 'bash .ci/archive' >"$tree/tests/part.sh"
+echo 'bash .ci/archive && sleep 0.2 && echo later' >"$tree/tests/part.sh"
+echo 'echo sooner' >"$tree/tests/second.sh"
 try .ci/run
 ended 0 'rt: ok, all of it' '.ci/run'
 [ "$(tail -n 1 <<<"$said")" = 'rt: ok, all of it' ] || wrong '.ci/run does not end with the last line of rt ci'
+[ "$(grep -A 1 '^ci: tests' <<<"$said" | grep -cx -e 'ci: tests/part.sh' -e later -e 'ci: tests/second.sh' -e sooner)" = 4 ] ||
+    wrong '.ci/run does not tell what each test said below its name'
+echo 'exit 1' >"$tree/tests/compare.sh"
+try .ci/run
+ended 1 'ci: tests/compare.sh failed' '.ci/run, the comparison fails'
 
 # ---- a document that is not there
 
