@@ -158,10 +158,10 @@ module _ (H : Houses) (s : State) (z : protocol.State) (M : Means H s z) where
         counted (λ m. isBetween H m && not (m .consumed)) (λ x. protocol.isBetween (wall H) x && not (x .consumed))
         (λ m x S. ap₂ (λ (a b : Bool). a && not b) (between-same m x S) (S .consumed))
 
-    pub deliveries-same : (r : ℕ) → z .gave .deliveries r j c ≡ s .gave .deliveries r j c
+    deliveries-same : (r : ℕ) → z .gave .deliveries r j c ≡ s .gave .deliveries r j c
     deliveries-same r = ap (λ (f : Noted). f r j c) (M .gave .deliveries)
 
-    pub publications-same : z .gave .publications j j c ≡ s .gave .publications j j c
+    publications-same : z .gave .publications j j c ≡ s .gave .publications j j c
     publications-same = ap (λ (f : Noted). f j j c) (M .gave .publications)
 
 module _ (H : Houses) (O : Open H) (l : List Step) (j c : ℕ) (hj : j < H .n) (hc : c < H .numbers) where
