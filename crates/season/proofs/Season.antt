@@ -124,7 +124,7 @@ module _ (H : Houses) (s : State) (z : protocol.State) (M : Means H s z) where
     pub between-counted : between H j c s ≡ protocol.between (wall H) j c z
     between-counted = counted (isBetween H) (protocol.isBetween (wall H)) between-same
 
-    consumed-counted : consumedBetween H j c s ≡ protocol.consumedBetween (wall H) j c z
+    pub consumed-counted : consumedBetween H j c s ≡ protocol.consumedBetween (wall H) j c z
     consumed-counted =
         counted (λ m. isBetween H m && m .consumed) (λ x. protocol.isBetween (wall H) x && x .consumed)
         (λ m x S. ap₂ _&&_ (between-same m x S) (S .consumed))
@@ -395,7 +395,7 @@ module _ (H : Houses) (O : Open H) (l : List Step) (j c : ℕ) (hj : j < H .n) (
       }
 
 -- one list of steps after another
-run-append : (H : Houses) (l k : List Step) (s : State) → run H (l ++ k) s ≡ run H k (run H l s)
+pub run-append : (H : Houses) (l k : List Step) (s : State) → run H (l ++ k) s ≡ run H k (run H l s)
 unfolding run
 run-append H [] k s = refl
 run-append H (a ∷ l) k s = run-append H l k (step H a s)

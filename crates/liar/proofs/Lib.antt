@@ -1,0 +1,6 @@
+pub mod Unmoved
+pub mod Twins
+pub mod Final
+pub mod Consumed
+pub mod Raised
+pub mod Claims

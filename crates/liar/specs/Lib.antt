@@ -1,0 +1,5 @@
+pub mod Unmoved
+pub mod Twins
+pub mod Final
+pub mod Raised
+pub mod Claims
