@@ -43,6 +43,6 @@ stays : (x : Run) → Under x → x .houses .down ≡ 0 → (p : ℕ) → T (isH
 stays x U e p g = up (x .houses) (end x) (omega (arith, U .low, e)) p g
 
 pub unmoved : Unmoved
-unmoved x y U W e q j c A sender r house =
-    unmoved-up x y U W j c A (stays x U e j sender) (stays y W q j (subst T (A .honest j) sender)) r (stays x U e r house)
-    (stays y W q r (subst T (A .honest r) house))
+unmoved x y U W e q same j c A sender r house =
+    unmoved-up x y U W j c A (stays x U e j sender) (stays y W q j (subst T (same j) sender)) r (stays x U e r house)
+    (stays y W q r (subst T (same r) house))

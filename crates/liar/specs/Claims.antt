@@ -8,7 +8,7 @@ pub record Claims : Type 0 where
   -- Two runs with the same honest set and the same accepted publications by one honest sender, both drained, end with the same deliveries
   -- for that sender at every honest house,
   pub unmoved : Unmoved
-  -- and with any f at every house that is up.
+  -- and with any f, whichever other houses are honest, at every house that is up in both.
   pub unmoved-up : UnmovedUp
   -- There are such runs.
   pub twins : Twins

@@ -8,10 +8,10 @@ use lib.Dec.{T, ltb}
 use Rattle.card.specs.Card.{fitting}
 use Rattle.card.specs.Count.{count}
 use Rattle.entry.specs.Lists.{tally}
-use Rattle.season.specs.Run.{Houses, isHonest, isWrong, Open, State, Step, publish, wrong, start, run, copies, copiesOf, consumedBetween}
+use Rattle.season.specs.Run.{Houses, isHonest, isWrong, Open, State, Step, publish, consume, wrong, start, run, copies, copiesOf, consumedBetween}
 use Rattle.season.specs.Run.{upBetween, Drained, Limited, downs}
 use Rattle.season.specs.Claims.{Few, Delivered, Published, Agreed, Complete, Deliverable, Exact}
-use Rattle.runs.specs.Sample.{sample, lot, lie, says, consumeFrom}
+use Rattle.runs.specs.Sample.{sample, lot, lie, says}
 
 -- houses 0 and 1 are honest
 abbrev pub honest : ℕ → Bool
@@ -22,13 +22,14 @@ unfoldable pub houses : Houses
 unfolding sample
 houses = sample 4 0 0 honest
 
--- House 0 publishes the lot. Both liars send it a READY of the lot, and house 1 one of the lie; two READYs make each honest house give its
--- own, and with that it has three. Every copy comes.
+-- House 0 publishes the lot. Both liars send it a READY of the lot, and two make it give its own; its SEND, READY and ECHO come to it. Both
+-- send house 1 a READY of the lie; its own READY of it comes, then house 0's SEND and its own ECHO. Then the copies that the two sent each
+-- other come.
 unfoldable pub steps : List Step
-unfolding consumeFrom
 steps =
-    publish 0 0 lot ∷ wrong 2 0 (says 3 lot) ∷ wrong 3 0 (says 3 lot) ∷ wrong 2 1 (says 3 lie) ∷ wrong 3 1 (says 3 lie)
-    ∷ consumeFrom 0 20
+    publish 0 0 lot ∷ wrong 2 0 (says 3 lot) ∷ wrong 3 0 (says 3 lot) ∷ consume 0 ∷ consume 4 ∷ consume 8
+    ∷ wrong 2 1 (says 3 lie) ∷ wrong 3 1 (says 3 lie) ∷ consume 13 ∷ consume 1 ∷ consume 17
+    ∷ consume 5 ∷ consume 9 ∷ consume 12 ∷ consume 16 ∷ []
 
 unfoldable pub end : State
 unfolding houses steps

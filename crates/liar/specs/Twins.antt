@@ -9,7 +9,7 @@ use Rattle.season.specs.Claims.{Delivered, Published}
 use Rattle.runs.specs.Sample.{lot}
 use Rattle.runs.specs.Plain as plain
 use Rattle.runs.specs.Liar as liar
-use Rattle.liar.specs.Unmoved.{Run, end, Under, Alike}
+use Rattle.liar.specs.Unmoved.{Run, end, Under, SameHonest, Alike}
 
 abbrev pub first : Run
 first = record { houses = plain.houses; steps = plain.steps }
@@ -22,6 +22,7 @@ pub record Twins : Type 0 where
   pub second-under : Under second
   pub no-f-first : first .houses .down ≡ 0
   pub no-f-second : second .houses .down ≡ 0
+  pub same-honest : SameHonest first second
   pub alike : Alike first second 0 0
   pub published : Published (first .houses) 0 0 (end first) lot
   pub delivered : (r : ℕ) → T (isHonest (first .houses) r) → Delivered (first .houses) 0 0 (end first) r lot
