@@ -68,7 +68,7 @@ for page in README.md CHANGELOG.md docs/*.md docs/changes/*.md; do
 done
 
 # Each edit that the season's claims refuse is told on its page.
-for edit in crates/{season,protocol,entry,runs}/must-fail/*.edit; do
+for edit in crates/{season,protocol,entry,runs,liar}/must-fail/*.edit; do
     grep -qE "^\|.*\`$(basename "$edit" .edit)\`" docs/SEASON.md || wrong "docs/SEASON.md: no row for $edit"
 done
 

@@ -20,10 +20,10 @@
 
 /* The version: the first number changes where the bytes of a book or a message change, or a call. A season is finished with the first
  * number that it was opened with (CHANGELOG.md). */
-#define GM_VERSION "2.2.1"
+#define GM_VERSION "2.2.2"
 #define GM_VERSION_MAJOR 2
 #define GM_VERSION_MINOR 2
-#define GM_VERSION_PATCH 1
+#define GM_VERSION_PATCH 2
 
 #ifdef __cplusplus
 extern "C" {
