@@ -1,6 +1,6 @@
 -- A delivery stays: a house's list of deliveries on an entry only grows, and it has at most one.
 use Prim.Native.Nat.{ℕ, _≤_}
-use mathlib.Core.Path.{_≡_, refl, sym, ap, subst, _∙_}
+use mathlib.Core.Path.{_≡_, refl, ap, subst}
 use mathlib.Core.Bool.{Bool, true, false, cond, not, _&&_}
 use mathlib.Core.List.{List, [], _∷_, _++_}
 use mathlib.Core.Option.{Option, none, some}
@@ -16,7 +16,8 @@ use Rattle.protocol.specs.Book.{noted}
 use Rattle.calls.specs.Entered.{Result}
 use Rattle.calls.specs.Call.{published, received}
 use Rattle.season.specs.Run.{Houses, isHonest, isUp, underWrong, Copy, State, Noted, Step, publish, consume, wrong, crash, comeback, help}
-use Rattle.season.specs.Run.{consumeAt, requestTaken, Named, nothing, entry, namedBy, noting, posted, sends, messageOf, deliveryOf, publicationOf, ended, publishes, receives, consumes, arrives, comes, asks, start, step, run}
+use Rattle.season.specs.Run.{Named, nothing, entry, namedBy, noting, posted, sends, messageOf, deliveryOf, publicationOf, consumeAt}
+use Rattle.season.specs.Run.{requestTaken, ended, publishes, receives, consumes, arrives, comes, asks, start, step, run}
 use Rattle.season.proofs.Season.{run-append, claims}
 use Rattle.liar.specs.Final.{Final}
 
@@ -36,8 +37,9 @@ module _ (v : List ℕ) where
       where
         at-entry : (t : Bool) → sameEntry i k j c ≡ t → r ≡ q → Ends (cond t (push x (f q i k)) (f q j c))
         at-entry true e h =
-            pushed x (f q i k) (subst Ends
-            (λ z. f (h z) (eqb-true j i (true-of _ (and-l (eqb j i) _ (T-of e))) z) (eqb-true c k (true-of _ (and-r (eqb j i) _ (T-of e))) z)) E)
+            let sender = eqb-true j i (true-of (eqb j i) (and-l (eqb j i) _ (T-of e))) in
+            let number = eqb-true c k (true-of (eqb c k) (and-r (eqb j i) _ (T-of e))) in
+            pushed x (f q i k) (subst Ends (λ z. f (h z) (sender z) (number z)) E)
         at-entry false e h = subst (λ (p : ℕ). Ends (f p j c)) h E
 
         at-house : (t : Bool) → eqb r q ≡ t → Ends (cond t (putAt (f q) i k (push x (f q i k))) (f r) j c)
@@ -76,7 +78,9 @@ module _ (v : List ℕ) where
 
       arrives-ends : (i : ℕ) (m : Copy) (s : State) → Ended s → Ended (arrives H i m s)
       unfolding arrives
-      arrives-ends i m s E = either (s .power .down (m .to)) _ _ E (receives-ends (m .to) (m .from) (m .message) s (consumeAt (s .mail) i) E)
+      arrives-ends i m s E =
+          either (s .power .down (m .to)) _ _ E
+          (receives-ends (m .to) (m .from) (m .message) s (consumeAt (s .mail) i) E)
 
       consumes-ends : (i : ℕ) (o : Option Copy) (s : State) → Ended s → Ended (consumes H i o s)
       unfolding consumes

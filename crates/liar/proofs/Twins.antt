@@ -1,18 +1,18 @@
 -- The two computed runs are alike; what they publish and deliver the claims of the season say.
 use Prim.Native.Nat.{ℕ}
-use mathlib.Core.Path.{_≡_, refl, sym, ap, _∙_}
+use mathlib.Core.Path.{refl, sym, ap, _∙_}
 use mathlib.Core.List.{List, [], _∷_}
-use lib.Dec.{T, lit<, lit≤}
+use lib.Dec.{lit<}
 use native.Mathlib.Omega.{arith}
-use Rattle.season.specs.Run.{isHonest, Drained}
-use Rattle.season.specs.Claims.{Delivered, Published, Exact}
+use Rattle.season.specs.Run.{Drained}
+use Rattle.season.specs.Claims.{Published, Exact}
 use Rattle.season.proofs.Season.{claims}
 use Rattle.runs.specs.Sample.{sample, lot}
 use Rattle.runs.specs.Plain as plain
 use Rattle.runs.specs.Liar as liar
 use Rattle.runs.proofs.Plain.{plain}
 use Rattle.runs.proofs.Liar.{liar}
-use Rattle.liar.specs.Unmoved.{end, Under, Alike}
+use Rattle.liar.specs.Unmoved.{end, Under}
 use Rattle.liar.specs.Twins.{first, second, Twins}
 use Rattle.liar.proofs.Unmoved.{up, equal}
 
@@ -28,7 +28,8 @@ second-under = record { opened = liar .opened; few = liar .few; limited = liar .
 first-exact : Exact plain.houses 0 0 plain.end
 unfolding plain.end plain.houses sample
 first-exact =
-    claims plain.houses (plain .opened) plain.steps 0 0 (lit< tt) (lit< tt) .exact (plain .few) (plain .still) (plain .limited) (plain .high)
+    claims plain.houses (plain .opened) plain.steps 0 0 (lit< tt) (lit< tt)
+    .exact (plain .few) (plain .still) (plain .limited) (plain .high)
 
 first-drained : Drained (first .houses) 0 0 (end first)
 unfolding plain.end

@@ -8,8 +8,8 @@ use lib.Dec.{T, ltb}
 use Rattle.card.specs.Card.{fitting}
 use Rattle.card.specs.Count.{count}
 use Rattle.entry.specs.Lists.{tally}
-use Rattle.season.specs.Run.{Houses, isHonest, isWrong, Open, State, Step, publish, consume, wrong, start, run, copies, copiesOf, consumedBetween}
-use Rattle.season.specs.Run.{upBetween, Drained, Limited, downs}
+use Rattle.season.specs.Run.{Houses, isHonest, isWrong, Open, State, Step, publish, consume, wrong, start, run, copies, copiesOf}
+use Rattle.season.specs.Run.{consumedBetween, upBetween, Drained, Limited, downs}
 use Rattle.season.specs.Claims.{Few, Delivered, Published, Agreed, Complete, Deliverable, Exact}
 use Rattle.runs.specs.Sample.{sample, lot, lie, says}
 

@@ -1,7 +1,6 @@
 -- Two of the computed runs are alike: in `plain` the liar sends two declarations and forges a READY; in `liar` d is 1, house 1 crashes and
 -- returns, and the liar asks for help. The honest houses deliver the lot in both, and so what is said of such runs is said of something.
 use mathlib.Core.Path.{_≡_}
-use mathlib.Core.List.{[], _∷_}
 use Prim.Native.Nat.{ℕ}
 use lib.Dec.{T}
 use Rattle.season.specs.Run.{isHonest}

@@ -26,8 +26,8 @@ pub record Under (x : Run) : Type 0 where
 abbrev pub SameHonest : Run → Run → Type 0
 SameHonest x y = (p : ℕ) → isHonest (x .houses) p ≡ isHonest (y .houses) p
 
--- What two runs have in common, of the entry of sender j and number c. All else may differ: n and S, f and d, season, sheet and buffers, the
--- steps and their order, what wrong houses hand in, what other senders publish, and which houses crash and return.
+-- What two runs have in common, of the entry of sender j and number c. All else may differ: n and S, f and d, season, sheet and buffers,
+-- the steps and their order, what wrong houses hand in, what other senders publish, and which houses crash and return.
 pub record Alike (x y : Run) (j c : ℕ) : Type 0 where
   -- the number is in both books,
   pub first-number : c < x .houses .numbers
