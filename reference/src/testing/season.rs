@@ -89,6 +89,11 @@ impl<'l, L: Library> Season<'l, L> {
         self.seen[number * usize::from(self.rules.n) + sender].delivered[house]
     }
 
+    /// What this honest house published at this number.
+    pub fn published(&self, house: usize, number: usize) -> Option<Declaration> {
+        self.seen[number * usize::from(self.rules.n) + house].published
+    }
+
     /// How many copies to honest houses wait to be consumed.
     pub fn pending(&self) -> usize {
         self.pending.len()
