@@ -208,7 +208,7 @@ impl Same {
         Same {
             sender: random.pick(&honest),
             publishes: [(); MOST_NUMBERS as usize]
-                .map(|()| random.chance(3, 4).then(|| random.pick(&pool))),
+                .map(|()| random.chance(5, 8).then(|| random.pick(&pool))),
             honest,
             pool,
         }
