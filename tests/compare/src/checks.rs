@@ -195,8 +195,8 @@ pub const DRAWN: [Check; 16] = [
 /// At this size each moment of a season that is counted comes about.
 const ENOUGH_FOR_ALL: usize = 8;
 
-/// At that size what is counted of two seasons comes about in so many pairs.
-const ENOUGH_TWINS: usize = 4;
+/// And what is counted of two seasons comes about in so many pairs or more, whatever the seed.
+const ENOUGH_TWINS: usize = 3;
 
 /// Of so many seasons about 14 show a disagreement, whatever the seed; of fifty at times none does.
 const ENOUGH_TO_DISAGREE: usize = 400;
