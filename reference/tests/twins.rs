@@ -40,8 +40,8 @@ fn seen(library: &mut impl Library, seed: u64) -> [bool; 2] {
     ]
 }
 
-/// Whether the deliveries differ in some pair. With the slips below they do in one pair of fifteen
-/// or more, and not in all.
+/// Whether the deliveries differ in some pair. With the slips below they do in one pair of 25 or more,
+/// mostly in one of four, and never in all.
 fn is_seen(mut library: impl Library) -> bool {
     (0..PAIRS).any(|seed| seen(&mut library, seed)[0])
 }
