@@ -9,3 +9,4 @@ mod rows;
 mod seasons;
 mod slips;
 mod slips_of_calls;
+mod twins;

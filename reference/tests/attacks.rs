@@ -23,7 +23,7 @@ fn silent_houses() {
 }
 
 /// The reference with other counts.
-struct Miscounting(fn(&mut Counts));
+pub struct Miscounting(pub fn(&mut Counts));
 
 impl Slips for Miscounting {
     fn receive(&mut self, book: &mut [u8], house: u32, bytes: &[u8]) -> Outcome {
@@ -45,7 +45,12 @@ impl Slips for Miscounting {
             Kind::Ready => (1 + n, counts.amplify, counts.deliver),
             _ => (1, counts.quorum, usize::MAX),
         };
-        let vouches = |place: &usize| book[slot(*place)][1..] == message.declaration;
+        let vouches = |place: &usize| {
+            let [presence, declaration @ ..] = &book[slot(*place)] else {
+                return false;
+            };
+            *presence == 1 && *declaration == message.declaration
+        };
         let vouchers = (first..first + n).filter(vouches).count();
         let mut mark = |place: usize, enough: bool| {
             let mut mark = before[slot(place)].to_vec();

@@ -51,6 +51,11 @@ fn directed_seasons_with_crashes() {
 }
 
 #[test]
+fn two_wrong_of_four_step_by_step() {
+    directed::one_wrong_too_many(&mut Reference);
+}
+
+#[test]
 fn two_libraries_side_by_side() {
     let mut both = Both {
         first: Reference,

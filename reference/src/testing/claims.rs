@@ -86,7 +86,7 @@ impl Seen {
 
 impl<L: Library> Season<'_, L> {
     /// At most t houses are wrong.
-    fn is_tolerable(&self) -> bool {
+    pub(super) fn is_tolerable(&self) -> bool {
         self.rules.wrong_houses() <= self.rules.tolerated()
     }
 
@@ -97,12 +97,12 @@ impl<L: Library> Season<'_, L> {
     }
 
     /// How many honest houses are down.
-    fn down(&self) -> usize {
+    pub(super) fn down(&self) -> usize {
         self.houses.iter().filter(|house| house.down).count()
     }
 
     /// No house was ever down.
-    fn is_calm(&self) -> bool {
+    pub(super) fn is_calm(&self) -> bool {
         self.houses.iter().all(|house| house.crashes == 0)
     }
 

@@ -2,6 +2,7 @@
 
 pub mod attacks;
 pub mod directed;
+pub mod twins;
 mod weather;
 
 use super::forms::random_declaration;
@@ -65,12 +66,11 @@ impl Order {
     }
 }
 
+/// A house, a number, and what it will publish there.
+type Publication = (usize, u32, Declaration);
+
 /// What the honest houses will publish: most of their numbers, some twice or with an implausible one.
-fn publications(
-    random: &mut Random,
-    rules: &Rules,
-    pool: &[Declaration],
-) -> Vec<(usize, u32, Declaration)> {
+fn publications(random: &mut Random, rules: &Rules, pool: &[Declaration]) -> Vec<Publication> {
     let mut all = vec![];
     for house in rules.honest() {
         for number in 0..u32::from(rules.s) {
@@ -92,7 +92,7 @@ fn publications(
 struct Run<'r, 'l, L> {
     random: &'r mut Random,
     season: Season<'l, L>,
-    to_publish: Vec<(usize, u32, Declaration)>,
+    to_publish: Vec<Publication>,
     wrong: Wrong,
     lies: usize,
     order: Order,
@@ -102,7 +102,7 @@ struct Run<'r, 'l, L> {
 impl<L: Library> Run<'_, '_, L> {
     /// All is published that will be, but by houses that are down; and nothing is left to hand in.
     fn is_late(&self) -> bool {
-        let down = |(house, _, _): &(usize, u32, Declaration)| self.season.is_down(*house);
+        let down = |(house, _, _): &Publication| self.season.is_down(*house);
         self.lies == 0 && self.to_publish.iter().all(down)
     }
 
@@ -209,7 +209,32 @@ fn run_in<'l, L: Library>(
     weather: Weather,
 ) -> Season<'l, L> {
     let pool = plausible(random);
-    let to_publish = publications(random, &rules, &pool);
+    let plan = Plan {
+        to_publish: publications(random, &rules, &pool),
+        rules,
+        weather,
+        pool,
+    };
+    run_plan(library, random, plan)
+}
+
+/// What is settled of a season before its first step. The rest is drawn as it goes.
+struct Plan {
+    rules: Rules,
+    weather: Weather,
+    /// What wrong houses tell.
+    pool: [Declaration; 4],
+    /// The last comes first.
+    to_publish: Vec<Publication>,
+}
+
+fn run_plan<'l, L: Library>(library: &'l mut L, random: &mut Random, plan: Plan) -> Season<'l, L> {
+    let Plan {
+        rules,
+        weather,
+        pool,
+        to_publish,
+    } = plan;
     let favoured = weather.favoured(random);
     let wrong = Wrong::new(random, &rules, &pool, &favoured);
     let haste = random.pick(&[1, 4, 16]);

@@ -89,6 +89,23 @@ impl<'l, L: Library> Season<'l, L> {
         self.seen[number * usize::from(self.rules.n) + sender].delivered[house]
     }
 
+    /// What this honest house published at this number.
+    pub fn published(&self, house: usize, number: usize) -> Option<Declaration> {
+        self.seen[number * usize::from(self.rules.n) + house].published
+    }
+
+    /// How many messages of wrong houses were accepted on the entry of this sender and number, of
+    /// other things than it published.
+    pub fn lies_on(&self, sender: usize, number: usize) -> usize {
+        let entry = number * usize::from(self.rules.n) + sender;
+        let published = self.seen[entry].published;
+        let honest = self.rules.honest().into_iter();
+        let accepted = honest.flat_map(|house| &self.houses[house].accepted[entry]);
+        let accepted = accepted.flat_map(|kind| kind.iter().zip(&self.rules.wrong));
+        let of_wrong = accepted.filter_map(|(v, wrong)| v.filter(|_| *wrong));
+        of_wrong.filter(|v| Some(*v) != published).count()
+    }
+
     /// How many copies to honest houses wait to be consumed.
     pub fn pending(&self) -> usize {
         self.pending.len()

@@ -3,7 +3,8 @@
 use crate::linked::Linked;
 use crate::{drawn, edges, entries};
 use reference::testing::both::Both;
-use reference::testing::scheduler::attacks;
+use reference::testing::scheduler::twins::{self, Count};
+use reference::testing::scheduler::{attacks, directed};
 use reference::testing::season::moments::{Moment, Tally};
 use reference::testing::season::Rules;
 use reference::testing::{
@@ -19,7 +20,7 @@ pub type Pair = Both<Linked, Reference>;
 pub type Check = (&'static str, fn(&mut Pair, u64, usize));
 
 /// Checks that are the same at any size, the quickest first; the seed is for noise.
-pub const COUNTED: [Check; 22] = [
+pub const COUNTED: [Check; 24] = [
     ("the rows and run cases of document 01", |pair, _, _| {
         rows::card(pair);
         rows::judged(pair);
@@ -38,8 +39,14 @@ pub const COUNTED: [Check; 22] = [
         pairs::opening(pair);
         pairs::judging(pair);
     }),
+    ("two wrong houses of four, step by step", |pair, _, _| {
+        directed::one_wrong_too_many(pair);
+    }),
+    ("two seasons with a premise not met", |pair, _, _| {
+        twins::premises::each(pair);
+    }),
     ("directed seasons with crashes", |pair, _, _| {
-        scheduler::directed::crashes(pair);
+        directed::crashes(pair);
     }),
     ("lengths of books", |pair, _, _| openings::lengths(pair)),
     ("openings with every f and d", |pair, _, _| {
@@ -104,7 +111,7 @@ pub const COUNTED: [Check; 22] = [
 ];
 
 /// Checks that draw their cases: more with a larger size.
-pub const DRAWN: [Check; 15] = [
+pub const DRAWN: [Check; 16] = [
     ("calls on any legal book", |pair, seed, scale| {
         refusals::calls(pair, seed, 200 * scale);
     }),
@@ -147,6 +154,18 @@ pub const DRAWN: [Check; 15] = [
         let enough = scale < ENOUGH_FOR_ALL || missing.is_empty();
         assert!(enough, "it never came about: {missing:?}");
     }),
+    (
+        "two seasons with the same publications",
+        |pair, seed, scale| {
+            let mut count = Count::default();
+            for (honest, pairs) in [(3, 2 * scale), (4, scale), (5, scale.div_ceil(2))] {
+                count.add_all(&twins::pairs(pair, seed, honest, pairs as u64));
+            }
+            let rare = count.rare(ENOUGH_TWINS);
+            let enough = scale < ENOUGH_FOR_ALL || rare.is_empty();
+            assert!(enough, "it seldom came about: {rare:?}, {count:?}");
+        },
+    ),
     ("seasons of up to sixteen houses", |pair, seed, scale| {
         for n in 8..=16 {
             let s = 1 + (seed.wrapping_add(u64::from(n)) % 2) as u8;
@@ -175,6 +194,9 @@ pub const DRAWN: [Check; 15] = [
 
 /// At this size each moment of a season that is counted comes about.
 const ENOUGH_FOR_ALL: usize = 8;
+
+/// And what is counted of two seasons comes about in so many pairs or more, whatever the seed.
+const ENOUGH_TWINS: usize = 3;
 
 /// Of so many seasons about 14 show a disagreement, whatever the seed; of fifty at times none does.
 const ENOUGH_TO_DISAGREE: usize = 400;

@@ -1,12 +1,17 @@
 //! Seasons that are laid out step by step, with exact numbers.
 
-use crate::testing::forms::{honey, message, SEASON};
+use crate::testing::forms::{honey, message, open_sheet, SEASON};
 use crate::testing::season::{Rules, Season};
 use crate::{request, Declaration, Kind, Library};
 
 /// What is published, on the entry of house 0 and number 0 where nothing else is said.
-fn published() -> Declaration {
+pub(super) fn published() -> Declaration {
     honey(77, 40, 800)
+}
+
+/// What wrong houses tell in its place.
+pub(super) fn lie() -> Declaration {
+    honey(77, 40, 799)
 }
 
 /// Which of the houses delivered what was published, on the entry of this sender and number 0. None
@@ -31,7 +36,7 @@ fn answers<L: Library>(season: &mut Season<L>) -> Vec<Option<u8>> {
 }
 
 /// Whether a copy is of this kind.
-fn is_kind(bytes: &[u8], kind: Kind) -> bool {
+pub(super) fn is_kind(bytes: &[u8], kind: Kind) -> bool {
     bytes[3] == kind as u8
 }
 
@@ -240,4 +245,72 @@ pub fn crashes(library: &mut impl Library) {
     sender_down(library);
     asking_often(library);
     all_helped(library);
+}
+
+/// Four houses, of which these are wrong, and f and d at zero: house 0 publishes. Each wrong house
+/// hands house 0 a READY of that, and house 1 a READY of the lie. Then every copy is consumed, in the
+/// order sent, and every answer is 0.
+pub fn two_faced<'l, L: Library>(library: &'l mut L, wrong: &[usize]) -> Season<'l, L> {
+    let rules = Rules {
+        sheet: open_sheet(),
+        ..Rules::new(4, 1, wrong)
+    };
+    let mut season = Season::open(library, rules);
+    assert_eq!(season.publish(0, 0, &published()), 0, "the publication");
+    for (to, told) in [(0, published()), (1, lie())] {
+        for &from in wrong {
+            let ready = message(Kind::Ready as u8, SEASON, 0, 0, &told);
+            let answer = season.hand_in(to, from as u32, &ready);
+            assert_eq!(answer, 0, "READY of {from} to {to}");
+        }
+    }
+    while season.pending() > 0 {
+        assert_eq!(season.consume(0), Some(0), "a copy is consumed");
+    }
+    season
+}
+
+/// The kind, giver and declaration of every four copies, which go to all four houses.
+fn given<L: Library>(season: &Season<L>) -> Vec<(u8, usize, Declaration)> {
+    let mut given = vec![];
+    for copies in season.copies().chunks(4) {
+        let (from, bytes) = (copies[0].from, copies[0].bytes);
+        for (to, copy) in copies.iter().enumerate() {
+            assert_eq!((copy.from, copy.to, copy.bytes), (from, to, bytes));
+        }
+        let v = bytes[16..].try_into().expect("20 bytes");
+        given.push((bytes[3], from, v));
+    }
+    given
+}
+
+/// Two wrong houses of four are one more than t: the two honest ones deliver different declarations on
+/// the entry of house 0, which is honest and published one of them and nothing else. All n + 2hn copies
+/// are sent, and those between honest houses consumed. With house 3 alone wrong the same steps end in
+/// agreement.
+pub fn one_wrong_too_many(library: &mut impl Library) {
+    let mut season = two_faced(library, &[2, 3]);
+    season.check();
+    assert!(season.is_drained(), "nothing is left");
+    assert_eq!(season.consumed(), 10, "between honest houses");
+    let [send, echo, ready] = [Kind::Send, Kind::Echo, Kind::Ready].map(|kind| kind as u8);
+    let all = [
+        (send, 0, published()),
+        (ready, 0, published()),
+        (ready, 1, lie()),
+        (echo, 0, published()),
+        (echo, 1, published()),
+    ];
+    assert_eq!(given(&season), all, "4 + 2 * 2 * 4 copies, in order");
+    assert_eq!(season.published(0, 0), Some(published()));
+    assert_eq!(season.delivered(0, 0, 0), Some(published()));
+    assert_eq!(season.delivered(1, 0, 0), Some(lie()));
+    assert_eq!(season.disagreements(), [0], "the entry of house 0");
+
+    let mut season = two_faced(library, &[3]);
+    season.check();
+    assert!(season.is_drained(), "nothing is left");
+    assert_eq!(season.copies_on(0, 0), [4, 12, 12], "4 + 2 * 3 * 4 copies");
+    assert_eq!(season.consumed(), 21, "between honest houses");
+    assert_eq!(delivered(&season, 0), [0, 1, 2], "what was published");
 }
