@@ -8,17 +8,17 @@ use lib.Dec.{T, lit<, lit≤}
 use lib.ListN.{getD}
 use Rattle.card.specs.Card.{tolerated, fitting, downOk, mostDown}
 use Rattle.card.specs.Card as card
-use Rattle.entry.specs.Lists.{tally}
 use Rattle.protocol.specs.Run as protocol
-use Rattle.protocol.specs.Thresholds as thresholds
 use Rattle.meaning.specs.Layout.{mostLimit}
 use Rattle.season.specs.Run.{isHonest, isUp, Open, State, Step, downs, run}
 use Rattle.season.specs.Claims.{Delivered, Published, consumption}
 use Rattle.season.proofs.Calls.{wall, Means}
-use Rattle.season.proofs.Season.{downs-same, copies-same, consumed-counted, copies-left, requests-left, claims}
+use Rattle.season.proofs.Season.{consumed-counted, claims}
 use Rattle.runs.specs.Sample.{sample, lot, lie}
+use Rattle.runs.specs.Counts.{counts}
 use Rattle.runs.proofs.Sample.{sample-open}
-use Rattle.runs.proofs.Means.{endOf, means}
+use Rattle.runs.proofs.Means.{endOf, read-off}
+use Rattle.runs.proofs.Counts.{told-counts, counts-told, drained-by, limited-by, down-is}
 use Rattle.liar.specs.Raised.{honest, houses, steps, end, Seen, seen, met, Raised, NoMore}
 use Rattle.liar.proofs.Unmoved.{up}
 use Rattle.liar.proofs.Final.{final}
@@ -35,12 +35,8 @@ told z =
       publications = z .gave .publications 0 0 0;
       first = z .gave .deliveries 0 0 0;
       second = z .gave .deliveries 1 0 0;
-      copies = protocol.copies 0 0 z;
       consumed = protocol.consumedBetween (wall houses) 0 0 z;
-      left = protocol.copiesOf 0 0 (λ m. protocol.upCopy (wall houses) z m && not (m .consumed)) (z .mail);
-      requests = tally (λ m. protocol.upRequest (wall houses) z m && not (m .consumed)) (z .power .requests);
-      down = thresholds.downs (wall houses) z;
-      returned = z .power .returned;
+      counts = told-counts houses z;
     }
 
 seen-told : (s : State) (z : protocol.State) → Means houses s z → seen s ≡ told z
@@ -51,22 +47,18 @@ seen-told s z M =
       publications = sym (M .gave .publications) i 0 0 0;
       first = sym (M .gave .deliveries) i 0 0 0;
       second = sym (M .gave .deliveries) i 1 0 0;
-      copies = copies-same houses s z M 0 0 i;
       consumed = consumed-counted houses s z M 0 0 i;
-      left = copies-left houses s z M 0 0 i;
-      requests = requests-left houses s z M 0 0 i;
-      down = sym (downs-same houses s z M) i;
-      returned = sym (M .returned) i;
+      counts = counts-told houses s z M i;
     }
 
 -- the protocol's run, computed
-told-met : told (endOf houses steps) ≡ met
-unfolding houses steps endOf
-told-met = refl
-
 computed : seen end ≡ met
-unfolding end
-computed = seen-told end (endOf houses steps) (means houses opened steps) ∙ told-met
+unfolding end houses steps endOf
+computed = read-off houses opened steps seen told seen-told met refl
+
+counted : counts houses end ≡ met .counts
+unfolding seen
+counted = ap (λ (x : Seen). x .counts) computed
 
 published : Published houses 0 0 end lot
 unfolding seen
@@ -102,8 +94,7 @@ not-lot : (s : State) → Delivered houses 0 0 s 1 lie → Delivered houses 0 0 
 not-lot s a b = different (ap only (sym b ∙ a))
 
 none-down : downs houses end ≡ 0
-unfolding seen
-none-down = ap (λ (x : Seen). x .down) computed
+none-down = down-is houses end _ counted
 
 -- house 1 is up
 other-up : T (isUp houses end 1)
@@ -122,9 +113,9 @@ raised =
       opened = opened;
       one-more = refl;
       still = refl;
-      limited = λ r t. subst (λ (f : ℕ → ℕ). f r ≤ 0) (sym (ap (λ (x : Seen). x .returned) computed)) (lit≤ tt);
+      limited = limited-by houses end _ counted (λ r. lit≤ tt);
       high = none-down;
-      drained = record { copies = ap (λ (x : Seen). x .left) computed; requests = ap (λ (x : Seen). x .requests) computed };
+      drained = drained-by houses end _ counted refl refl;
       first-honest = tt;
       second-honest = tt;
       published = published;

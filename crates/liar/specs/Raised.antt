@@ -2,16 +2,16 @@
 -- on one entry. Its sender is honest, so that one house delivers what the sender never published.
 use Prim.Native.Nat.{ℕ, suc, _≤_, _<_}
 use mathlib.Core.Path.{_≡_}
-use mathlib.Core.Bool.{Bool, not, _&&_}
+use mathlib.Core.Bool.{Bool}
 use mathlib.Core.List.{List, [], _∷_}
 use lib.Dec.{T, ltb}
 use Rattle.card.specs.Card.{fitting}
 use Rattle.card.specs.Count.{count}
-use Rattle.entry.specs.Lists.{tally}
-use Rattle.season.specs.Run.{Houses, isHonest, isWrong, Open, State, Step, publish, consume, wrong, start, run, copies, copiesOf}
-use Rattle.season.specs.Run.{consumedBetween, upBetween, Drained, Limited, downs}
+use Rattle.season.specs.Run.{Houses, isHonest, isWrong, Open, State, Step, publish, consume, wrong, start, run}
+use Rattle.season.specs.Run.{consumedBetween, Drained, Limited, downs}
 use Rattle.season.specs.Claims.{Few, Delivered, Published, Agreed, Complete, Deliverable, Exact}
 use Rattle.runs.specs.Sample.{sample, lot, lie, says}
+use Rattle.runs.specs.Counts.{Counts, counts, drained}
 
 -- houses 0 and 1 are honest
 abbrev pub honest : ℕ → Bool
@@ -41,14 +41,9 @@ pub record Seen : Type 0 where
   -- at house 0, and at house 1
   pub first : List (List ℕ)
   pub second : List (List ℕ)
-  pub copies : ℕ
   -- between honest houses
   pub consumed : ℕ
-  -- of the copies, and of the requests, between up houses and not consumed
-  pub left : ℕ
-  pub requests : ℕ
-  pub down : ℕ
-  pub returned : ℕ → ℕ
+  pub counts : Counts
 
 unfoldable pub seen : State → Seen
 unfolding houses
@@ -57,12 +52,8 @@ seen s =
       publications = s .gave .publications 0 0 0;
       first = s .gave .deliveries 0 0 0;
       second = s .gave .deliveries 1 0 0;
-      copies = copies 0 0 s;
       consumed = consumedBetween houses 0 0 s;
-      left = copiesOf 0 0 (λ m. upBetween houses s m && not (m .consumed)) s;
-      requests = tally (λ m. upBetween houses s m && not (m .consumed)) (s .power .requests);
-      down = downs houses s;
-      returned = s .power .returned;
+      counts = counts houses s;
     }
 
 -- 4 of the SEND, 4 of each of two ECHOes and two READYs
@@ -72,12 +63,8 @@ met =
       publications = lot ∷ [];
       first = lot ∷ [];
       second = lie ∷ [];
-      copies = 20;
       consumed = 10;
-      left = 0;
-      requests = 0;
-      down = 0;
-      returned = λ r. 0;
+      counts = drained 20 0 (λ r. 0);
     }
 
 pub record Raised : Type 0 where

@@ -1,5 +1,6 @@
 pub mod Sample
 pub mod Means
+pub mod Counts
 pub mod PowerCut
 pub mod Liar
 pub mod Plain

@@ -1,7 +1,7 @@
 -- What is read off a run at the bytes is read off the protocol's run that it means, which has entries in place of bytes and so computes in
 -- a hundredth of the time.
 use Prim.Native.Nat.{ℕ, _<_}
-use mathlib.Core.Path.{_≡_, sym, ap}
+use mathlib.Core.Path.{_≡_, sym, ap, _∙_}
 use mathlib.Core.Bool.{true}
 use mathlib.Core.List.{List}
 use lib.Dec.{T, ltb}
@@ -31,9 +31,15 @@ unfolding wallOf fitting quorum amplify deliver okBy plausible bytesOf sheetAt o
     protocol.called protocol.consumes outcome after publish publishes receive recording takesSend takesEcho takesReady same
 endOf H l = protocol.run (wall H) (stepsOf H l) protocol.start
 
-pub means : (H : Houses) → Open H → (l : List Step) → Means H (run H l (start H)) (endOf H l)
+means : (H : Houses) → Open H → (l : List Step) → Means H (run H l (start H)) (endOf H l)
 unfolding endOf
 means H O l = season-means H O l
+
+-- what is read off the run at the bytes, where the same is read off the protocol's
+pub read-off : {A : Type 0} (H : Houses) → Open H → (l : List Step) (seen : State → A) (told : protocol.State → A)
+    → ((s : State) (z : protocol.State) → Means H s z → seen s ≡ told z) → (met : A) → told (endOf H l) ≡ met
+    → seen (run H l (start H)) ≡ met
+read-off H O l seen told same met e = same (run H l (start H)) (endOf H l) (means H O l) ∙ e
 
 module _ (H : Houses) (s : State) (z : protocol.State) (M : Means H s z) (r : ℕ) (honest : T (isHonest H r)) where
   abbrev b : List ℕ

@@ -1,22 +1,23 @@
 -- The run with d = 0: the premises of 01's exact counts can be met, and so what they claim comes of it.
-use mathlib.Core.Path.{_≡_, refl, sym, ap, subst, _∙_}
+use mathlib.Core.Path.{_≡_, refl, sym, ap}
 use mathlib.Core.Bool.{not, _&&_}
-use Prim.Native.Nat.{ℕ, _≤_}
+use Prim.Native.Nat.{_≤_}
 use lib.Dec.{ltb, lit<, lit≤}
 use Rattle.card.specs.Card.{tolerated, fitting, downOk, mostDown}
 use Rattle.card.specs.Card as card
 use Rattle.entry.specs.Entry.{ECHO, READY}
 use Rattle.protocol.specs.Run as protocol
-use Rattle.protocol.specs.Thresholds.{downs}
 use Rattle.meaning.specs.Layout.{mostLimit}
 use Rattle.season.specs.Run.{Open, State, copies, readies}
 use Rattle.season.specs.Claims.{Exact}
 use Rattle.season.proofs.Calls.{wall, Means}
-use Rattle.season.proofs.Season.{downs-same, copies-same, between-counted, unconsumed-counted, claims}
+use Rattle.season.proofs.Season.{between-counted, unconsumed-counted, claims}
 use Rattle.runs.specs.Plain.{houses, steps, end, Seen, seen, met, Met}
 use Rattle.runs.specs.Sample.{sample, lot}
+use Rattle.runs.specs.Counts.{counts}
 use Rattle.runs.proofs.Sample.{sample-open}
-use Rattle.runs.proofs.Means.{endOf, means, heard-is}
+use Rattle.runs.proofs.Means.{endOf, read-off, heard-is}
+use Rattle.runs.proofs.Counts.{told-counts, counts-told, limited-by, down-is}
 
 opened : Open houses
 unfolding houses sample fitting tolerated card.housesOk downOk mostDown mostLimit
@@ -28,11 +29,9 @@ told z =
     record {
       publications = z .gave .publications 0 0 0;
       deliveries = z .gave .deliveries 2 0 0;
-      copies = protocol.copies 0 0 z;
       between = protocol.between (wall houses) 0 0 z;
       left = protocol.copiesOf 0 0 (λ m. protocol.isBetween (wall houses) m && not (m .consumed)) (z .mail);
-      down = downs (wall houses) z;
-      returned = z .power .returned;
+      counts = told-counts houses z;
       first-echo = z .gave .books 1 0 0 .echo 3;
       other-echo = z .gave .books 2 0 0 .echo 3;
       forged = z .gave .books 2 0 0 .ready 3;
@@ -46,11 +45,9 @@ seen-told s z M =
     record {
       publications = sym (M .gave .publications) i 0 0 0;
       deliveries = sym (M .gave .deliveries) i 2 0 0;
-      copies = copies-same houses s z M 0 0 i;
       between = between-counted houses s z M 0 0 i;
       left = unconsumed-counted houses s z M 0 0 i;
-      down = sym (downs-same houses s z M) i;
-      returned = sym (M .returned) i;
+      counts = counts-told houses s z M i;
       first-echo = heard-is houses s z M 1 tt 0 0 (lit< tt) (lit< tt) ECHO 3 (lit< tt) i;
       other-echo = heard-is houses s z M 2 tt 0 0 (lit< tt) (lit< tt) ECHO 3 (lit< tt) i;
       forged = heard-is houses s z M 2 tt 0 0 (lit< tt) (lit< tt) READY 3 (lit< tt) i;
@@ -58,24 +55,21 @@ seen-told s z M =
     }
 
 -- the protocol's run, computed
-told-met : told (endOf houses steps) ≡ met
-unfolding houses steps endOf
-told-met = refl
-
 computed : seen end ≡ met
-unfolding end
-computed = seen-told end (endOf houses steps) (means houses opened steps) ∙ told-met
+unfolding end houses steps endOf
+computed = read-off houses opened steps seen told seen-told met refl
 
 pub plain : Met
 unfolding houses sample seen fitting tolerated
 plain =
+    let counted : counts houses end ≡ met .counts = ap (λ (x : Seen). x .counts) computed in
     record {
       computed = computed;
       opened = opened;
       few = lit≤ tt;
       still = refl;
-      limited = λ r t. subst (λ (f : ℕ → ℕ). f r ≤ 0) (sym (ap (λ (x : Seen). x .returned) computed)) (lit≤ tt);
-      high = ap (λ (x : Seen). x .down) computed;
+      limited = limited-by houses end _ counted (λ r. lit≤ tt);
+      high = down-is houses end _ counted;
       published = ap (λ (x : Seen). x .publications) computed;
       consumed = ap (λ (x : Seen). x .left) computed;
       delivered = ap (λ (x : Seen). x .deliveries) computed;

@@ -1,23 +1,22 @@
 -- The run of three houses: the premises of the claims can be met, and so what they claim comes of it.
-use mathlib.Core.Path.{_≡_, refl, sym, ap, subst, _∙_}
-use mathlib.Core.Bool.{Bool, true, false, not, cond, _&&_}
+use mathlib.Core.Path.{_≡_, refl, sym, ap, subst}
+use mathlib.Core.Bool.{true}
 use Prim.Native.Nat.{ℕ, _≤_}
-use native.Mathlib.Omega.{arith}
 use lib.Dec.{eqb, lit<, lit≤}
 use Rattle.card.specs.Card.{tolerated, fitting, downOk, mostDown}
 use Rattle.card.specs.Card as card
-use Rattle.entry.specs.Lists.{tally}
 use Rattle.protocol.specs.Run as protocol
-use Rattle.protocol.specs.Thresholds.{downs}
 use Rattle.meaning.specs.Layout.{mostLimit}
 use Rattle.season.specs.Run.{Open, State}
 use Rattle.season.specs.Claims.{Everywhere}
-use Rattle.season.proofs.Calls.{wall, Means}
-use Rattle.season.proofs.Season.{downs-same, copies-same, copies-left, requests-left, claims}
+use Rattle.season.proofs.Calls.{Means}
+use Rattle.season.proofs.Season.{claims}
 use Rattle.runs.specs.Sample.{sample, lot}
+use Rattle.runs.specs.Counts.{counts}
 use Rattle.runs.specs.PowerCut.{houses, steps, end, Seen, seen, met, Met}
 use Rattle.runs.proofs.Sample.{sample-open}
-use Rattle.runs.proofs.Means.{endOf, means, helped-is}
+use Rattle.runs.proofs.Means.{endOf, read-off, helped-is}
+use Rattle.runs.proofs.Counts.{told-counts, counts-told, drained-by, limited-by, one-of, down-is}
 
 opened : Open houses
 unfolding houses sample fitting tolerated card.housesOk downOk mostDown mostLimit
@@ -30,11 +29,7 @@ told z =
       publications = z .gave .publications 0 0 0;
       deliveries = z .gave .deliveries 2 0 0;
       nothing = z .gave .deliveries 1 0 0;
-      copies = protocol.copies 0 0 z;
-      left = protocol.copiesOf 0 0 (λ m. protocol.upCopy (wall houses) z m && not (m .consumed)) (z .mail);
-      requests = tally (λ m. protocol.upRequest (wall houses) z m && not (m .consumed)) (z .power .requests);
-      down = downs (wall houses) z;
-      returned = z .power .returned;
+      counts = told-counts houses z;
       helped = z .power .helped 0 2;
     }
 
@@ -46,38 +41,27 @@ seen-told s z M =
       publications = sym (M .gave .publications) i 0 0 0;
       deliveries = sym (M .gave .deliveries) i 2 0 0;
       nothing = sym (M .gave .deliveries) i 1 0 0;
-      copies = copies-same houses s z M 0 0 i;
-      left = copies-left houses s z M 0 0 i;
-      requests = requests-left houses s z M 0 0 i;
-      down = sym (downs-same houses s z M) i;
-      returned = sym (M .returned) i;
+      counts = counts-told houses s z M i;
       helped = helped-is houses s z M 0 tt 2 i;
     }
 
 -- the protocol's run, computed
-told-met : told (endOf houses steps) ≡ met
-unfolding houses steps endOf
-told-met = refl
-
 computed : seen end ≡ met
-unfolding end
-computed = seen-told end (endOf houses steps) (means houses opened steps) ∙ told-met
-
-at-one : (b : Bool) → cond b 1 0 ≤ 1
-at-one true = omega arith
-at-one false = omega arith
+unfolding end houses steps endOf
+computed = read-off houses opened steps seen told seen-told met refl
 
 pub example : Met
 unfolding houses sample seen fitting tolerated
 example =
+    let counted : counts houses end ≡ met .counts = ap (λ (x : Seen). x .counts) computed in
     record {
       computed = computed;
       opened = opened;
       few = lit≤ tt;
-      limited = λ r t. subst (λ (f : ℕ → ℕ). f r ≤ 1) (sym (ap (λ (x : Seen). x .returned) computed)) (at-one (eqb r 2));
-      low = subst (λ (x : ℕ). x ≤ 1) (sym (ap (λ (x : Seen). x .down) computed)) (lit≤ tt);
+      limited = limited-by houses end _ counted (λ r. one-of (eqb r 2));
+      low = subst (λ (x : ℕ). x ≤ 1) (sym (down-is houses end _ counted)) (lit≤ tt);
       published = ap (λ (x : Seen). x .publications) computed;
-      drained = record { copies = ap (λ (x : Seen). x .left) computed; requests = ap (λ (x : Seen). x .requests) computed };
+      drained = drained-by houses end _ counted refl refl;
       delivered = ap (λ (x : Seen). x .deliveries) computed;
     }
 

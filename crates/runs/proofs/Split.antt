@@ -1,25 +1,24 @@
 -- The run with a lying sender: the premises of the claims are met, and so what they claim comes of it.
-use mathlib.Core.Path.{_≡_, refl, sym, ap, subst, _∙_}
-use mathlib.Core.Bool.{not, _&&_}
+use mathlib.Core.Path.{_≡_, refl, sym, ap, subst}
 use mathlib.Core.List.{List, [], _∷_}
 use Prim.Native.Nat.{ℕ, _≤_}
 use lib.Dec.{T, ltb, lit<, lit≤}
 use Rattle.card.specs.Card.{tolerated, fitting, downOk, mostDown}
 use Rattle.card.specs.Card as card
 use Rattle.entry.specs.Entry.{SEND}
-use Rattle.entry.specs.Lists.{tally}
 use Rattle.protocol.specs.Run as protocol
-use Rattle.protocol.specs.Thresholds.{downs}
 use Rattle.meaning.specs.Layout.{mostLimit, sendSlot}
 use Rattle.meaning.specs.Book.{slotIn}
 use Rattle.season.specs.Run.{isHonest, Open, State}
 use Rattle.season.specs.Claims.{Everywhere}
-use Rattle.season.proofs.Calls.{wall, Means}
-use Rattle.season.proofs.Season.{downs-same, copies-same, readies-counted, copies-left, requests-left, claims}
+use Rattle.season.proofs.Calls.{Means}
+use Rattle.season.proofs.Season.{readies-counted, claims}
 use Rattle.runs.specs.Sample.{sample, lot}
+use Rattle.runs.specs.Counts.{counts}
 use Rattle.runs.specs.Split.{houses, steps, end, Seen, seen, met, Met}
 use Rattle.runs.proofs.Sample.{sample-open}
-use Rattle.runs.proofs.Means.{endOf, means, heard-is}
+use Rattle.runs.proofs.Means.{endOf, read-off, heard-is}
+use Rattle.runs.proofs.Counts.{told-counts, counts-told, drained-by, limited-by, down-is}
 
 opened : Open houses
 unfolding houses sample fitting tolerated card.housesOk downOk mostDown mostLimit
@@ -31,12 +30,8 @@ told z =
     record {
       heard = z .gave .books 1 0 0 .send ∷ z .gave .books 2 0 0 .send ∷ z .gave .books 3 0 0 .send ∷ [];
       deliveries = z .gave .deliveries 1 0 0 ∷ z .gave .deliveries 2 0 0 ∷ z .gave .deliveries 3 0 0 ∷ [];
-      copies = protocol.copies 0 0 z;
       readies = protocol.readies 0 0 z;
-      left = protocol.copiesOf 0 0 (λ m. protocol.upCopy (wall houses) z m && not (m .consumed)) (z .mail);
-      requests = tally (λ m. protocol.upRequest (wall houses) z m && not (m .consumed)) (z .power .requests);
-      down = downs (wall houses) z;
-      returned = z .power .returned;
+      counts = told-counts houses z;
     }
 
 seen-told : (s : State) (z : protocol.State) → Means houses s z → seen s ≡ told z
@@ -47,25 +42,17 @@ seen-told s z M =
     record {
       heard = send 1 tt i ∷ send 2 tt i ∷ send 3 tt i ∷ [];
       deliveries = d 1 0 0 ∷ d 2 0 0 ∷ d 3 0 0 ∷ [];
-      copies = copies-same houses s z M 0 0 i;
       readies = readies-counted houses s z M 0 0 i;
-      left = copies-left houses s z M 0 0 i;
-      requests = requests-left houses s z M 0 0 i;
-      down = sym (downs-same houses s z M) i;
-      returned = sym (M .returned) i;
+      counts = counts-told houses s z M i;
     }
   where
     send : (r : ℕ) → T (isHonest houses r) → slotIn (s .gave .books r) 0 0 sendSlot ≡ z .gave .books r 0 0 .send
     send r t = heard-is houses s z M r t 0 0 (lit< tt) (lit< tt) SEND 0 (lit< tt)
 
 -- the protocol's run, computed
-told-met : told (endOf houses steps) ≡ met
-unfolding houses steps endOf
-told-met = refl
-
 computed : seen end ≡ met
-unfolding end
-computed = seen-told end (endOf houses steps) (means houses opened steps) ∙ told-met
+unfolding end houses steps endOf
+computed = read-off houses opened steps seen told seen-told met refl
 
 abbrev first : List (List (List ℕ)) → List (List ℕ)
 first [] = []
@@ -74,13 +61,14 @@ first (x ∷ l) = x
 pub split : Met
 unfolding houses sample seen fitting tolerated
 split =
+    let counted : counts houses end ≡ met .counts = ap (λ (x : Seen). x .counts) computed in
     record {
       computed = computed;
       opened = opened;
       few = lit≤ tt;
-      limited = λ r t. subst (λ (f : ℕ → ℕ). f r ≤ 0) (sym (ap (λ (x : Seen). x .returned) computed)) (lit≤ tt);
-      low = subst (λ (x : ℕ). x ≤ 0) (sym (ap (λ (x : Seen). x .down) computed)) (lit≤ tt);
-      drained = record { copies = ap (λ (x : Seen). x .left) computed; requests = ap (λ (x : Seen). x .requests) computed };
+      limited = limited-by houses end _ counted (λ r. lit≤ tt);
+      low = subst (λ (x : ℕ). x ≤ 0) (sym (down-is houses end _ counted)) (lit≤ tt);
+      drained = drained-by houses end _ counted refl refl;
       delivered = ap (λ (x : Seen). first (x .deliveries)) computed;
     }
 

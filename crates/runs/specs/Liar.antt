@@ -2,18 +2,18 @@
 -- liar that is heard and asks for help twice.
 use Prim.Native.Nat.{ℕ, _≤_}
 use mathlib.Core.Path.{_≡_}
-use mathlib.Core.Bool.{not, cond, _&&_}
+use mathlib.Core.Bool.{cond}
 use mathlib.Core.List.{List, [], _∷_, _++_}
 use mathlib.Core.Option.{Option, some}
 use lib.Dec.{eqb, ltb}
 use Rattle.message.specs.Message.{requestWire}
-use Rattle.entry.specs.Lists.{tally}
 use Rattle.meaning.specs.Layout.{echoSlot}
 use Rattle.meaning.specs.Book.{slotIn, helpedOf}
-use Rattle.season.specs.Run.{Houses, State, Step, publish, consume, wrong, crash, comeback, help, start, run, copiesOf, copies, Open}
-use Rattle.season.specs.Run.{upBetween, Drained, Limited, downs}
+use Rattle.season.specs.Run.{Houses, State, Step, publish, consume, wrong, crash, comeback, help, start, run, Open}
+use Rattle.season.specs.Run.{Drained, Limited, downs}
 use Rattle.season.specs.Claims.{Few}
 use Rattle.runs.specs.Sample.{sample, lot, lie, says, consumeFrom}
+use Rattle.runs.specs.Counts.{Counts, counts, drained}
 
 -- n = 4, f = 0, d = 1, houses 0 to 2 honest
 unfoldable pub houses : Houses
@@ -52,12 +52,7 @@ delivered s = s .gave .deliveries 0 0 0 ∷ s .gave .deliveries 1 0 0 ∷ s .gav
 pub record Seen : Type 0 where
   -- at houses 0, 1 and 2; house 1 was down
   pub deliveries : List (List (List ℕ))
-  pub copies : ℕ
-  -- of these, and of the requests, between up houses and not consumed
-  pub left : ℕ
-  pub requests : ℕ
-  pub down : ℕ
-  pub returned : ℕ → ℕ
+  pub counts : Counts
   -- the liar's ECHO in house 2's book
   pub heard : Option (List ℕ)
   -- how often house 0 helped the liar, and house 1
@@ -69,11 +64,7 @@ unfolding houses
 seen s =
     record {
       deliveries = delivered s;
-      copies = copies 0 0 s;
-      left = copiesOf 0 0 (λ m. upBetween houses s m && not (m .consumed)) s;
-      requests = tally (λ m. upBetween houses s m && not (m .consumed)) (s .power .requests);
-      down = downs houses s;
-      returned = s .power .returned;
+      counts = counts houses s;
       heard = slotIn (s .gave .books 2) 0 0 (echoSlot 3);
       liar = helpedOf (s .gave .books 0) 3;
       back = helpedOf (s .gave .books 0) 1;
@@ -84,11 +75,7 @@ abbrev pub met : Seen
 met =
     record {
       deliveries = (lot ∷ []) ∷ (lot ∷ []) ∷ (lot ∷ []) ∷ [];
-      copies = 33;
-      left = 0;
-      requests = 0;
-      down = 0;
-      returned = λ r. cond (eqb r 1) 1 0;
+      counts = drained 33 0 (λ r. cond (eqb r 1) 1 0);
       heard = some lie;
       liar = 1;
       back = 1;

@@ -1,4 +1,5 @@
 pub mod Sample
+pub mod Counts
 pub mod PowerCut
 pub mod Liar
 pub mod Plain

@@ -8,10 +8,11 @@ use mathlib.Core.Option.{Option, some}
 use lib.Dec.{ltb}
 use Rattle.meaning.specs.Layout.{echoSlot, readySlot}
 use Rattle.meaning.specs.Book.{slotIn}
-use Rattle.season.specs.Run.{Houses, Open, State, Step, publish, consume, wrong, start, run, copiesOf, copies, between, isBetween, Limited}
+use Rattle.season.specs.Run.{Houses, Open, State, Step, publish, consume, wrong, start, run, copiesOf, between, isBetween, Limited}
 use Rattle.season.specs.Run.{downs}
 use Rattle.season.specs.Claims.{Few, Delivered, Published}
 use Rattle.runs.specs.Sample.{sample, lot, lie, says, consumeFrom}
+use Rattle.runs.specs.Counts.{Counts, counts, drained}
 
 -- n = 4, f = 0, d = 0, houses 0 to 2 honest
 unfoldable pub houses : Houses
@@ -37,12 +38,10 @@ pub record Seen : Type 0 where
   pub publications : List (List ℕ)
   -- at house 2
   pub deliveries : List (List ℕ)
-  pub copies : ℕ
   pub between : ℕ
   -- of these not consumed
   pub left : ℕ
-  pub down : ℕ
-  pub returned : ℕ → ℕ
+  pub counts : Counts
   -- in house 1's book and in house 2's, the liar's ECHO; in house 2's its READY, and house 1's
   pub first-echo : Option (List ℕ)
   pub other-echo : Option (List ℕ)
@@ -55,11 +54,9 @@ seen s =
     record {
       publications = s .gave .publications 0 0 0;
       deliveries = s .gave .deliveries 2 0 0;
-      copies = copies 0 0 s;
       between = between houses 0 0 s;
       left = copiesOf 0 0 (λ m. isBetween houses m && not (m .consumed)) s;
-      down = downs houses s;
-      returned = s .power .returned;
+      counts = counts houses s;
       first-echo = slotIn (s .gave .books 1) 0 0 (echoSlot 3);
       other-echo = slotIn (s .gave .books 2) 0 0 (echoSlot 3);
       forged = slotIn (s .gave .books 2) 0 0 (readySlot 4 3);
@@ -72,11 +69,9 @@ met =
     record {
       publications = lot ∷ [];
       deliveries = lot ∷ [];
-      copies = 28;
       between = 21;
       left = 0;
-      down = 0;
-      returned = λ r. 0;
+      counts = drained 28 0 (λ r. 0);
       first-echo = some lie;
       other-echo = some lot;
       forged = some lie;

@@ -2,16 +2,16 @@
 -- back later, house 1 down at the end; and bytes under a number not below n, a request among them.
 use Prim.Native.Nat.{ℕ, _≤_}
 use mathlib.Core.Path.{_≡_}
-use mathlib.Core.Bool.{true, not, cond, _&&_}
+use mathlib.Core.Bool.{true, cond}
 use mathlib.Core.List.{List, [], _∷_}
 use lib.Dec.{eqb}
 use Rattle.message.specs.Message.{requestWire}
-use Rattle.entry.specs.Lists.{tally}
 use Rattle.meaning.specs.Book.{helpedOf}
-use Rattle.season.specs.Run.{Houses, Open, State, Step, publish, consume, wrong, crash, comeback, help, start, run, copiesOf, copies}
-use Rattle.season.specs.Run.{upBetween, Drained, Limited, downs}
+use Rattle.season.specs.Run.{Houses, Open, State, Step, publish, consume, wrong, crash, comeback, help, start, run}
+use Rattle.season.specs.Run.{Drained, Limited, downs}
 use Rattle.season.specs.Claims.{Few, Delivered, Published}
 use Rattle.runs.specs.Sample.{sample, lot, consumeFrom}
+use Rattle.runs.specs.Counts.{Counts, counts, drained}
 
 -- n = 3, f = 1, d = 1, all honest
 unfoldable pub houses : Houses
@@ -36,12 +36,7 @@ pub record Seen : Type 0 where
   -- at house 2, which was down, and at house 1, which is
   pub deliveries : List (List ℕ)
   pub nothing : List (List ℕ)
-  pub copies : ℕ
-  -- of these, and of the requests, between up houses and not consumed
-  pub left : ℕ
-  pub requests : ℕ
-  pub down : ℕ
-  pub returned : ℕ → ℕ
+  pub counts : Counts
   -- how often house 0 helped house 2
   pub helped : ℕ
 
@@ -52,11 +47,7 @@ seen s =
       publications = s .gave .publications 0 0 0;
       deliveries = s .gave .deliveries 2 0 0;
       nothing = s .gave .deliveries 1 0 0;
-      copies = copies 0 0 s;
-      left = copiesOf 0 0 (λ m. upBetween houses s m && not (m .consumed)) s;
-      requests = tally (λ m. upBetween houses s m && not (m .consumed)) (s .power .requests);
-      down = downs houses s;
-      returned = s .power .returned;
+      counts = counts houses s;
       helped = helpedOf (s .gave .books 0) 2;
     }
 
@@ -67,11 +58,7 @@ met =
       publications = lot ∷ [];
       deliveries = lot ∷ [];
       nothing = [];
-      copies = 20;
-      left = 0;
-      requests = 0;
-      down = 1;
-      returned = λ r. cond (eqb r 2) 1 0;
+      counts = drained 20 1 (λ r. cond (eqb r 2) 1 0);
       helped = 1;
     }
 

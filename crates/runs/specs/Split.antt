@@ -2,16 +2,15 @@
 -- others honest. One of the two is delivered at all, at the house that heard the other too.
 use Prim.Native.Nat.{ℕ, _≤_}
 use mathlib.Core.Path.{_≡_}
-use mathlib.Core.Bool.{not, _&&_}
 use mathlib.Core.List.{List, [], _∷_}
 use mathlib.Core.Option.{Option, some}
 use lib.Dec.{ltb}
-use Rattle.entry.specs.Lists.{tally}
 use Rattle.meaning.specs.Layout.{sendSlot}
 use Rattle.meaning.specs.Book.{slotIn}
-use Rattle.season.specs.Run.{Houses, Open, State, Step, wrong, start, run, copiesOf, copies, readies, upBetween, Drained, Limited, downs}
+use Rattle.season.specs.Run.{Houses, Open, State, Step, wrong, start, run, readies, Drained, Limited, downs}
 use Rattle.season.specs.Claims.{Few, Delivered}
 use Rattle.runs.specs.Sample.{sample, lot, lie, says, consumeFrom}
+use Rattle.runs.specs.Counts.{Counts, counts, drained}
 
 -- n = 4, f = 0, d = 0, houses 1 to 3 honest
 unfoldable pub houses : Houses
@@ -35,13 +34,8 @@ pub record Seen : Type 0 where
   -- the SENDs that houses 1, 2 and 3 heard, and what they delivered
   pub heard : List (Option (List ℕ))
   pub deliveries : List (List (List ℕ))
-  pub copies : ℕ
   pub readies : ℕ
-  -- of the copies, and of the requests, between up houses and not consumed
-  pub left : ℕ
-  pub requests : ℕ
-  pub down : ℕ
-  pub returned : ℕ → ℕ
+  pub counts : Counts
 
 unfoldable pub seen : State → Seen
 unfolding houses
@@ -50,12 +44,8 @@ seen s =
       heard = slotIn (s .gave .books 1) 0 0 sendSlot ∷ slotIn (s .gave .books 2) 0 0 sendSlot
           ∷ slotIn (s .gave .books 3) 0 0 sendSlot ∷ [];
       deliveries = s .gave .deliveries 1 0 0 ∷ s .gave .deliveries 2 0 0 ∷ s .gave .deliveries 3 0 0 ∷ [];
-      copies = copies 0 0 s;
       readies = readies 0 0 s;
-      left = copiesOf 0 0 (λ m. upBetween houses s m && not (m .consumed)) s;
-      requests = tally (λ m. upBetween houses s m && not (m .consumed)) (s .power .requests);
-      down = downs houses s;
-      returned = s .power .returned;
+      counts = counts houses s;
     }
 
 -- 4 of each of three ECHOes and three READYs
@@ -64,12 +54,8 @@ met =
     record {
       heard = some lot ∷ some lot ∷ some lie ∷ [];
       deliveries = (lot ∷ []) ∷ (lot ∷ []) ∷ (lot ∷ []) ∷ [];
-      copies = 24;
       readies = 12;
-      left = 0;
-      requests = 0;
-      down = 0;
-      returned = λ r. 0;
+      counts = drained 24 0 (λ r. 0);
     }
 
 -- the premises of the claims are met
