@@ -13,6 +13,7 @@ use Rattle.calls.proofs.Keeps as keeps
 use Rattle.calls.proofs.Full as full
 use Rattle.calls.proofs.Earliest as search
 use Rattle.calls.proofs.Ordered.{publishing-ordered, receiving-ordered}
+use Rattle.calls.proofs.Conflict.{conflict-only}
 use Rattle.calls.proofs.Silent.{silent}
 use Rattle.calls.proofs.Between.{between}
 
@@ -30,6 +31,7 @@ claims =
       requested-meant = requested-meant;
       publishing = publishing-ordered;
       receiving = receiving-ordered;
+      conflict-only = conflict-only;
       silent = silent;
       kept = λ b L. keeps.answered-keeps b (L .legal) (L .bytes);
       full = λ b L. full.answered-full b (L .legal) (L .bytes);

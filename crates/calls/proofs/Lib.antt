@@ -13,4 +13,5 @@ pub mod Full
 pub mod Between
 pub mod Silent
 pub mod Ordered
+pub mod Conflict
 pub mod Claims

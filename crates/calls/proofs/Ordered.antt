@@ -3,7 +3,7 @@ use Prim.Native.Nat.{ℕ, _≤_, _<_}
 use mathlib.Core.Path.{_≡_, refl, sym, ap, _∙_}
 use mathlib.Core.Bool.{Bool, true, false, cond}
 use mathlib.Core.List.{List}
-use mathlib.Core.Option.{none, some}
+use mathlib.Core.Option.{Option, none, some}
 use native.Mathlib.Omega.{arith}
 use lib.Dec.{eqb}
 use lib.ListN.{getD}
@@ -13,13 +13,14 @@ use Rattle.message.specs.Message.{Five, Told, readAs, malformed, readOf, reques
 use Rattle.message.proofs.Request.{message-unasked}
 use Rattle.entry.specs.Entry.{Decl, Kind, SEND, ECHO, READY, heard}
 use Rattle.protocol.specs.Steps.{Out, publishes, may, recording}
+use Rattle.protocol.proofs.Recording.{recording-none, recording-same, recording-other}
 use Rattle.protocol.specs.Book.{Call, publishing, receiving, senderOf, numberOf}
 use Rattle.meaning.specs.Layout.{helpedPlace}
 use Rattle.meaning.specs.Book.{nOf, numbersOf, ownOf, seasonOf, limitOf, helpedOf, countHelp, look, sheetOf}
 use Rattle.meaning.specs.Legal.{legal, Has}
 use Rattle.calls.specs.Entered.{helping, okBy, kindNumber, kindOf, entered}
 use Rattle.calls.specs.Call.{refusal, stepOf, called, published, requestAnswer, requested, received}
-use Rattle.calls.specs.Answers.{Publishing, Reads, Inside, Receiving}
+use Rattle.calls.specs.Answers.{Publishing, Reads, Inside, Plausible, Conflict, Receiving}
 use Rattle.calls.proofs.Requests as requests
 use Rattle.calls.proofs.Checking.{missing, not-plausible, not-sender, answer-past}
 use Rattle.calls.proofs.Published.{number-missing, lot-not-plausible, already-there, step-publishes}
@@ -110,13 +111,9 @@ module _ (b : List ℕ) where
           has = record { is-legal = R .legal; sender = I .sender; number = I .number }
 
           module _ (t : okBy (sheetOf b) v ≡ true) (from : may j k p ≡ true) where
-            already-heard : (w : Decl) → heard k p (look b j c) ≡ some w → 7 ≡ stepOf b a .answer
-            unfolding recording
-            already-heard w e = sym (answer-past b j c p k v has (I .house) t from ∙ rw e)
-
-            first-heard : heard k p (look b j c) ≡ none → 0 ≡ stepOf b a .answer
-            unfolding recording
-            first-heard e = sym (answer-past b j c p k v has (I .house) t from ∙ rw e)
+            -- what recording answers of what was heard
+            recorded : (o : Option Decl) (n : ℕ) → recording o v ≡ n → heard k p (look b j c) ≡ o → n ≡ stepOf b a .answer
+            recorded o n r e = sym (answer-past b j c p k v has (I .house) t from ∙ ap (λ (o : Option Decl). recording o v) e ∙ r)
 
       -- what is well formed has one
       known : (k : Kind) × (kindOf (m .kind) ≡ some k) × (kindNumber k ≡ m .kind)
@@ -159,6 +156,28 @@ module _ (b : List ℕ) where
           request-accepted i =
               request-answer (seasonOf b) q ∙ sym (requests.request-accepted b p (seasonOf b) refl l (omega (arith, i, helped-is)))
 
+    abbrev answer : ℕ
+    answer = received b p message .given .answer
+
+    module _ (m : Five) (R : Reads b message m) where
+      repeated : (P : Plausible b p m) → (m .kind ≡ 1 → p ≡ m .sender) → (k : Kind) → kindOf (m .kind) ≡ some k
+          → heard k p (look b (m .sender) (m .number)) ≡ some (bytesOf (m .declaration)) → answer ≡ 7
+      repeated P s k e h =
+          receiving-answer m R k e 7
+          (recorded m R k e (P .inside) (P .plausible) (may-send m R k e s) (some (v m R)) 7 (recording-same (v m R)) h)
+
+      accepts : (P : Plausible b p m) → (m .kind ≡ 1 → p ≡ m .sender) → (k : Kind) → kindOf (m .kind) ≡ some k
+          → heard k p (look b (m .sender) (m .number)) ≡ none → answer ≡ 0
+      accepts P s k e h =
+          receiving-answer m R k e 0
+          (recorded m R k e (P .inside) (P .plausible) (may-send m R k e s) none 0 (recording-none (v m R)) h)
+
+      conflicts : Conflict b p m → answer ≡ 13
+      conflicts C =
+          receiving-answer m R (C .kind) (C .kind-is) 13
+          (recorded m R (C .kind) (C .kind-is) (C .plausible .inside) (C .plausible .plausible)
+          (may-send m R (C .kind) (C .kind-is) (C .from)) (some (C .stands)) 13 (recording-other (C .stands) (v m R) (C .other)) (C .heard))
+
     pub receiving-ordered : Receiving b p message
     receiving-ordered =
         record {
@@ -175,10 +194,9 @@ module _ (b : List ℕ) where
               receiving-answer m R SEND (kind-send (m .kind) e) 6
               (not-sender b (m .sender) (m .number) p SEND (v m R) (has m R SEND (kind-send (m .kind) e) (P .inside)) (P .inside .house)
               (P .plausible) (ne-eqb p (m .sender) f));
-          already = λ m R P s k e w h.
-              receiving-answer m R k e 7 (already-heard m R k e (P .inside) (P .plausible) (may-send m R k e s) w h);
-          accepted = λ m R P s k e h.
-              receiving-answer m R k e 0 (first-heard m R k e (P .inside) (P .plausible) (may-send m R k e s) h);
+          repeat = repeated;
+          conflict = conflicts;
+          accepted = accepts;
           request-other-season = request-season;
           request-missing = request-missing;
           request-enough = request-enough;

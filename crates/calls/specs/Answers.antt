@@ -44,7 +44,17 @@ pub record Plausible (b : List ℕ) (p : ℕ) (m : Five) : Type 0 where
   pub inside : Inside b p m
   pub plausible : ok b (bytesOf (m .declaration)) ≡ true
 
--- Receiving from house p: 1 to 7 in order; a request 1 to 4, then 14.
+-- and house p may say it; of its kind, from house p, stands another declaration
+pub record Conflict (b : List ℕ) (p : ℕ) (m : Five) : Type 0 where
+  pub plausible : Plausible b p m
+  pub from : m .kind ≡ 1 → p ≡ m .sender
+  pub kind : Kind
+  pub kind-is : kindOf (m .kind) ≡ some kind
+  pub stands : Decl
+  pub heard : heard kind p (look b (m .sender) (m .number)) ≡ some stands
+  pub other : stands ≡ bytesOf (m .declaration) → ⊥
+
+-- Receiving from house p: 1 to 6 in order, then 7 or 13; a request 1 to 4, then 14.
 pub record Receiving (b : List ℕ) (p : ℕ) (message : List ℕ) : Type 0 where
   pub no-book : legal b ≡ false → received b p message .given .answer ≡ 1
   pub malformed : legal b ≡ true → requestOf message ≡ none → readOf message ≡ malformed → received b p message .given .answer ≡ 2
@@ -56,9 +66,10 @@ pub record Receiving (b : List ℕ) (p : ℕ) (message : List ℕ) : Type 0 wher
       → received b p message .given .answer ≡ 5
   pub not-sender : (m : Five) → Reads b message m → Plausible b p m → m .kind ≡ 1 → (p ≡ m .sender → ⊥)
       → received b p message .given .answer ≡ 6
-  pub already : (m : Five) → Reads b message m → Plausible b p m → (m .kind ≡ 1 → p ≡ m .sender)
-      → (k : Kind) → kindOf (m .kind) ≡ some k → (w : Decl) → heard k p (look b (m .sender) (m .number)) ≡ some w
+  pub repeat : (m : Five) → Reads b message m → Plausible b p m → (m .kind ≡ 1 → p ≡ m .sender)
+      → (k : Kind) → kindOf (m .kind) ≡ some k → heard k p (look b (m .sender) (m .number)) ≡ some (bytesOf (m .declaration))
       → received b p message .given .answer ≡ 7
+  pub conflict : (m : Five) → Reads b message m → Conflict b p m → received b p message .given .answer ≡ 13
   pub accepted : (m : Five) → Reads b message m → Plausible b p m → (m .kind ≡ 1 → p ≡ m .sender)
       → (k : Kind) → kindOf (m .kind) ≡ some k → heard k p (look b (m .sender) (m .number)) ≡ none
       → received b p message .given .answer ≡ 0

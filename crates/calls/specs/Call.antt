@@ -72,7 +72,7 @@ abbrev pub heardAny : List ℕ → (house : ℕ) → Option ℕ → Option Five 
 heardAny b p (some season) m = requested b p season
 heardAny b p none m = heardFrom b p m
 
--- Receiving: 1 to 7 in order; a request 1 to 4, then 14.
+-- Receiving: 1 to 6 in order, then 7 or 13; a request 1 to 4, then 14.
 unfoldable pub received : List ℕ → (house : ℕ) → List ℕ → Result
 unfolding called requested
 received b p message = cond (legal b) (heardAny b p (requestOf message) (readOf message .five)) (refusal 1 b)

@@ -6,6 +6,7 @@ use mathlib.Core.List.{List}
 use mathlib.Core.Logic.{_↔_}
 use mathlib.Core.Option.{none, some}
 use Rattle.words.specs.Settled.{Settled, SettledWith}
+use Rattle.message.specs.Message.{Five}
 use Rattle.entry.specs.Entry.{Decl, Stays}
 use Rattle.protocol.specs.Book.{Call, senderOf, numberOf}
 use Rattle.meaning.specs.Layout.{slotCount}
@@ -21,7 +22,7 @@ use Rattle.calls.specs.Call.{stepOf, called, requestAnswer, requested, p
 use Rattle.calls.specs.Search.{waits, Place, earliest, Earliest, waiting}
 use Rattle.calls.specs.Again.{returned, sentOf}
 use Rattle.calls.specs.Calls.{BookCall, answered}
-use Rattle.calls.specs.Answers.{Publishing, Receiving}
+use Rattle.calls.specs.Answers.{Publishing, Reads, Conflict, Receiving}
 use Rattle.calls.specs.Between.{Between}
 use Rattle.calls.specs.Keeps.{Keeps}
 use Rattle.calls.specs.Silent.{Silent}
@@ -50,6 +51,9 @@ pub record Claims : Type 0 where
   -- Each answer is given exactly when the rules say: where several apply, the first in the call's order.
   pub publishing : (b : List ℕ) (number : ℕ) (v : Decl) → Publishing b number v
   pub receiving : (b : List ℕ) (house : ℕ) (message : List ℕ) → Receiving b house message
+  -- and what 13 tells of the book and the message is no less.
+  pub conflict-only : (b : List ℕ) (house : ℕ) (message : List ℕ) → received b house message .given .answer ≡ 13
+      → (m : Five) × Reads b message m × Conflict b house m
   -- Every refusal leaves the lent buffer byte for byte and carries no message and no delivery.
   pub silent : Silent
   -- A legal book stays one, with n, S, own number, season, sheet, f and d; help is only ever counted.

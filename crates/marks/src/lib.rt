@@ -17,13 +17,16 @@ pub struct Marks {
     pub delivers: bool,
 }
 
-// 0, or 7: this kind was already accepted from this house on this entry.
+// 0, or this kind was already accepted from this house on this entry: 7, with the same declaration; 13, with a different one.
 pub fn record_answer(book: &[u8], at: usize, d: [u8; 20]) -> u8
-    requires { ⌜ at < length (now book) ⌝ }
+    requires { ⌜ at + slotLength ≤ length (now book) ⌝ }
     ensures { λ r. ⌜ r ≡ recording (slotAt (now (book .entry)) at) d ⌝ }
 {
     if slots::is_full(book, at) {
-        return 7;
+        if vouchers::holds_at(book, at, d) {
+            return 7;
+        }
+        return 13;
     }
     0
 }

@@ -13,17 +13,8 @@ use Rattle.protocol.specs.Book.{Book, Call, publishing, receiving, inBoo
 use Rattle.protocol.specs.Claims.{Alone}
 use Rattle.entry.proofs.Basics.{bcase, T-of, and-l, and-r, none-of, none-some, upd-same, upd-new}
 use Rattle.protocol.proofs.Basics.{must-zero, must-pass}
+use Rattle.protocol.proofs.Recording.{recording-none, recording-same, recording-free}
 use Rattle.protocol.proofs.Moves.{Local, Moves, local-same, other-kind, no-message, takes-moves, takes-local, refused-moves}
-
--- 7 stands for a full slot, and 0 for an empty one
-recording-free : (o : Option Decl) (v : Decl) → recording o v ≡ 0 → o ≡ none
-unfolding recording
-recording-free none v e = refl
-recording-free (some w) v e = absurd (omega (arith, e))
-
-recording-none : (v : Decl) → recording none v ≡ 0
-unfolding recording
-recording-none v = refl
 
 -- what a call brings to be heard
 abbrev pub Brings : Call → Kind → ℕ → Decl → Type 0
@@ -78,11 +69,12 @@ module _ (R : Rules) (j : ℕ) where
       must-pass (ltb p (R .n)) 4 _ a ∙ must-pass (R .ok v) 5 _ b ∙ must-pass (may j k p) 6 _ m
       ∙ ap (λ o. recording o v) h ∙ recording-none v
 
-  answer-repeat : (p : ℕ) (k : Kind) (v : Decl) (e : Entry) → T (ltb p (R .n)) → T (R .ok v) → T (may j k p) → (w : Decl)
-      → heard k p e ≡ some w → receiveAnswer R j p k v e ≡ 7
-  unfolding receiveAnswer recording
-  answer-repeat p k v e a b m w h =
-      must-pass (ltb p (R .n)) 4 _ a ∙ must-pass (R .ok v) 5 _ b ∙ must-pass (may j k p) 6 _ m ∙ ap (λ o. recording o v) h
+  answer-repeat : (p : ℕ) (k : Kind) (v : Decl) (e : Entry) → T (ltb p (R .n)) → T (R .ok v) → T (may j k p) → heard k p e ≡ some v
+      → receiveAnswer R j p k v e ≡ 7
+  unfolding receiveAnswer
+  answer-repeat p k v e a b m h =
+      must-pass (ltb p (R .n)) 4 _ a ∙ must-pass (R .ok v) 5 _ b ∙ must-pass (may j k p) 6 _ m
+      ∙ ap (λ o. recording o v) h ∙ recording-same v
 
   receive-done : (r p : ℕ) (k : Kind) (j₂ c : ℕ) (v : Decl) (e : Entry) → Done R j r (receiving p k j₂ c v) e (receive R j p k v e)
   unfolding receive
@@ -105,10 +97,10 @@ module _ (R : Rules) (j : ℕ) where
   receive-taken p k v e a b m h = rw (answer-passes p k v e a b m h) (takes-heard k p v e)
 
   -- a repeat of an accepted message is answered 7
-  pub receive-repeat : (p : ℕ) (k : Kind) (v : Decl) (e : Entry) → T (ltb p (R .n)) → T (R .ok v) → T (may j k p) → (w : Decl)
-      → heard k p e ≡ some w → (receive R j p k v e .answer ≡ 7) × (receive R j p k v e .entry ≡ e)
+  pub receive-repeat : (p : ℕ) (k : Kind) (v : Decl) (e : Entry) → T (ltb p (R .n)) → T (R .ok v) → T (may j k p) → heard k p e ≡ some v
+      → (receive R j p k v e .answer ≡ 7) × (receive R j p k v e .entry ≡ e)
   unfolding receive
-  receive-repeat p k v e a b m w h = rw (answer-repeat p k v e a b m w h) (refl, refl)
+  receive-repeat p k v e a b m h = rw (answer-repeat p k v e a b m h) (refl, refl)
 
   publishes-hears : (v : Decl) (e : Entry) (l : Kind) (q : ℕ) → heard l q (publishes v e .entry) ≡ heard l q e
   unfolding publishes

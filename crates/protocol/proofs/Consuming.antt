@@ -100,7 +100,7 @@ module _ (B : Wall) (s : State) (i : ℕ) (m : Copy)
         rw (true-of (inBook (B .rules) (B .numbers) j c) (w .3))
         (⊎-elim
         (λ e. inl (receive-taken (B .rules) j p k (m .decl) (H r) (and-l (ltb p (n B)) _ (w .0)) (w .1) (w .2) e))
-        (λ e. let y = receive-repeat (B .rules) j p k (m .decl) (H r) (and-l (ltb p (n B)) _ (w .0)) (w .1) (w .2) (m .decl) e in
+        (λ e. let y = receive-repeat (B .rules) j p k (m .decl) (H r) (and-l (ltb p (n B)) _ (w .0)) (w .1) (w .2) e in
         inr (y .0, e, y .1))
         (before (heard k p (H r)) refl))
 

@@ -2,7 +2,7 @@
 use mathlib.Core.Logic.{_⊎_, inl, inr}
 use native.Mathlib.Decide.{decLt}
 use native.Mathlib.Omega.{arith}
-use mathlib.Core.Path.{ap, _≡_, refl}
+use mathlib.Core.Path.{ap, _≡_, refl, _∙_}
 use Rattle.protocol.specs.Order.{ReceivingOrder, PublishingOrder}
 use Prim.Native.Nat.{ℕ, zero, suc, _<_, _≤_}
 use mathlib.Core.Bool.{true, false}
@@ -12,6 +12,7 @@ use Rattle.entry.specs.Entry.{Decl, Kind, SEND, ECHO, READY, Entry, heard}
 use Rattle.protocol.specs.Steps.{Rules, Out, refused, settle, takesSend, takesEcho, takesReady, takes, publishes, may, recording}
 use Rattle.protocol.specs.Steps.{receiveAnswer, receive, publish}
 use Rattle.protocol.specs.Book.{Book, publishing, receiving, outcome}
+use Rattle.protocol.proofs.Recording.{recording-none, recording-same, recording-other}
 
 module _ (R : Rules) (S own p : ℕ) (k : Kind) (j c : ℕ) (v : Decl) (E : Book) where
   no-sender : R .n ≤ j → outcome R S own (receiving p k j c v) E ≡ refused 4 (E j c)
@@ -39,13 +40,21 @@ module _ (R : Rules) (S own p : ℕ) (k : Kind) (j c : ℕ) (v : Decl) (E : Book
           not-sender h = rw (lt-ltb _ _ in-sender, lt-ltb _ _ in-number, lt-ltb _ _ in-house, ok, h)
 
           module _ (from : may j k p ≡ true) where
-            pub already : (w : Decl) → heard k p (E j c) ≡ some w → outcome R S own (receiving p k j c v) E ≡ refused 7 (E j c)
-            unfolding outcome receive recording
-            already w h = rw (lt-ltb _ _ in-sender, lt-ltb _ _ in-number, lt-ltb _ _ in-house, ok, from, h)
+            -- past these, what recording answers, 0 or a refusal
+            recorded : (a : ℕ) → recording (heard k p (E j c)) v ≡ a
+                → outcome R S own (receiving p k j c v) E ≡ settle a (takes R k p v (E j c)) (E j c)
+            unfolding outcome receive
+            recorded a e = rw (lt-ltb _ _ in-sender, lt-ltb _ _ in-number, lt-ltb _ _ in-house, ok, from, e)
+
+            repeat : heard k p (E j c) ≡ some v → outcome R S own (receiving p k j c v) E ≡ refused 7 (E j c)
+            repeat h = recorded 7 (ap (λ o. recording o v) h ∙ recording-same v)
+
+            conflict : (w : Decl) → heard k p (E j c) ≡ some w → (w ≡ v → ⊥)
+                → outcome R S own (receiving p k j c v) E ≡ refused 13 (E j c)
+            conflict w h d = recorded 13 (ap (λ o. recording o v) h ∙ recording-other w v d)
 
             pub accepted : heard k p (E j c) ≡ none → outcome R S own (receiving p k j c v) E ≡ takes R k p v (E j c)
-            unfolding outcome receive recording
-            accepted h = rw (lt-ltb _ _ in-sender, lt-ltb _ _ in-number, lt-ltb _ _ in-house, ok, from, h)
+            accepted h = recorded 0 (ap (λ o. recording o v) h ∙ recording-none v)
 
 module _ (R : Rules) (S own c : ℕ) (v : Decl) (E : Book) (in-sender : own < R .n) where
   no-own-number : S ≤ c → outcome R S own (publishing c v) E ≡ refused 4 (E own c)
@@ -97,7 +106,8 @@ receiving-ordered R S own p k j c v E =
       missing = missing;
       not-plausible = λ l m n f. ap answer (not-plausible R S own p k j c v E l m n f);
       not-sender = λ l m n t f. ap answer (not-sender R S own p k j c v E l m n t f);
-      already = λ l m n t f w e. ap answer (already R S own p k j c v E l m n t f w e);
+      repeat = repeat R S own p k j c v E;
+      conflict = conflict R S own p k j c v E;
       accepted = λ l m n t f e. accepted R S own p k j c v E l m n t f e;
     }
   where

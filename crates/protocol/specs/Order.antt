@@ -5,16 +5,18 @@ use mathlib.Core.Bool.{true, false}
 use mathlib.Core.Logic.{_⊎_}
 use mathlib.Core.Option.{none, some}
 use Rattle.entry.specs.Entry.{Decl, Kind, heard}
-use Rattle.protocol.specs.Steps.{Rules, may, takes, publishes}
+use Rattle.protocol.specs.Steps.{Rules, refused, may, takes, publishes}
 use Rattle.protocol.specs.Book.{Book, publishing, receiving, outcome}
 
--- Receiving: 4, 5, 6, 7.
+-- Receiving: 4, 5, 6, then 7 or 13.
 pub record ReceivingOrder (R : Rules) (S own p : ℕ) (k : Kind) (j c : ℕ) (v : Decl) (E : Book) : Type 0 where
   pub missing : (R .n ≤ j) ⊎ ((S ≤ c) ⊎ (R .n ≤ p)) → outcome R S own (receiving p k j c v) E .answer ≡ 4
   pub not-plausible : j < R .n → c < S → p < R .n → R .ok v ≡ false → outcome R S own (receiving p k j c v) E .answer ≡ 5
   pub not-sender : j < R .n → c < S → p < R .n → R .ok v ≡ true → may j k p ≡ false → outcome R S own (receiving p k j c v) E .answer ≡ 6
-  pub already : j < R .n → c < S → p < R .n → R .ok v ≡ true → may j k p ≡ true → (w : Decl) → heard k p (E j c) ≡ some w
-      → outcome R S own (receiving p k j c v) E .answer ≡ 7
+  pub repeat : j < R .n → c < S → p < R .n → R .ok v ≡ true → may j k p ≡ true → heard k p (E j c) ≡ some v
+      → outcome R S own (receiving p k j c v) E ≡ refused 7 (E j c)
+  pub conflict : j < R .n → c < S → p < R .n → R .ok v ≡ true → may j k p ≡ true → (w : Decl) → heard k p (E j c) ≡ some w → (w ≡ v → ⊥)
+      → outcome R S own (receiving p k j c v) E ≡ refused 13 (E j c)
   pub accepted : j < R .n → c < S → p < R .n → R .ok v ≡ true → may j k p ≡ true → heard k p (E j c) ≡ none
       → outcome R S own (receiving p k j c v) E ≡ takes R k p v (E j c)
 

@@ -1,9 +1,9 @@
 -- The steps on one entry and the answers of the counter, in document 01's order and words.
-use mathlib.Core.Bool.{Bool, true, false, _&&_}
+use mathlib.Core.Bool.{Bool, true, false, cond, _&&_}
 use mathlib.Core.Option.{Option, none, some}
 use Prim.Native.Nat.{ℕ, zero, suc}
 use lib.Dec.{eqb, leb, ltb}
-use Rattle.entry.specs.Entry.{Decl, Kind, SEND, ECHO, READY, Entry, heard, isNone, votes, recorded, marked, announced}
+use Rattle.entry.specs.Entry.{Decl, Kind, SEND, ECHO, READY, Entry, same, heard, isNone, votes, recorded, marked, announced}
 
 -- what the steps take from the wall: n, the quorum, the READYs that make a READY and that deliver, and what is plausible
 pub record Rules : Type 0 where
@@ -89,12 +89,13 @@ may sender SEND p = eqb p sender
 may sender ECHO p = true
 may sender READY p = true
 
--- 7: this kind was already accepted from this house on this entry, same declaration or not
+-- This kind was already accepted from this house on this entry: 7, with the same declaration; 13, with a different one.
 unfoldable pub recording : Option Decl → Decl → ℕ
+unfolding same
 recording none v = 0
-recording (some w) v = 7
+recording (some w) v = cond (same w v) 7 13
 
--- Receiving, on an entry of the book: 4 to 7 in order.
+-- Receiving, on an entry of the book: 4 to 6 in order, then 7 or 13.
 unfoldable pub receiveAnswer : Rules → (sender house : ℕ) → Kind → Decl → Entry → ℕ
 receiveAnswer R j p k v e = must (ltb p (R .n)) 4 (must (R .ok v) 5 (must (may j k p) 6 (recording (heard k p e) v)))
 
