@@ -11,7 +11,8 @@ ghost use Rattle.layout.specs.Places.{Begins};
 ghost use Rattle.admit.specs.Heard.{heardAs};
 use calls::Outcome;
 
-// 6, then the step of the kind, which answers 7 where it was heard before. No other kind comes this far: what is well formed has a kind.
+// 6, then the step of the kind, which answers 7 or 13 where its kind was heard before. No other kind comes this far: what is well formed
+// has a kind.
 fn take(
     book: &mut [u8],
     house: usize,

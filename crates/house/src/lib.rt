@@ -51,7 +51,7 @@ pub extern "C" fn gm_publish(book: &mut [u8], number: u32, declaration: &[u8; 20
     publish::publish(book, number, declaration)
 }
 
-// Receiving: 1 to 7 in order; a request 1 to 4, then 14.
+// Receiving: 1 to 6 in order, then 7 or 13; a request 1 to 4, then 14.
 #[no_mangle]
 pub extern "C" fn gm_receive(book: &mut [u8], house: u32, message: &[u8]) -> Outcome
     ensures { λ r. ⌜ result r (now (book .exit)) ≡ received (now (book .entry)) house (now (message .entry)) ⌝ }

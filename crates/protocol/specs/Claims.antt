@@ -98,7 +98,7 @@ module _ (B : Wall) (j c : ℕ) where
   pub record Single (s : State) : Type 0 where
     pub bound : copies j c s ≤ n B + 2 * (h B * n B)
     pub bound-between : between B j c s ≤ h B + 2 * (h B * h B)
-    -- A copy that an honest house sent is accepted where it is consumed: answered 0, so never 7.
+    -- A copy that an honest house sent is accepted where it is consumed: answered 0, so never 7 or 13.
     pub accepted : (i : ℕ) (m : Copy) → at (s .mail) i ≡ some m → T (onIt j c m) → T (isHonest B (m .to)) → m .consumed ≡ false
         → consuming s m .answer ≡ 0
 

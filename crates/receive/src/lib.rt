@@ -24,7 +24,7 @@ fn hear(book: &mut [u8], house: u32, m: ReadAnswer) -> Outcome
     reply::refuse(3)
 }
 
-// Receiving: 1, 2, then 3 and on: 1 to 7 in order; a request 1 to 4, then 14.
+// Receiving: 1, 2, then 3 and on: 1 to 6 in order, then 7 or 13; a request 1 to 4, then 14.
 pub fn receive(book: &mut [u8], house: u32, message: &[u8]) -> Outcome
     ensures { λ r. ⌜ result r (now (book .exit)) ≡ received (now (book .entry)) house (now (message .entry)) ⌝ }
 {

@@ -54,7 +54,7 @@ publication-of c v o = go (o .answer)
     go (suc a) = rw (ne-eqb (suc a) 0 (λ e. omega arith))
 
 -- noting nothing changes nothing
-noting-none : (f : Noted) (r : ℕ) (e : Named) → noting f r e none ≡ f
+pub noting-none : (f : Noted) (r : ℕ) (e : Named) → noting f r e none ≡ f
 noting-none f r nothing = refl
 noting-none f r (entry j c) = noted-none f r j c
 

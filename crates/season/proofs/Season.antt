@@ -42,10 +42,12 @@ use Rattle.calls.proofs.Declarations.{decl-true}
 use Rattle.season.specs.Run.{Houses, isHonest, isUp, Open, Copy, Noted, State, Step, start, step, run, onIt, isReady, copiesOf}
 use Rattle.season.specs.Run.{copies, readies, isBetween, between, consumedBetween, upBetween, Drained, Limited}
 use Rattle.season.specs.Run as season
-use Rattle.season.specs.Claims.{Stands, Delivered, Published, Safe, Bounded, Agreed, Complete, Single, Exact, Few, Season}
+use Rattle.season.specs.Claims.{answerTo, Heard, Delivered, Published, Safe, Bounded, Agreed, Complete, Single, Exact, Few, Season}
 use Rattle.season.specs.Claims.{consumption, Drainable, Deliverable, Claims}
 use Rattle.season.proofs.Mail.{Says, says-on-it, says-ready, Asks, Both, mails-at, mails-tally}
 use Rattle.season.proofs.Calls.{wall, Means, answer-is, asked-answer}
+use Rattle.season.proofs.Copies.{said-at, copy-answered, copy-stands}
+use Rattle.season.proofs.Repeat.{repeat-or-conflict}
 use Rattle.season.proofs.Outbox.{reads, outbox, sent}
 use Rattle.season.proofs.Steps as steps-proofs
 use Rattle.season.proofs.Steps.{stepsOf, copy-called, up-is, consumption-means, season-means}
@@ -85,31 +87,6 @@ module _ (H : Houses) (s : State) (z : protocol.State) (M : Means H s z) where
   limited-to : Limited H s → protocol.Limited (wall H) (z .power)
   unfolding wallOf rulesOf
   limited-to L r t = omega (arith, L r t, ap (λ (f : ℕ → ℕ). f r) (M .returned))
-
-  -- a copy's consumption is answered as the protocol answers it
-  copy-answered : (m : Copy) (x : protocol.Copy) → Says (H .season) m x → T (isHonest H (m .to))
-      → received (s .gave .books (m .to)) (m .from) (m .message) .given .answer
-      ≡ outcome (wall H .rules) (wall H .numbers) (x .to) (protocol.callOf x) (z .gave .books (x .to)) .answer
-  copy-answered m x S t =
-      ap (λ (o : Result). o .given .answer) (copy-called H (m .to) (m .from) (s .gave .books (m .to)) (M .gave .books (m .to) t) m x S)
-      ∙ answer-is H (m .to) s z M t (call (m .from))
-      ∙ ap₂ (λ (to from : ℕ). outcome (wall H .rules) (wall H .numbers) to (call from) (z .gave .books to) .answer) (S .to) (S .from)
-    where
-      call : ℕ → Call
-      call from = receiving from (x .kind) (x .sender) (x .number) (x .decl)
-
-  -- what stands in the protocol's book stands at the bytes
-  copy-stands : (m : Copy) (x : protocol.Copy) → Says (H .season) m x → T (isHonest H (m .to))
-      → heard (x .kind) (x .from) (z .gave .books (x .to) (x .sender) (x .number)) ≡ some (x .decl)
-      → Stands (s .gave .books (m .to)) (m .from) (readOf (m .message) .five)
-  copy-stands m x S t e =
-      let book = sym (M .gave .entries (m .to) t) ∙ ap (z .gave .books) (S .to) in
-      rw (S .read) (
-        x .kind,
-        kind-is (x .kind),
-        (λ i. heard (x .kind) (S .from i) (book i (x .sender) (x .number))) ∙ e
-            ∙ ap some (sym (bytes-of-numbers (x .decl) (S .decl .long) (S .decl .bytes))),
-      )
 
   module _ (j c : ℕ) where
     counted : (P : Copy → Bool) (Q : protocol.Copy → Bool) → ((m : Copy) (x : protocol.Copy) → Says (H .season) m x → P m ≡ Q x)
@@ -313,22 +290,14 @@ module _ (H : Houses) (O : Open H) (l : List Step) (j c : ℕ) (hj : j < H .n) (
         publishable = first-published;
       }
     where
-      Answer : Copy → ℕ
-      Answer m = received (s .gave .books (m .to)) (m .from) (m .message) .given .answer
-
-      Ends : Copy → Type 0
-      Ends m = (Answer m ≡ 0) ⊎ ((Answer m ≡ 7) × Stands (s .gave .books (m .to)) (m .from) (readOf (m .message) .five))
-
-      accepted′ : (i : ℕ) (m : Copy) → at (s .mail) i ≡ some m → T (isHonest H (m .to)) → Ends m
-      accepted′ i m e t = go (at (z .mail) i) refl (rw e at (mails-at (Says (H .season)) (s .mail) (z .mail) (M .mail) i))
-        where
-          go : (x : Option protocol.Copy) → at (z .mail) i ≡ x → Both (Says (H .season)) (some m) x → Ends m
-          go none f S = absurd S
-          go (some x) f S =
-              let P = any (x .sender) (x .number) .safe in
-              let same = copy-answered H s z M m x S t in
-              ⊎-elim (λ q. inl (same ∙ q)) (λ q. inr (same ∙ q .0, copy-stands H s z M m x S t (q .1)))
-              (P .accepted i x f (entry-refl (x .sender) (x .number)) (rw (← S .to) t))
+      accepted′ : (i : ℕ) (m : Copy) → at (s .mail) i ≡ some m → T (isHonest H (m .to))
+          → (answerTo s m ≡ 0) ⊎ ((answerTo s m ≡ 7) × Heard s m)
+      accepted′ i m e t =
+          let x = said-at H s z M i m e in
+          let P = any (x .0 .sender) (x .0 .number) .safe in
+          let same = copy-answered H s z M m (x .0) (x .2) t in
+          ⊎-elim (λ q. inl (same ∙ q)) (λ q. inr (same ∙ q .0, copy-stands H s z M m (x .0) (x .2) t (q .1)))
+          (P .accepted i (x .0) (x .1) (entry-refl (x .0 .sender) (x .0 .number)) (rw (← x .2 .to) t))
 
   bounded : Limited H s → Bounded H j c s
   unfolding wallOf rulesOf
@@ -350,17 +319,12 @@ module _ (H : Houses) (O : Open H) (l : List Step) (j c : ℕ) (hj : j < H .n) (
         accepted = accepted′;
       }
     where
-      accepted′ : (i : ℕ) (m : Copy) → at (s .mail) i ≡ some m → T (isHonest H (m .to)) → m .consumed ≡ false
-          → received (s .gave .books (m .to)) (m .from) (m .message) .given .answer ≡ 0
-      accepted′ i m e t u = go (at (z .mail) i) refl (rw e at (mails-at (Says (H .season)) (s .mail) (z .mail) (M .mail) i))
-        where
-          go : (x : Option protocol.Copy) → at (z .mail) i ≡ x → Both (Says (H .season)) (some m) x
-              → received (s .gave .books (m .to)) (m .from) (m .message) .given .answer ≡ 0
-          go none f S = absurd S
-          go (some x) f S =
-              copy-answered H s z M m x S t
-              ∙ any (x .sender) (x .number) .single still (limited-to H s z M L) .accepted i x f (entry-refl (x .sender) (x .number))
-              (rw (← S .to) t) (sym (S .consumed) ∙ u)
+      accepted′ : (i : ℕ) (m : Copy) → at (s .mail) i ≡ some m → T (isHonest H (m .to)) → m .consumed ≡ false → answerTo s m ≡ 0
+      accepted′ i m e t u =
+          let x = said-at H s z M i m e in
+          copy-answered H s z M m (x .0) (x .2) t
+          ∙ any (x .0 .sender) (x .0 .number) .single still (limited-to H s z M L) .accepted i (x .0) (x .1)
+          (entry-refl (x .0 .sender) (x .0 .number)) (rw (← x .2 .to) t) (sym (x .2 .consumed) ∙ u)
 
   agreed : Few H → Agreed H j c s
   unfolding wallOf rulesOf
@@ -423,6 +387,7 @@ pub claims : Claims
 claims H O l j c hj hc =
     record {
       safe = safe H O l j c hj hc;
+      repeat-or-conflict = repeat-or-conflict H (run H l (start H)) _ (season-means H O l) (all-held H O l j c hj hc) j c (safe H O l j c hj hc);
       drainable = drainable H O l j c hj hc;
       bounded = bounded H O l j c hj hc;
       agreed = agreed H O l j c hj hc;

@@ -339,7 +339,7 @@ module _ (H : Houses) where
   run-pushed none l z = refl
   run-pushed (some x) l z = refl
 
-  run-means : (l : List Step) (s : State) (z : protocol.State) → Means H s z
+  pub run-means : (l : List Step) (s : State) (z : protocol.State) → Means H s z
       → Means H (run H l s) (protocol.run (wall H) (stepsOf H l) z)
   unfolding run protocol.run
   run-means [] s z M = M

@@ -1,5 +1,5 @@
 -- What is claimed of every run at the bytes, of the entry of sender j and number c, in document 01's order.
-use Prim.Native.Nat.{ℕ, _+_, _*_, _≤_, _<_}
+use Prim.Native.Nat.{ℕ, zero, suc, _+_, _*_, _≤_, _<_}
 use mathlib.Core.Path.{_≡_}
 use mathlib.Core.Logic.{_⊎_}
 use mathlib.Core.Bool.{true, false, not, _&&_}
@@ -20,7 +20,7 @@ use Rattle.calls.specs.Entered.{kindOf}
 use Rattle.calls.specs.Call.{published, received}
 use Rattle.calls.specs.Again.{returned, sending, sentOf}
 use Rattle.season.specs.Run.{Houses, isHonest, isWrong, isUp, h, Open, Copy, State, Step, start, run, copies, readies, between}
-use Rattle.season.specs.Run.{consume, help, isBetween, consumedBetween, copiesOf, Drained, Limited, downs}
+use Rattle.season.specs.Run.{receives, consume, help, isBetween, consumedBetween, copiesOf, Drained, Limited, downs}
 
 -- at most t of them wrong, t the largest that fits n and f
 abbrev pub Few : Houses → Type 0
@@ -31,6 +31,20 @@ abbrev pub Stands : List ℕ → (house : ℕ) → Option Five → Type 0
 Stands b p none = ⊥
 Stands b p (some m) =
     (k : Kind) × (kindOf (m .kind) ≡ some k) × (heard k p (look b (m .sender) (m .number)) ≡ some (bytesOf (m .declaration)))
+
+-- what copy m is answered where it is brought to its house
+abbrev pub answerTo : State → Copy → ℕ
+answerTo s m = received (s .gave .books (m .to)) (m .from) (m .message) .given .answer
+
+-- what copy m says stands in its house's book: that house heard it
+abbrev pub Heard : State → Copy → Type 0
+Heard s m = Stands (s .gave .books (m .to)) (m .from) (readOf (m .message) .five)
+
+-- Copy m is brought to its house so many times more: its house receives it, as often as that. No step of a run does this.
+abbrev pub brought : Houses → Copy → ℕ → State → State
+brought H m zero s = s
+brought H m (suc k) s =
+    let before : State = brought H m k s in receives H (m .to) (m .from) (m .message) before (before .mail)
 
 -- the message is what the book gives of its kind and entry
 abbrev pub Outgoing : List ℕ → Option Five → (message : List ℕ) → Type 0
@@ -56,6 +70,31 @@ pub record SentTo (s : State) (r q : ℕ) (message : List ℕ) : Type 0 where
   pub to : copy .to ≡ q
   pub says : copy .message ≡ message
 
+module _ (H : Houses) where
+  -- copy m, which an honest house sent, is not consumed yet, and its house is up
+  pub record Consumable (s : State) (i : ℕ) (m : Copy) : Type 0 where
+    pub posted : at (s .mail) i ≡ some m
+    pub up : T (isUp H s (m .to))
+    pub new : m .consumed ≡ false
+
+  -- Repeat or conflict, a nervous carrier or a liar: with any number of wrong houses, and however often houses crash and return
+  pub record RepeatOrConflict (s : State) : Type 0 where
+    -- A copy that an honest house sent is answered 0 where it is first heard, and 7 where it was heard.
+    pub first : (i : ℕ) (m : Copy) → at (s .mail) i ≡ some m → T (isHonest H (m .to)) → (Heard s m → ⊥) → answerTo s m ≡ 0
+    pub again : (i : ℕ) (m : Copy) → at (s .mail) i ≡ some m → T (isHonest H (m .to)) → Heard s m → answerTo s m ≡ 7
+    -- Consumed at a house that is up, and brought again, whatever steps come between and any number of times, it is answered 7,
+    pub repeat : (i : ℕ) (m : Copy) → Consumable s i m → (l : List Step) (k : ℕ)
+        → answerTo (brought H m k (run H (consume i ∷ l) s)) m ≡ 7
+    -- and nothing of the season moves.
+    pub unmoved : (i : ℕ) (m : Copy) → Consumable s i m → (l : List Step) (k : ℕ)
+        → brought H m k (run H (consume i ∷ l) s) ≡ run H (consume i ∷ l) s
+    -- So no copy that an honest house sent is ever answered 13,
+    pub no-conflict : (i : ℕ) (m : Copy) → at (s .mail) i ≡ some m → T (isHonest H (m .to)) → answerTo s m ≡ 13 → ⊥
+    -- and whoever is answered 13 lied: where it is told truly which house a message came from, so that under an honest house's number
+    -- comes what that house sent, it is a wrong house, one of the n.
+    pub lied : (r p : ℕ) (message : List ℕ) → T (isHonest H r) → (T (isHonest H p) → SentTo s p r message)
+        → received (s .gave .books r) p message .given .answer ≡ 13 → (p < H .n) × T (isWrong H p)
+
 module _ (H : Houses) (j c : ℕ) where
   -- house r delivered v on this entry, and nothing else
   abbrev pub Delivered : State → ℕ → List ℕ → Type 0
@@ -79,9 +118,7 @@ module _ (H : Houses) (j c : ℕ) where
     pub plausible : (r : ℕ) (v : List ℕ) → T (isHonest H r) → Delivered s r v → judged (H .sheet) v ≡ 0
     -- A copy that an honest house sent is accepted where it is consumed, or is a repeat of what was accepted.
     pub accepted : (i : ℕ) (m : Copy) → at (s .mail) i ≡ some m → T (isHonest H (m .to))
-        → (received (s .gave .books (m .to)) (m .from) (m .message) .given .answer ≡ 0)
-        ⊎ ((received (s .gave .books (m .to)) (m .from) (m .message) .given .answer ≡ 7)
-        × Stands (s .gave .books (m .to)) (m .from) (readOf (m .message) .five))
+        → (answerTo s m ≡ 0) ⊎ ((answerTo s m ≡ 7) × Heard s m)
     -- Every copy in the mail reads, of the season, on an entry of the book.
     pub mail : (i : ℕ) (m : Copy) → at (s .mail) i ≡ some m → OfSeason H (readOf (m .message) .five)
     -- The book is its own outbox: it gives every message that its house sent,
@@ -141,9 +178,8 @@ module _ (H : Houses) (j c : ℕ) where
     pub bound : copies j c s ≤ H .n + 2 * (h H * H .n)
     -- and of these at most h + 2h^2 between honest houses.
     pub bound-between : between H j c s ≤ h H + 2 * (h H * h H)
-    -- A copy that an honest house sent is accepted where it is consumed: answered 0, so never 7.
-    pub accepted : (i : ℕ) (m : Copy) → at (s .mail) i ≡ some m → T (isHonest H (m .to)) → m .consumed ≡ false
-        → received (s .gave .books (m .to)) (m .from) (m .message) .given .answer ≡ 0
+    -- A copy that an honest house sent is accepted where it is consumed: answered 0, so never 7 or 13.
+    pub accepted : (i : ℕ) (m : Copy) → at (s .mail) i ≡ some m → T (isHonest H (m .to)) → m .consumed ≡ false → answerTo s m ≡ 0
 
   -- and with at most t wrong and no house down: 01's exact counts
   pub record Exact (s : State) : Type 0 where
@@ -162,6 +198,7 @@ module _ (H : Houses) (j c : ℕ) where
   -- in any order of calls
   pub record Season (l : List Step) : Type 0 where
     pub safe : Safe (run H l (start H))
+    pub repeat-or-conflict : RepeatOrConflict H (run H l (start H))
     pub drainable : Drainable (run H l (start H))
     pub bounded : Limited H (run H l (start H)) → Bounded (run H l (start H))
     pub agreed : Few H → Agreed (run H l (start H))
