@@ -12,6 +12,10 @@ enum { HOUSES = 4, BOOK = 980, DOWN = 0, LIMIT = 2 };
 static const uint8_t sheet[GM_SHEET_BYTES] = {0, 0, 0, 20, GM_GATE_AT_MOST, 0, 0, 0, 0, 0x41, 0xA0, 0, 0, GM_GATE_OPEN};
 static const uint8_t lot77[GM_DECLARATION_BYTES] = {0, 0, 0, 77, 0, 0, 0, 40, 0, 0, 3, 0x20, 0x41, 0x8C, 0, 0, 0x3F, 0, 0, 0};
 static const uint8_t heavy[GM_DECLARATION_BYTES] = {0, 0, 0, 77, 0, 0, 0, 40, 0, 0, 3, 0x21, 0x41, 0x8C, 0, 0, 0x3F, 0, 0, 0};
+/* Plausible too: a kilogram less, and a conductivity of 0.0 and of -0.0. */
+static const uint8_t light[GM_DECLARATION_BYTES] = {0, 0, 0, 77, 0, 0, 0, 40, 0, 0, 3, 0x1F, 0x41, 0x8C, 0, 0, 0x3F, 0, 0, 0};
+static const uint8_t zero[GM_DECLARATION_BYTES] = {0, 0, 0, 77, 0, 0, 0, 40, 0, 0, 3, 0x20, 0x41, 0x8C, 0, 0, 0, 0, 0, 0};
+static const uint8_t minus_zero[GM_DECLARATION_BYTES] = {0, 0, 0, 77, 0, 0, 0, 40, 0, 0, 3, 0x20, 0x41, 0x8C, 0, 0, 0x80, 0, 0, 0};
 static const uint8_t whole[GM_MESSAGE_BYTES] = {1, 0, 1, GM_SEND, 2, 0, 6, 0, 0, 0x07, 0xEA, 2, 1, 3, 0, 20,
                                                 0, 0, 0, 77, 0, 0, 0, 40, 0, 0, 3, 0x20, 0x41, 0x8C, 0, 0, 0x3F, 0, 0, 0};
 static const uint8_t request[GM_REQUEST_BYTES + 1] = {1, 0, 1, GM_REQUEST, 2, 0, 4, 0, 0, 0x07, 0xEA};
@@ -116,14 +120,34 @@ static void receiving(void) {
     so(!gm_waiting(book, BOOK).waits, "none waits");
     gm_outcome got = receive(3, GM_SEND, 2026, 3, lot77);
     so(got.answer == GM_ACCEPTED && got.gives && gm_read(got.message, 36).kind == GM_ECHO && !got.helps, "receiving 0");
-    memcpy(before, book, BOOK);
-    so(refused(receive(3, GM_SEND, 2026, 3, lot77), GM_ALREADY_ACCEPTED), "receiving 7");
     gm_waiting_answer next = gm_waiting(book, BOOK);
     so(next.answer == GM_ACCEPTED && next.waits && next.number == 0 && next.sender == 3, "sender 3 waits");
     so(!receive(0, GM_READY, 2026, 3, lot77).gives, "one READY is few");
     so(receive(1, GM_READY, 2026, 3, lot77).gives, "two READYs give READY");
     got = receive(2, GM_READY, 2026, 3, lot77);
     so(!got.gives && got.delivers && memcmp(got.declaration, lot77, 20) == 0, "three READYs deliver");
+}
+
+/* A message that was accepted is answered 7 when it comes again, before and after a different one, which is answered 13. */
+static bool repeats(uint32_t house, uint8_t kind, uint8_t sender, const uint8_t *stands, const uint8_t *other) {
+    memcpy(before, book, BOOK);
+    return refused(receive(house, kind, 2026, sender, stands), GM_ALREADY_ACCEPTED) &&
+           refused(receive(house, kind, 2026, sender, other), GM_CONFLICT) &&
+           refused(receive(house, kind, 2026, sender, stands), GM_ALREADY_ACCEPTED);
+}
+
+static void repeating(void) {
+    so(repeats(3, GM_SEND, 3, lot77, light), "receiving 7 and 13: a SEND");
+    so(repeats(2, GM_READY, 3, lot77, light), "receiving 7 and 13: a READY");
+    so(refused(receive(3, GM_SEND, 2026, 3, heavy), GM_NOT_PLAUSIBLE), "receiving 5 before 13");
+    so(refused(receive(1, GM_SEND, 2026, 3, lot77), GM_NOT_FROM_SENDER), "receiving 6 before 7");
+    so(refused(receive(1, GM_SEND, 2026, 3, light), GM_NOT_FROM_SENDER), "receiving 6 before 13");
+    so(receive(1, GM_ECHO, 2026, 2, zero).answer == GM_ACCEPTED, "an ECHO with a reading of 0.0");
+    so(repeats(1, GM_ECHO, 2, zero, minus_zero), "receiving 7 and 13: an ECHO, 0.0 and -0.0");
+    so(receive(2, GM_ECHO, 2026, 2, minus_zero).answer == GM_ACCEPTED, "a different ECHO of another house");
+    so(repeats(2, GM_ECHO, 2, minus_zero, zero), "receiving 7 and 13: an ECHO, -0.0 and 0.0");
+    so(receive(1, GM_READY, 2026, 2, light).answer == GM_ACCEPTED, "a different declaration in another kind");
+    so(receive(1, GM_ECHO, 2026, 3, light).answer == GM_ACCEPTED, "a different declaration on another entry");
 }
 
 static void asking(void) {
@@ -301,12 +325,15 @@ static void sheets(void) {
 static void sentences(void) {
     const char *none = gm_answer_text(GM_HELPED_ENOUGH + 1);
     for (unsigned answer = 0; answer <= 256; answer++) {
-        bool known = answer <= GM_WRONG_LENGTH || answer == GM_HELPED_ENOUGH;
+        bool known = answer <= GM_WRONG_LENGTH || answer == GM_CONFLICT || answer == GM_HELPED_ENOUGH;
         so(known == (strcmp(gm_answer_text(answer), none) != 0), "an answer has its sentence, another number has none");
         for (unsigned less = 0; known && less < answer; less++) {
             so(strcmp(gm_answer_text(answer), gm_answer_text(less)) != 0, "no two answers have one sentence");
         }
     }
+    so(strcmp(gm_answer_text(GM_CONFLICT),
+              "this kind was already accepted from this house on this entry, with a different declaration") == 0,
+       "the sentence of 13");
     so(strcmp(gm_answer_text(GM_HELPED_ENOUGH), "this asker was helped d times already") == 0, "the sentence of 14");
     char version[32];
     snprintf(version, sizeof version, "%d.%d.%d", GM_VERSION_MAJOR, GM_VERSION_MINOR, GM_VERSION_PATCH);
@@ -321,6 +348,7 @@ static void all(void) {
     no_legal_book();
     publishing();
     receiving();
+    repeating();
     asking();
     returning();
     walking();

@@ -1,5 +1,5 @@
 /* Four houses in one process: they open, publish, receive and store; one loses power twice, returns and is helped; another lies about
- * what it declares; and they write an account of it.
+ * what it declares, to different houses and then to one, which keeps the evidence; and they write an account of it.
  *
  * Each call works on a copy of the book. The copy is stored, with a delivery beside it, and only then does anything leave. What a
  * house sent can be read off its book, so that no message is stored: after a power cut the book says what is to be sent again.
@@ -198,6 +198,13 @@ static void help(const struct house *house, uint32_t asker) {
 
 /* ---- the account */
 
+static void tell_declaration(const uint8_t *declaration) {
+    gm_declaration of;
+    gm_declaration_from_bytes(&of, declaration);
+    printf("lot %u: %u colonies, %u kg, %g percent, %g mS/cm", (unsigned)of.lot, (unsigned)of.colonies, (unsigned)of.kilograms,
+           (double)of.moisture, (double)of.conductivity);
+}
+
 static void tell(const gm_outcome *gave) {
     printf("%s", gm_answer_text(gave->answer));
     if (gave->answer != GM_ACCEPTED) {
@@ -207,13 +214,34 @@ static void tell(const gm_outcome *gave) {
         printf(", gives %s", kind_of(gave->message, GM_MESSAGE_BYTES));
     }
     if (gave->delivers) {
-        gm_declaration of;
-        gm_declaration_from_bytes(&of, gave->declaration);
-        printf(", delivers lot %u: %u colonies, %u kg", (unsigned)of.lot, (unsigned)of.colonies, (unsigned)of.kilograms);
+        printf(", delivers ");
+        tell_declaration(gave->declaration);
     }
     if (gave->helps) {
         printf(", helps");
     }
+    printf("\n");
+}
+
+/* The declaration that the book has of this kind from this house on this entry: docs/BOOK.md, "The slots of an entry". */
+static const uint8_t *standing(const uint8_t *book, uint32_t from, const gm_read_answer *came) {
+    size_t n = book[0], s = book[1];
+    size_t slot = s + (came->number * n + came->sender) * (2 * n + 3);
+    if (came->kind != GM_SEND) {
+        slot += 1 + from + (came->kind == GM_READY ? n : 0);
+    }
+    return book + 31 + n + 21 * slot + 1;
+}
+
+/* A conflict: what was heard first stands in the book. Here the account keeps both; a house keeps both messages as they came, with the
+ * signatures of its carrier. */
+static void keep_evidence(const struct house *house, uint32_t from, const uint8_t *bytes, size_t len) {
+    gm_read_answer came = gm_read(bytes, len);
+    printf("house %u keeps as evidence against house %u, %s on number %u of sender %u: first ", (unsigned)house->own, (unsigned)from,
+           kind_of(bytes, len), (unsigned)came.number, (unsigned)came.sender);
+    tell_declaration(standing(house->book, from, &came));
+    printf("; then ");
+    tell_declaration(came.declaration);
     printf("\n");
 }
 
@@ -279,7 +307,11 @@ static bool receive(struct house *house, uint64_t from, const uint8_t *bytes, si
     memcpy(worked, house->book, house->len);
     gm_outcome gave = gm_receive(worked, house->len, gm_house(from), bytes, len);
     printf("house %u hears %s from house %llu: ", (unsigned)house->own, kind_of(bytes, len), (unsigned long long)from);
-    return settle(house, gm_house(from), worked, &gave);
+    bool settled = settle(house, gm_house(from), worked, &gave);
+    if (gave.answer == GM_CONFLICT) {
+        keep_evidence(house, gm_house(from), bytes, len);
+    }
+    return settled;
 }
 
 static bool open_all(void) {
@@ -349,16 +381,21 @@ static bool refuse(void) {
            publish(&houses[PUBLISHER], NUMBER, lot77) && publish(&houses[PUBLISHER], 0, heavy);
 }
 
+/* The liar's SEND, ECHO and READY of a declaration, to one house. */
+static void say(uint32_t to, const uint8_t *declaration) {
+    for (uint8_t kind = GM_SEND; kind <= GM_READY; kind++) {
+        gm_written message = gm_write(kind, SEASON, LIAR, NUMBER, declaration);
+        carry(LIAR, to, message.message, GM_MESSAGE_BYTES);
+    }
+}
+
 /* A wrong house says of lot 90 one thing to houses 0 and 1 and another to house 2, and vouches for both. One of four may be wrong: the
  * honest ones deliver one of the two, or none, and the same. */
 static bool lie(void) {
     lies = true;
     printf("house %d lies: to houses 0 and 1 lot 90 has 600 kg, to house 2 it has 500\n", LIAR);
-    for (uint8_t kind = GM_SEND; kind <= GM_READY; kind++) {
-        for (uint32_t to = 0; to < LIAR; to++) {
-            gm_written message = gm_write(kind, SEASON, LIAR, 0, to < 2 ? lot90 : twin);
-            carry(LIAR, to, message.message, GM_MESSAGE_BYTES);
-        }
+    for (uint32_t to = 0; to < LIAR; to++) {
+        say(to, to < 2 ? lot90 : twin);
     }
     if (!bring_all()) {
         return false;
@@ -373,13 +410,25 @@ static bool lie(void) {
     return true;
 }
 
+/* A nervous carrier brings what the house has: a repeat. A liar brings something else: a conflict. Neither changes a book. */
+static bool repeat_and_conflict(void) {
+    printf("a nervous carrier brings house 0 again what house %d told it\n", LIAR);
+    say(0, lot90);
+    if (!bring_all()) {
+        return false;
+    }
+    printf("house %d tells house 0 what it told house 2\n", LIAR);
+    say(0, twin);
+    return bring_all();
+}
+
 static bool run(void) {
     declare(lot77, 77, 40, 800);
     declare(heavy, 77, 40, 801);
     declare(lot90, 90, 30, 600);
     declare(twin, 90, 30, 500);
     return open_all() && publish(&houses[PUBLISHER], NUMBER, lot77) && bring_all() && come_back(&houses[LOSES_POWER]) &&
-           bring_all() && repeat_the_request() && refuse() && lie() &&
+           bring_all() && repeat_the_request() && refuse() && lie() && repeat_and_conflict() &&
            !gm_waiting(houses[LOSES_POWER].book, houses[LOSES_POWER].len).waits;
 }
 

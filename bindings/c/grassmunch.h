@@ -19,11 +19,11 @@
 #include <string.h>
 
 /* The version: the first number changes where the bytes of a book or a message change, or a call. A season is finished with the first
- * number that it was opened with (CHANGELOG.md). */
-#define GM_VERSION "2.2.2"
-#define GM_VERSION_MAJOR 2
-#define GM_VERSION_MINOR 2
-#define GM_VERSION_PATCH 2
+ * number that it was opened with, or with one that goes with it: 3 goes with 2 (CHANGELOG.md). */
+#define GM_VERSION "3.0.0"
+#define GM_VERSION_MAJOR 3
+#define GM_VERSION_MINOR 0
+#define GM_VERSION_PATCH 0
 
 #ifdef __cplusplus
 extern "C" {
@@ -44,11 +44,12 @@ enum gm_answer {
     GM_NOT_IN_BOOK = 4,       /* house number, sender or entry number not in the book */
     GM_NOT_PLAUSIBLE = 5,     /* not plausible */
     GM_NOT_FROM_SENDER = 6,   /* SEND not from the entry's sender */
-    GM_ALREADY_ACCEPTED = 7,  /* this kind was already accepted from this house on this entry, same declaration or not */
+    GM_ALREADY_ACCEPTED = 7,  /* this kind was already accepted from this house on this entry, with the same declaration */
     GM_ALREADY_PUBLISHED = 8, /* already published at this number */
     GM_NOT_ALLOWED = 9,       /* n, S, own number, f or d not allowed */
     GM_SHEET_NOT_LEGAL = 10,  /* sheet not legal */
     GM_WRONG_LENGTH = 11,     /* buffer length is not the book's length */
+    GM_CONFLICT = 13,         /* this kind was already accepted from this house on this entry, with a different declaration */
     GM_HELPED_ENOUGH = 14     /* this asker was helped d times already */
 };
 
@@ -118,7 +119,8 @@ uint8_t gm_open(uint8_t *book, size_t len, uint32_t n, uint32_t s, uint32_t own,
 gm_outcome gm_publish(uint8_t *book, size_t len, uint32_t number, const uint8_t declaration[20]);
 
 /* "An accepted SEND is recorded and gives an ECHO of it." An ECHO or READY is recorded, and may give a READY; a READY may deliver.
- * house is the house that the message came from. Answers 1, 2, 3, 4, 5, 6, 7, else 0.
+ * house is the house that the message came from. Answers 1, 2, 3, 4, 5, 6, then 7 or 13, else 0: where this kind was accepted from
+ * this house on this entry, the same 20 bytes are a repeat, 7, and others a conflict, 13.
  * A request is counted, and helps: "a helper sends again its own messages, to the asker alone, at most d times for each asker."
  * Answers 1, 2, 3, 4, 14, else 0. */
 gm_outcome gm_receive(uint8_t *book, size_t len, uint32_t house, const uint8_t *message, size_t message_len);
@@ -254,7 +256,7 @@ static inline const char *gm_answer_text(unsigned answer) {
     case GM_NOT_FROM_SENDER:
         return "SEND not from the entry's sender";
     case GM_ALREADY_ACCEPTED:
-        return "this kind was already accepted from this house on this entry, same declaration or not";
+        return "this kind was already accepted from this house on this entry, with the same declaration";
     case GM_ALREADY_PUBLISHED:
         return "already published at this number";
     case GM_NOT_ALLOWED:
@@ -263,6 +265,8 @@ static inline const char *gm_answer_text(unsigned answer) {
         return "sheet not legal";
     case GM_WRONG_LENGTH:
         return "buffer length is not the book's length";
+    case GM_CONFLICT:
+        return "this kind was already accepted from this house on this entry, with a different declaration";
     case GM_HELPED_ENOUGH:
         return "this asker was helped d times already";
     default:

@@ -1,5 +1,5 @@
 //! Four houses in one process: they open, publish, receive and store; one loses power twice, returns and is helped; another lies about
-//! what it declares; and they write an account of it.
+//! what it declares, to different houses and then to one, which keeps the evidence; and they write an account of it.
 //!
 //! Each call works on a copy of the book. The copy is stored, with a delivery beside it, and only then does anything leave. What
 //! a house sent can be read off its book, so that no message is stored: after a power cut the book says what is to be sent again.
@@ -135,16 +135,39 @@ fn kind_of(bytes: &[u8]) -> &'static str {
     }
 }
 
+fn told(of: &Declaration) -> String {
+    let (lot, colonies, kilograms) = (of.lot(), of.colonies(), of.kilograms());
+    let (moisture, conductivity) = (of.moisture(), of.conductivity());
+    format!(
+        "lot {lot}: {colonies} colonies, {kilograms} kg, {moisture} percent, {conductivity} mS/cm"
+    )
+}
+
 fn tell(gave: &Outcome) {
     print!("accepted");
     if let Some(message) = &gave.message {
         print!(", gives {}", kind_of(message));
     }
-    if let Some(of) = gave.delivery {
-        let (lot, colonies, kilograms) = (of.lot(), of.colonies(), of.kilograms());
-        print!(", delivers lot {lot}: {colonies} colonies, {kilograms} kg");
+    if let Some(delivery) = &gave.delivery {
+        print!(", delivers {}", told(delivery));
     }
     println!("{}", if gave.helps { ", helps" } else { "" });
+}
+
+/// The declaration that the book has of this kind from this house on this entry: docs/BOOK.md, "The slots of an entry".
+fn standing(book: &Book, from: usize, came: &Message) -> Fallible<Declaration> {
+    let (n, s) = (usize::from(book.houses()), usize::from(book.numbers()));
+    let (number, sender) = (usize::from(came.number), usize::from(came.sender));
+    let entry = s + (number * n + sender) * (2 * n + 3);
+    let slot = match came.kind {
+        Kind::Send => entry,
+        Kind::Echo => entry + 1 + from,
+        Kind::Ready => entry + 1 + n + from,
+        _ => return Err("a kind of a later version".into()),
+    };
+    let at = 31 + n + 21 * slot + 1;
+    let bytes = &book.as_bytes()[at..at + Declaration::BYTES];
+    Ok(Declaration::from_bytes(bytes.try_into()?))
 }
 
 impl Valley {
@@ -167,34 +190,56 @@ impl Valley {
     fn publish(&mut self, own: usize, number: u32, declaration: &Declaration) -> Fallible<()> {
         let lot = declaration.lot();
         print!("house {own} publishes lot {lot} at number {number}: ");
-        self.call(own, own, |book| book.publish(number, declaration))
+        self.call(own, own, |book| book.publish(number, declaration))?;
+        Ok(())
     }
 
     fn receive(&mut self, own: usize, from: u64, bytes: &[u8]) -> Fallible<()> {
         print!("house {own} hears {} from house {from}: ", kind_of(bytes));
-        self.call(own, from as usize, |book| book.receive(from, bytes))
+        let refusal = self.call(own, from as usize, |book| book.receive(from, bytes))?;
+        if refusal == Some(Refusal::Conflict) {
+            self.keep_evidence(own, from as usize, bytes)?;
+        }
+        Ok(())
+    }
+
+    /// A conflict: what was heard first stands in the book. Here the account keeps both; a house keeps both messages as they came, with
+    /// the signatures of its carrier.
+    fn keep_evidence(&self, own: usize, from: usize, bytes: &[u8]) -> Fallible<()> {
+        let Heard::Message(came) = Message::read(bytes)? else {
+            return Err("a request is no conflict".into());
+        };
+        let (kind, number, sender) = (kind_of(bytes), came.number, came.sender);
+        let first = told(&standing(self.up(own)?, from, &came)?);
+        let then = told(&came.declaration);
+        print!("house {own} keeps as evidence against house {from}, ");
+        println!("{kind} on number {number} of sender {sender}: first {first}; then {then}");
+        Ok(())
     }
 
     /// A call on a copy of the book. The copy is stored, with a delivery beside it; then it takes the book's place, and what the call
-    /// gave leaves.
+    /// gave leaves. A refusal is told, and handed back.
     fn call(
         &mut self,
         own: usize,
         from: usize,
         call: impl FnOnce(&mut Book) -> Result<Worked<'_>, Refusal>,
-    ) -> Fallible<()> {
+    ) -> Fallible<Option<Refusal>> {
         let House { book, disk, .. } = &mut self.houses[own];
         let worked = match call(book.as_mut().ok_or("house is down")?) {
             Ok(worked) => worked,
             Err(refusal) => {
                 println!("{} (answer {})", refusal.sentence(), refusal.number());
-                return Ok(());
+                return Ok(Some(refusal));
             }
         };
         let gave = worked.store(|book, delivery| disk.store(book, delivery))?;
         tell(&gave);
         if self.loses_power(own, &gave) {
-            return gave.delivery.map_or(Ok(()), |_| self.start(own));
+            if gave.delivery.is_some() {
+                self.start(own)?;
+            }
+            return Ok(None);
         }
         if let Some(message) = gave.message {
             self.carry_to_all(own, &message);
@@ -203,7 +248,7 @@ impl Valley {
         if gave.helps {
             self.help(own, from)?;
         }
-        Ok(())
+        Ok(None)
     }
 
     /// One house loses power twice: after a READY was stored and before it leaves; and after a delivery was stored and before the
@@ -302,23 +347,27 @@ impl Valley {
         Ok(())
     }
 
+    /// The liar's SEND, ECHO and READY of lot 90, with that many kilograms, to one house.
+    fn say(&mut self, to: usize, kilograms: u32) {
+        for &kind in Kind::ALL {
+            let message = Message {
+                kind,
+                season: OPENING.season,
+                sender: LIAR as u8,
+                number: NUMBER as u8,
+                declaration: Declaration::new(90, 30, kilograms, 17.5, 0.5),
+            };
+            self.carry(LIAR, to, &message.to_bytes());
+        }
+    }
+
     /// A wrong house says of lot 90 one thing to houses 0 and 1 and another to house 2, and vouches for both. One of four may be wrong:
     /// the honest ones deliver one of the two, or none, and the same.
     fn lie(&mut self) -> Fallible<()> {
         self.lies = true;
         println!("house {LIAR} lies: to houses 0 and 1 lot 90 has 600 kg, to house 2 it has 500");
-        for &kind in Kind::ALL {
-            for to in 0..LIAR {
-                let kilograms = if to < 2 { 600 } else { 500 };
-                let message = Message {
-                    kind,
-                    season: OPENING.season,
-                    sender: LIAR as u8,
-                    number: 0,
-                    declaration: Declaration::new(90, 30, kilograms, 17.5, 0.5),
-                };
-                self.carry(LIAR, to, &message.to_bytes());
-            }
+        for to in 0..LIAR {
+            self.say(to, if to < 2 { 600 } else { 500 });
         }
         self.bring_all()?;
         let first = &self.houses[0].register;
@@ -328,6 +377,16 @@ impl Valley {
         }
         println!("houses 0, 1 and 2 delivered one declaration of lot 90, the same");
         Ok(())
+    }
+
+    /// A nervous carrier brings what the house has: a repeat. A liar brings something else: a conflict. Neither changes a book.
+    fn repeat_and_conflict(&mut self) -> Fallible<()> {
+        println!("a nervous carrier brings house 0 again what house {LIAR} told it");
+        self.say(0, 600);
+        self.bring_all()?;
+        println!("house {LIAR} tells house 0 what it told house 2");
+        self.say(0, 500);
+        self.bring_all()
     }
 }
 
@@ -372,5 +431,6 @@ fn main() -> Fallible<()> {
     valley.receive(0, (1 << 32) + publisher, &send)?; // cut to 32 bits it would be the publisher
     valley.publish(PUBLISHER, NUMBER, &lot77)?;
     valley.publish(PUBLISHER, 0, &Declaration::new(77, 40, 801, 17.5, 0.5))?;
-    valley.lie()
+    valley.lie()?;
+    valley.repeat_and_conflict()
 }

@@ -236,7 +236,8 @@ impl Book {
         Worked::on_copy(self, |copy| copy.publish_in_place(number, declaration))
     }
 
-    /// Receives one message, any bytes, from a house. Works on a copy. Answers 1 to 7 in order; a request 1 to 4, and then 14.
+    /// Receives one message, any bytes, from a house. Works on a copy.
+    /// Answers 1 to 6 in order, then 7 or 13; a request 1 to 4, and then 14.
     ///
     /// A house number wider than 32 bits is refused as any number not in the book is, and not cut:
     ///
@@ -247,6 +248,29 @@ impl Book {
     /// let send = book.publish_in_place(0, &Declaration::new(77, 40, 800, 17.5, 0.5))?.message.unwrap();
     /// assert_eq!(book.receive(1 << 32, &send).err(), Some(Refusal::NotInBook));
     /// assert_eq!(book.receive(1 << 32, &send[1..]).err(), Some(Refusal::Malformed));
+    /// # Ok::<(), Refusal>(())
+    /// ```
+    ///
+    /// Where this kind was accepted from this house on this entry, the same declaration is a repeat, 7, and a different one a conflict,
+    /// 13. The one that stands stays:
+    ///
+    /// ```
+    /// use grassmunch::{Book, Declaration, Gate, Kind, Message, Opening, Refusal, Sheet};
+    /// let sheet = Sheet { cap: 20, moisture: Gate::Open, conductivity: Gate::Open };
+    /// let mut book = Book::open(&Opening { n: 4, s: 1, f: 0, d: 1, season: 2026, sheet }, 0)?;
+    /// let echo = |kilograms, moisture| {
+    ///     let declaration = Declaration::new(77, 40, kilograms, moisture, 0.5);
+    ///     Message { kind: Kind::Echo, season: 2026, sender: 2, number: 0, declaration }.to_bytes()
+    /// };
+    /// let _none = book.receive_in_place(3, &echo(800, 0.0))?;
+    /// let heard = book.clone();
+    ///
+    /// // the carrier brings it again; and house 3 lies
+    /// assert_eq!(book.receive_in_place(3, &echo(800, 0.0)), Err(Refusal::AlreadyAccepted));
+    /// assert_eq!(book.receive_in_place(3, &echo(799, 0.0)), Err(Refusal::Conflict));
+    /// assert_eq!(book.receive_in_place(3, &echo(800, -0.0)), Err(Refusal::Conflict));
+    /// assert_eq!(book.receive_in_place(3, &echo(800, 0.0)), Err(Refusal::AlreadyAccepted));
+    /// assert_eq!(book, heard);
     /// # Ok::<(), Refusal>(())
     /// ```
     ///

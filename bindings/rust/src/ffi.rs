@@ -136,7 +136,7 @@ pub fn publish(book: &mut [u8], number: u32, declaration: &[u8; 20]) -> Outcome 
     unsafe { gm_publish(book.as_mut_ptr(), book.len(), number, declaration) }
 }
 
-/// Receiving: 1 to 7 in order; a request 1 to 4, then 14.
+/// Receiving: 1 to 6 in order, then 7 or 13; a request 1 to 4, then 14.
 pub fn receive(book: &mut [u8], house: u32, message: &[u8]) -> Outcome {
     let (at, len) = (book.as_mut_ptr(), book.len());
     // SAFETY: `book` is valid for reads and writes of `len` bytes and lent to nobody else, `message` for reads of its length.

@@ -16,7 +16,8 @@ mod refusal;
 mod sheet;
 mod worked;
 
-/// The version, which is the archive's and the header's too. A season is finished with the first number that it was opened with.
+/// The version, which is the archive's and the header's too. A season is finished with the first number that it was opened with, or with
+/// one that goes with it: 3 goes with 2 (CHANGELOG.md).
 pub const VERSION: &str = env!("CARGO_PKG_VERSION");
 
 pub use book::{Book, Entry, Opening, Outcome};

@@ -1,4 +1,4 @@
-//! The answers other than 0, with their number and sentence: document 01's, and request 2026-10's 14.
+//! The answers other than 0, with their number and sentence: document 01's, request 2026-03's 13 and request 2026-10's 14.
 
 use std::fmt;
 
@@ -25,7 +25,7 @@ pub enum Refusal {
     NotPlausible,
     /// 6: SEND not from the entry's sender.
     NotFromSender,
-    /// 7: this kind was already accepted from this house on this entry, same declaration or not.
+    /// 7: this kind was already accepted from this house on this entry, with the same declaration.
     AlreadyAccepted,
     /// 8: already published at this number.
     AlreadyPublished,
@@ -35,6 +35,8 @@ pub enum Refusal {
     SheetNotLegal,
     /// 11: buffer length is not the book's length. A [`Book`](crate::Book) has its length, so no call here gives it.
     WrongLength,
+    /// 13: this kind was already accepted from this house on this entry, with a different declaration.
+    Conflict,
     /// 14: this asker was helped d times already.
     HelpedEnough,
     /// A number that this crate does not know: the archive is of another version.
@@ -44,12 +46,12 @@ pub enum Refusal {
 use Refusal::*;
 
 impl Refusal {
-    /// All refusals: 1 to 11 in order, then 14.
+    /// All refusals: 1 to 11 in order, then 13 and 14.
     ///
     /// ```
     /// use grassmunch::Refusal;
     /// let numbers = Refusal::ALL.iter().map(|refusal| refusal.number());
-    /// assert!(numbers.eq([1, 2, 3, 4, 5, 6, 7, 8, 9, 10, 11, 14]));
+    /// assert!(numbers.eq([1, 2, 3, 4, 5, 6, 7, 8, 9, 10, 11, 13, 14]));
     /// ```
     pub const ALL: &'static [Refusal] = &[
         NoLegalBook,
@@ -63,6 +65,7 @@ impl Refusal {
         NotAllowed,
         SheetNotLegal,
         WrongLength,
+        Conflict,
         HelpedEnough,
     ];
 
@@ -80,6 +83,7 @@ impl Refusal {
             NotAllowed => 9,
             SheetNotLegal => 10,
             WrongLength => 11,
+            Conflict => 13,
             HelpedEnough => 14,
             Unknown(number) => number,
         }
@@ -95,12 +99,15 @@ impl Refusal {
             NotPlausible => "not plausible",
             NotFromSender => "SEND not from the entry's sender",
             AlreadyAccepted => {
-                "this kind was already accepted from this house on this entry, same declaration or not"
+                "this kind was already accepted from this house on this entry, with the same declaration"
             }
             AlreadyPublished => "already published at this number",
             NotAllowed => "n, S, own number, f or d not allowed",
             SheetNotLegal => "sheet not legal",
             WrongLength => "buffer length is not the book's length",
+            Conflict => {
+                "this kind was already accepted from this house on this entry, with a different declaration"
+            }
             HelpedEnough => "this asker was helped d times already",
             Unknown(_) => "no answer of this library",
         }
