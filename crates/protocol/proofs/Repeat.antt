@@ -13,7 +13,7 @@ use Rattle.entry.proofs.Basics.{true-of, false-of, not-of, and-l, and-r, and-mk
 use Rattle.entry.proofs.Filled.{filled-heard}
 use Rattle.protocol.specs.Steps.{Out, refused, may}
 use Rattle.protocol.specs.Book.{Book, inBook, outcome, after}
-use Rattle.protocol.specs.Run.{n, Wall, Copy, State, Step, consume, isHonest, isUp, callOf, called, arrives, consumes, consumeAt, step, run}
+use Rattle.protocol.specs.Run.{n, Wall, Copy, State, Step, consume, isHonest, isUp, callOf, called, arrives, consumes, step, run}
 use Rattle.protocol.proofs.Order.{receiving-ordered}
 use Rattle.protocol.proofs.Slots.{run-fills}
 use Rattle.protocol.proofs.Invariant.{Inv, true-copy}

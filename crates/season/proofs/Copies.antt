@@ -1,4 +1,5 @@
--- A copy at the bytes and the protocol's copy that says the same: what one is answered the other is, and what stands of one stands of the other.
+-- A copy at the bytes and the protocol's copy that says the same: what one is answered the other is, and what stands of one stands of
+-- the other.
 use Prim.Native.Nat.{ℕ}
 use mathlib.Core.Path.{_≡_, refl, sym, ap, ap₂, _∙_}
 use mathlib.Core.List.{List}

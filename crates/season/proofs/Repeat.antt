@@ -1,13 +1,13 @@
 -- Repeat or conflict at the bytes: a copy that an honest house sent is answered 0, and 7 once it was heard, however often it is brought;
 -- so who is answered 13 is wrong.
 use Prim.Native.Nat.{ℕ, zero, suc, _<_}
-use mathlib.Core.Path.{_≡_, refl, sym, ap, fun-ext, _∙_}
+use mathlib.Core.Path.{_≡_, refl, sym, ap, fun-ext, subst, _∙_}
 use mathlib.Core.List.{List, _∷_, append-nil}
 use mathlib.Core.Logic.{⊎-elim}
-use mathlib.Core.Option.{some}
+use mathlib.Core.Option.{Option, none, some}
 use native.Mathlib.Omega.{arith}
-use lib.Dec.{T}
-use Rattle.message.specs.Message.{readOf}
+use lib.Dec.{T, ltb, ltb→lt}
+use Rattle.message.specs.Message.{Five, readOf}
 use Rattle.entry.specs.Lists.{upd, at}
 use Rattle.entry.proofs.Basics.{bcase, T-of, not-of, and-l, upd-all}
 use Rattle.protocol.specs.Steps.{Out}
@@ -17,10 +17,11 @@ use Rattle.protocol.proofs.Invariant.{Inv}
 use Rattle.protocol.proofs.Views.{view}
 use Rattle.protocol.proofs.Repeat.{heard-repeat, stays-heard}
 use Rattle.calls.specs.Call.{received}
+use Rattle.calls.specs.declared.Sent.{Sent}
 use Rattle.calls.proofs.Silent.{silent}
 use Rattle.calls.proofs.Conflict.{conflict-only}
 use Rattle.season.specs.Run.{Houses, isHonest, isWrong, Copy, State, Step, consume, Named, namedBy, ended, receives, run}
-use Rattle.season.specs.Claims.{answerTo, Heard, brought, SentTo, Safe, Consumable, RepeatOrConflict}
+use Rattle.season.specs.Claims.{answerTo, Heard, brought, OfSeason, Outgoing, SentTo, Safe, Consumable, RepeatOrConflict}
 use Rattle.season.proofs.Calls.{wall, Means, n-is, noting-none}
 use Rattle.season.proofs.Steps.{stepsOf, run-means, up-is}
 use Rattle.season.proofs.Copies.{said-at, copy-answered, stands-copy}
@@ -87,26 +88,45 @@ module _ (H : Houses) (s : State) (z : protocol.State) (M : Means H s z) (held :
     repeat : (k : ℕ) → answerTo (brought H m k later) m ≡ 7
     repeat k = ap (λ (x : State). answerTo x m) (unmoved k) ∙ still
 
-  module _ (j c : ℕ) (P : Safe H j c s) where
+  -- what is claimed of each entry, and one entry that there is
+  module _ (P : (j c : ℕ) → j < H .n → c < H .numbers → Safe H j c s) (j c : ℕ) (lj : j < H .n) (lc : c < H .numbers) where
     first : (i : ℕ) (m : Copy) → at (s .mail) i ≡ some m → T (isHonest H (m .to)) → (Heard s m → ⊥) → answerTo s m ≡ 0
-    first i m e t f = ⊎-elim (λ q. q) (λ q. absurd (f (q .1))) (P .accepted i m e t)
+    first i m e t f = ⊎-elim (λ q. q) (λ q. absurd (f (q .1))) (P j c lj lc .accepted i m e t)
 
     no-conflict : (i : ℕ) (m : Copy) → at (s .mail) i ≡ some m → T (isHonest H (m .to)) → answerTo s m ≡ 13 → ⊥
-    no-conflict i m e t q = ⊎-elim (λ a. omega (arith, a, q)) (λ a. omega (arith, a .0, q)) (P .accepted i m e t)
+    no-conflict i m e t q = ⊎-elim (λ a. omega (arith, a, q)) (λ a. omega (arith, a .0, q)) (P j c lj lc .accepted i m e t)
 
-    lied : (r p : ℕ) (message : List ℕ) → T (isHonest H r) → (T (isHonest H p) → SentTo s p r message)
+    -- what a house sent to one it sent to all
+    to-all : (p q r : ℕ) (message : List ℕ) → r < H .n → SentTo s p q message → SentTo s p r message
+    to-all p q r message lr S =
+        go (readOf message .five) (rw (S .says) at (P j c lj lc .mail (S .place) (S .copy) (S .posted)))
+        (rw (S .says, S .from) at (P j c lj lc .outbox (S .place) (S .copy) (S .posted)))
+      where
+        b : List ℕ
+        b = s .gave .books p
+
+        go : (x : Option Five) → OfSeason H x → T (isHonest H p) × Outgoing b x message → SentTo s p r message
+        go none O G = absurd O
+        go (some x) O G =
+            subst (SentTo s p r) (ap (λ (o : Sent). o .message) (G .1))
+            (P (x .sender) (x .number) (O .3) (O .4) .sent p (x .kind) (G .0) (ap (λ (o : Sent). o .gives) (G .1)) r lr)
+
+    lied : (r p : ℕ) (message : List ℕ) → T (isHonest H r) → (T (isHonest H p) → (q : ℕ) × SentTo s p q message)
         → received (s .gave .books r) p message .given .answer ≡ 13 → (p < H .n) × T (isWrong H p)
-    lied r p message t truly q =
+    lied r p message t truly a =
         let b = s .gave .books r in
-        let found = conflict-only b p message q in (
+        let found = conflict-only b p message a in (
           omega (arith, found .2 .plausible .inside .house, n-is H r b (M .gave .books r t)),
-          bcase (isHonest H p) (λ h. absurd (sent (truly (T-of h)))) (not-of (isHonest H p)),
+          bcase (isHonest H p) (λ h. let y = truly (T-of h) in absurd (sent (to-all p (y .0) r message below (y .1)))) (not-of (isHonest H p)),
         )
       where
+        below : r < H .n
+        below = ltb→lt r (H .n) (and-l (ltb r (H .n)) _ t)
+
         sent : SentTo s p r message → ⊥
         sent S =
             no-conflict (S .place) (S .copy) (S .posted) (rw (S .to) t)
-            ((λ i. received (s .gave .books (S .to i)) (S .from i) (S .says i) .given .answer) ∙ q)
+            ((λ i. received (s .gave .books (S .to i)) (S .from i) (S .says i) .given .answer) ∙ a)
 
     pub repeat-or-conflict : RepeatOrConflict H s
     repeat-or-conflict =

@@ -387,7 +387,8 @@ pub claims : Claims
 claims H O l j c hj hc =
     record {
       safe = safe H O l j c hj hc;
-      repeat-or-conflict = repeat-or-conflict H (run H l (start H)) _ (season-means H O l) (all-held H O l j c hj hc) j c (safe H O l j c hj hc);
+      repeat-or-conflict =
+          repeat-or-conflict H (run H l (start H)) _ (season-means H O l) (all-held H O l j c hj hc) (safe H O l) j c hj hc;
       drainable = drainable H O l j c hj hc;
       bounded = bounded H O l j c hj hc;
       agreed = agreed H O l j c hj hc;

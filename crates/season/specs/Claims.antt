@@ -91,8 +91,8 @@ module _ (H : Houses) where
     -- So no copy that an honest house sent is ever answered 13,
     pub no-conflict : (i : ℕ) (m : Copy) → at (s .mail) i ≡ some m → T (isHonest H (m .to)) → answerTo s m ≡ 13 → ⊥
     -- and whoever is answered 13 lied: where it is told truly which house a message came from, so that under an honest house's number
-    -- comes what that house sent, it is a wrong house, one of the n.
-    pub lied : (r p : ℕ) (message : List ℕ) → T (isHonest H r) → (T (isHonest H p) → SentTo s p r message)
+    -- comes what that house sent, to whichever house, it is a wrong house, one of the n.
+    pub lied : (r p : ℕ) (message : List ℕ) → T (isHonest H r) → (T (isHonest H p) → (q : ℕ) × SentTo s p q message)
         → received (s .gave .books r) p message .given .answer ≡ 13 → (p < H .n) × T (isWrong H p)
 
 module _ (H : Houses) (j c : ℕ) where
