@@ -8,15 +8,17 @@ use Rattle.card.specs.Card as card
 use Rattle.entry.specs.Entry.{ECHO, READY}
 use Rattle.protocol.specs.Run as protocol
 use Rattle.meaning.specs.Layout.{mostLimit}
+use Rattle.calls.specs.Entered.{isDecl}
+use Rattle.calls.proofs.Fits.{is-decl}
 use Rattle.season.specs.Run.{Open, State, copies, readies}
 use Rattle.season.specs.Claims.{Exact}
 use Rattle.season.proofs.Calls.{wall, Means}
 use Rattle.season.proofs.Season.{between-counted, unconsumed-counted, claims}
 use Rattle.runs.specs.Plain.{houses, steps, end, Seen, seen, met, Met}
-use Rattle.runs.specs.Sample.{sample, lot}
+use Rattle.runs.specs.Sample.{sample, lot, lie}
 use Rattle.runs.specs.Counts.{counts}
 use Rattle.runs.proofs.Sample.{sample-open}
-use Rattle.runs.proofs.Means.{endOf, read-off, heard-is}
+use Rattle.runs.proofs.Means.{endOf, read-off, heard-is, told-answer, answered}
 use Rattle.runs.proofs.Counts.{told-counts, counts-told, limited-by, down-is}
 
 opened : Open houses
@@ -36,10 +38,13 @@ told z =
       other-echo = z .gave .books 2 0 0 .echo 3;
       forged = z .gave .books 2 0 0 .ready 3;
       honest = z .gave .books 2 0 0 .ready 1;
+      again = told-answer houses z 1 3 ECHO lie;
+      otherwise = told-answer houses z 1 3 ECHO lot;
+      carried = told-answer houses z 1 0 ECHO lot;
     }
 
 seen-told : (s : State) (z : protocol.State) → Means houses s z → seen s ≡ told z
-unfolding seen houses sample
+unfolding seen houses sample isDecl
 seen-told s z M =
     λ i.
     record {
@@ -52,6 +57,9 @@ seen-told s z M =
       other-echo = heard-is houses s z M 2 tt 0 0 (lit< tt) (lit< tt) ECHO 3 (lit< tt) i;
       forged = heard-is houses s z M 2 tt 0 0 (lit< tt) (lit< tt) READY 3 (lit< tt) i;
       honest = heard-is houses s z M 2 tt 0 0 (lit< tt) (lit< tt) READY 1 (lit< tt) i;
+      again = answered houses s z M 1 3 ECHO lie (is-decl lie refl) tt refl i;
+      otherwise = answered houses s z M 1 3 ECHO lot (is-decl lot refl) tt refl i;
+      carried = answered houses s z M 1 0 ECHO lot (is-decl lot refl) tt refl i;
     }
 
 -- the protocol's run, computed

@@ -8,6 +8,7 @@ use mathlib.Core.Option.{Option, some}
 use lib.Dec.{ltb}
 use Rattle.meaning.specs.Layout.{echoSlot, readySlot}
 use Rattle.meaning.specs.Book.{slotIn}
+use Rattle.calls.specs.Call.{received}
 use Rattle.season.specs.Run.{Houses, Open, State, Step, publish, consume, wrong, start, run, copiesOf, between, isBetween, Limited}
 use Rattle.season.specs.Run.{downs}
 use Rattle.season.specs.Claims.{Few, Delivered, Published}
@@ -47,6 +48,10 @@ pub record Seen : Type 0 where
   pub other-echo : Option (List ℕ)
   pub forged : Option (List ℕ)
   pub honest : Option (List ℕ)
+  -- what house 1 answers to the liar's first ECHO once more, to its second, and to house 0's once more
+  pub again : ℕ
+  pub otherwise : ℕ
+  pub carried : ℕ
 
 unfoldable pub seen : State → Seen
 unfolding houses
@@ -61,9 +66,12 @@ seen s =
       other-echo = slotIn (s .gave .books 2) 0 0 (echoSlot 3);
       forged = slotIn (s .gave .books 2) 0 0 (readySlot 4 3);
       honest = slotIn (s .gave .books 2) 0 0 (readySlot 4 1);
+      again = received (s .gave .books 1) 3 (says 2 lie) .given .answer;
+      otherwise = received (s .gave .books 1) 3 (says 2 lot) .given .answer;
+      carried = received (s .gave .books 1) 0 (says 2 lot) .given .answer;
     }
 
--- three honest, honest sender, 28 copies; the first ECHO that the liar sent house 1, and not its second
+-- three honest, honest sender, 28 copies; the first ECHO that the liar sent house 1, and not its second, which is a conflict
 abbrev pub met : Seen
 met =
     record {
@@ -76,6 +84,9 @@ met =
       other-echo = some lot;
       forged = some lie;
       honest = some lot;
+      again = 7;
+      otherwise = 13;
+      carried = 7;
     }
 
 -- the premises of 01's exact counts are met, by a run in which the liar is heard

@@ -34,7 +34,7 @@ abbrev pub fiveFor : (season sender number : ℕ) → Kind → Decl → Five
 fiveFor season j c k v = fiveOf (kindNumber k) season j c (declarationAt v 0)
 
 -- a message that a call gave reads as what the step said
-read-letter : (season j c : ℕ) (k : Kind) (v : Decl) → readOf (letter season j c (say k v)) .five ≡ some (fiveFor season j c k v)
+pub read-letter : (season j c : ℕ) (k : Kind) (v : Decl) → readOf (letter season j c (say k v)) .five ≡ some (fiveFor season j c k v)
 unfolding letter
 read-letter season j c k v = ap (λ (x : Told). x .five) (read-of-wire (fiveFor season j c k v) (is-known k))
 
