@@ -2,9 +2,8 @@
 use mathlib.Core.Path.{_≡_, refl, sym, ap, _∙_}
 use mathlib.Core.Bool.{Bool, true, false, cond}
 use mathlib.Core.Logic.{_⊎_, inl, inr, ⊎-elim}
-use mathlib.Core.Option.{Option, none, some}
+use mathlib.Core.Option.{none, some}
 use Prim.Native.Nat.{ℕ, zero, suc}
-use native.Mathlib.Omega.{arith}
 use lib.Dec.{T, eqb, ltb, eqb→eq, eqb-refl}
 use Rattle.entry.specs.Entry.{Decl, Kind, SEND, ECHO, READY, Entry, heard, outgoing, isNone, sameEntry}
 use Rattle.protocol.specs.Steps.{Rules, receiveAnswer, receive, publishAnswer, publish, Say, say, Out, refused, settle, may}

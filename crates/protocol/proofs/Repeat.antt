@@ -1,8 +1,8 @@
 -- A copy that an honest house sent, brought again: a house that heard it refuses it with 7. Consumed at a house that is up it is heard, and
 -- what is heard stays heard.
 use Prim.Native.Nat.{ℕ}
-use mathlib.Core.Path.{_≡_, sym, ap, _∙_}
-use mathlib.Core.Bool.{true, false, not, _&&_}
+use mathlib.Core.Path.{_≡_, ap, _∙_}
+use mathlib.Core.Bool.{false, not, _&&_}
 use mathlib.Core.List.{List, _∷_}
 use mathlib.Core.Logic.{⊎-elim}
 use mathlib.Core.Option.{some}
@@ -11,8 +11,8 @@ use Rattle.entry.specs.Entry.{Entry, heard, sameEntry}
 use Rattle.entry.specs.Lists.{at}
 use Rattle.entry.proofs.Basics.{true-of, false-of, not-of, and-l, and-r, and-mk, entry-refl, upd-same}
 use Rattle.entry.proofs.Filled.{filled-heard}
-use Rattle.protocol.specs.Steps.{Out, refused, may}
-use Rattle.protocol.specs.Book.{Book, inBook, outcome, after}
+use Rattle.protocol.specs.Steps.{refused, may}
+use Rattle.protocol.specs.Book.{Book, outcome, after}
 use Rattle.protocol.specs.Run.{n, Wall, Copy, State, Step, consume, isHonest, isUp, callOf, called, arrives, consumes, step, run}
 use Rattle.protocol.proofs.Order.{receiving-ordered}
 use Rattle.protocol.proofs.Slots.{run-fills}

@@ -117,7 +117,7 @@ module _ (H : Houses) (s : State) (z : protocol.State) (M : Means H s z) (held :
         let b = s .gave .books r in
         let found = conflict-only b p message a in (
           omega (arith, found .2 .plausible .inside .house, n-is H r b (M .gave .books r t)),
-          bcase (isHonest H p) (λ h. let y = truly (T-of h) in absurd (sent (to-all p (y .0) r message below (y .1)))) (not-of (isHonest H p)),
+          bcase (isHonest H p) (λ h. absurd (anyone (truly (T-of h)))) (not-of (isHonest H p)),
         )
       where
         below : r < H .n
@@ -127,6 +127,9 @@ module _ (H : Houses) (s : State) (z : protocol.State) (M : Means H s z) (held :
         sent S =
             no-conflict (S .place) (S .copy) (S .posted) (rw (S .to) t)
             ((λ i. received (s .gave .books (S .to i)) (S .from i) (S .says i) .given .answer) ∙ a)
+
+        anyone : (q : ℕ) × SentTo s p q message → ⊥
+        anyone (q, S) = sent (to-all p q r message below S)
 
     pub repeat-or-conflict : RepeatOrConflict H s
     repeat-or-conflict =

@@ -16,13 +16,11 @@ use Rattle.card.proofs.Counting.{count-not, count-find, count-none}
 use Rattle.card.proofs.Overlap.{fitting-largest}
 use Rattle.lot.specs.Declaration.{declarationAt}
 use Rattle.sheet.specs.Sheet.{plausible}
-use Rattle.lot.proofs.Declared.{bytes-of-numbers}
 use Rattle.sheet.specs.Kept.{sheetAt, isSheet, judged}
-use Rattle.message.specs.Message.{readOf}
 use Rattle.meaning.specs.Legal.{IsDecl}
 use Rattle.meaning.proofs.Opening.{opened-facts, allowed-facts}
 use Rattle.entry.specs.Entry.{READY, heard, sameKind}
-use Rattle.protocol.specs.Book.{Call, publishing, receiving, outcome}
+use Rattle.protocol.specs.Book.{publishing}
 use Rattle.entry.specs.Lists.{at, tally}
 use Rattle.protocol.specs.Run as protocol
 use Rattle.protocol.specs.Claims as protocol-claims
@@ -34,8 +32,7 @@ use Rattle.protocol.proofs.Invariant.{Inv}
 use Rattle.protocol.proofs.Views.{view}
 use Rattle.protocol.proofs.Runs.{holds-from-start}
 use Rattle.protocol.proofs.Season as protocol-season
-use Rattle.calls.proofs.KindNumber.{kind-is}
-use Rattle.calls.specs.Entered.{Result, isDecl, okBy}
+use Rattle.calls.specs.Entered.{isDecl, okBy}
 use Rattle.calls.specs.Call.{published, received}
 use Rattle.calls.specs.Again.{returned}
 use Rattle.calls.proofs.Declarations.{decl-true}
@@ -50,7 +47,7 @@ use Rattle.season.proofs.Copies.{said-at, copy-answered, copy-stands}
 use Rattle.season.proofs.Repeat.{repeat-or-conflict}
 use Rattle.season.proofs.Outbox.{reads, outbox, sent}
 use Rattle.season.proofs.Steps as steps-proofs
-use Rattle.season.proofs.Steps.{stepsOf, copy-called, up-is, consumption-means, season-means}
+use Rattle.season.proofs.Steps.{stepsOf, up-is, consumption-means, season-means}
 
 -- what the steps take for plausible, judging answers 0
 judged-zero : (sheet v : List ℕ) → isSheet sheet ≡ true → T (okBy (sheetAt sheet 0) v) → judged sheet v ≡ 0
