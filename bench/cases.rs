@@ -237,6 +237,13 @@ fn refused(n: u32, rows: &mut Vec<Case>) {
         receive(Kind::Echo),
         7,
     ));
+    for (byte, differs) in [(0, "the lot"), (19, "the last byte")] {
+        let mut other = book(n, FULL, &[]);
+        let slot = helped_byte(n as usize) + 21 * heard_slot(n, Kind::Echo);
+        other[slot + 1 + byte] ^= 1;
+        let what = format!("refusal 13, {differs} otherwise");
+        rows.push(case(&what, n, FULL.name, other, receive(Kind::Echo), 13));
+    }
 }
 
 /// The slot of the READY that this house sent on the named entry.
