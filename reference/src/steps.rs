@@ -1,7 +1,7 @@
 //! The steps: publishing, receiving, a return, what was sent, and the earliest waiting entry.
 
 use crate::answer::{
-    ACCEPTED, ALREADY_ACCEPTED, ALREADY_PUBLISHED, HELPED_ENOUGH, MALFORMED, NOT_IN_BOOK,
+    ACCEPTED, ALREADY_ACCEPTED, ALREADY_PUBLISHED, CONFLICT, HELPED_ENOUGH, MALFORMED, NOT_IN_BOOK,
     NOT_PLAUSIBLE, NOT_THE_SENDER, NO_LEGAL_BOOK, OTHER_SEASON,
 };
 use crate::book::{fill, held, holding, is_full, Entry, Header, Slot};
@@ -64,8 +64,8 @@ fn try_publish(book: &mut [u8], number: u32, declaration: &Declaration) -> Resul
     })
 }
 
-/// Receives one message that came from `house`. Answers 1 to 7 in order, or 0; a request 1 to 4 and then
-/// 14, or 0.
+/// Receives one message that came from `house`. Answers 1 to 6 in order and then 7 or 13, or 0; a request
+/// 1 to 4 and then 14, or 0.
 pub fn receive(book: &mut [u8], house: u32, message: &[u8]) -> Outcome {
     try_receive(book, house, message).unwrap_or_else(Outcome::refused)
 }
@@ -101,7 +101,8 @@ fn help(header: &Header, book: &mut [u8], asker: usize) -> Result<Outcome, u8> {
     })
 }
 
-/// A message of kind 1 to 3 of the book's season, from a house in the book: answers 4 to 7, or 0.
+/// A message of kind 1 to 3 of the book's season, from a house in the book: answers 4 to 6, then 7 or 13,
+/// or 0.
 fn hear(header: &Header, book: &mut [u8], house: usize, message: &Message) -> Result<Outcome, u8> {
     let entry = header
         .entry(book, message.number, message.sender)
@@ -127,7 +128,7 @@ struct Step {
     delivers: bool,
 }
 
-/// Records the message on its entry and marks what is now due; or answer 7, with nothing recorded.
+/// Records the message on its entry and marks what is now due; or answer 7 or 13, with nothing recorded.
 fn accept(entry: Entry, house: usize, message: &Message, counts: Counts) -> Result<Step, u8> {
     let v = holding(&message.declaration);
     match message.kind {
@@ -157,9 +158,15 @@ fn accept(entry: Entry, house: usize, message: &Message, counts: Counts) -> Resu
     }
 }
 
-/// "This kind was already accepted from this house on this entry, same declaration or not."
+/// Fills the slot where nothing stands in it. What stands is compared by its bytes, plausible or not:
+/// "answer 7 is kept for the same declaration again", and a different one is answered 13.
 fn record(slot: &mut Slot, v: &Slot) -> Result<(), u8> {
-    fill(slot, v).then_some(()).ok_or(ALREADY_ACCEPTED)
+    let again = if slot == v {
+        ALREADY_ACCEPTED
+    } else {
+        CONFLICT
+    };
+    fill(slot, v).then_some(()).ok_or(again)
 }
 
 /// A READY, where enough vouch for it and the mark says that none was sent: "the mark decides here".

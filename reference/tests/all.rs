@@ -5,6 +5,7 @@ mod calls;
 mod common;
 mod pairs;
 mod readings;
+mod repeats;
 mod rows;
 mod seasons;
 mod slips;

@@ -1,15 +1,30 @@
 //! Whole seasons with wrong houses, and with houses that crash and return; and libraries with a slip each,
 //! to see that the claims see it.
 
-use crate::common::{Slipped, Slips};
+use crate::common::{shows, Slips};
 use reference::testing::both::Both;
 use reference::testing::claims::Fault;
-use reference::testing::random::Random;
-use reference::testing::scheduler::{self, directed};
-use reference::testing::season::moments::Tally;
-use reference::testing::season::Rules;
+use reference::testing::scheduler::{self, carrier, directed};
+use reference::testing::season::moments::{Moment, Tally};
 use reference::{Counts, Declaration, Message, Outcome, Reference, Returned, SentAnswer};
 use std::collections::HashSet;
+
+/// In the seasons of one test copies are brought again so often at least, and wrong houses say the same again
+/// and another thing.
+const AGAIN: [(Moment, usize); 6] = [
+    (Moment::BroughtAgain, 20_000),
+    (Moment::BroughtOften, 10_000),
+    (Moment::BroughtLate, 10_000),
+    (Moment::BroughtAfterReturn, 1_000),
+    (Moment::WrongRepeat, 2_000),
+    (Moment::Conflict, 2_000),
+];
+
+/// Panics where it was less often.
+fn often_again(tally: &Tally) {
+    let rare = tally.rare(&AGAIN);
+    assert!(rare.is_empty(), "it seldom came about: {rare:?}");
+}
 
 #[test]
 fn up_to_seven_houses() {
@@ -21,6 +36,7 @@ fn up_to_seven_houses() {
     }
     let missing = tally.missing();
     assert!(missing.is_empty(), "it never came about: {missing:?}");
+    often_again(&tally);
 }
 
 #[test]
@@ -31,13 +47,16 @@ fn eight_to_sixteen_houses() {
     }
     let missing = tally.missing();
     assert!(missing.is_empty(), "it never came about: {missing:?}");
+    often_again(&tally);
 }
 
 #[test]
 fn t_wrong_one_less_none_and_one_more() {
+    let mut tally = Tally::default();
     for (n, s) in (1..=16).map(|n| (n, 1)).chain([(5, 2), (7, 3), (4, 4)]) {
-        scheduler::hostile(&mut Reference, 2026, n, s);
+        tally.add_all(&scheduler::hostile(&mut Reference, 2026, n, s));
     }
+    often_again(&tally);
 }
 
 #[test]
@@ -53,6 +72,21 @@ fn directed_seasons_with_crashes() {
 #[test]
 fn two_wrong_of_four_step_by_step() {
     directed::one_wrong_too_many(&mut Reference);
+}
+
+#[test]
+fn a_liar_and_a_nervous_carrier_step_by_step() {
+    directed::liar_and_carrier(&mut Reference);
+}
+
+#[test]
+fn a_nervous_carrier_changes_nothing() {
+    let mut tally = Tally::default();
+    for (n, seasons) in (1..=7).map(|n| (n, 40)).chain([(10, 8), (16, 2)]) {
+        let came = carrier::changes_nothing(&mut Reference, 2026, n, 1 + n % 3, seasons);
+        tally.add_all(&came);
+    }
+    often_again(&tally);
 }
 
 #[test]
@@ -314,27 +348,6 @@ impl Slips for Slipping {
     }
 }
 
-/// Whether seasons with at most t wrong houses show this fault.
-fn shows(slip: Slip, fault: Fault) -> bool {
-    let sizes: [(u8, u8, u8, &[usize]); 6] = [
-        (1, 0, 1, &[]),
-        (3, 1, 1, &[]),
-        (4, 0, 1, &[2]),
-        (5, 2, 2, &[]),
-        (6, 1, 1, &[5]),
-        (7, 1, 2, &[0]),
-    ];
-    (0..1_200).any(|seed| {
-        let (n, f, d, wrong) = sizes[seed as usize % sizes.len()];
-        let mut random = Random::new(seed);
-        let mut library = Slipped(Slipping::new(slip));
-        let rules = Rules::new(n, 1, wrong).with(f, d);
-        let mut season = scheduler::run(&mut library, &mut random, rules);
-        let findings = season.findings();
-        findings.iter().any(|finding| finding.fault == fault)
-    })
-}
-
 #[test]
 fn every_fault_of_a_crash_can_be_seen() {
     let slips: [(Slip, &[Fault]); 20] = [
@@ -392,7 +405,8 @@ fn every_fault_of_a_crash_can_be_seen() {
     ];
     for (slip, faults) in slips {
         for &fault in faults {
-            assert!(shows(slip, fault), "{slip:?} does not show {fault:?}");
+            let shown = shows(|| Slipping::new(slip), fault);
+            assert!(shown, "{slip:?} does not show {fault:?}");
         }
     }
 }

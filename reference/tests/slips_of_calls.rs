@@ -2,15 +2,12 @@
 //! caught by a check that knows the answer, and again by drawn calls beside a library that does not
 //! slip.
 
-use crate::common::{Slipped, Slips};
-use reference::testing::both::Both;
-use reference::testing::forms::slots_from;
+use crate::common::{differs, said, Slipped, Slips};
+use reference::testing::forms::{slot_at, slots_from};
 use reference::testing::{books, openings, pairs, refusals, requests, returns, rows, vouchers};
 use reference::{
-    read_request, request, Counts, Declaration, Message, Outcome, Reference, Returned, SentAnswer,
-    Waiting,
+    read_request, request, Counts, Declaration, Message, Outcome, Returned, SentAnswer, Waiting,
 };
-use std::panic::{catch_unwind, AssertUnwindSafe};
 
 #[derive(Clone, Copy, Debug, PartialEq)]
 enum Slip {
@@ -96,13 +93,6 @@ fn head(book: &[u8]) -> [usize; 5] {
 fn counts(book: &[u8]) -> &[u8] {
     let [n, ..] = head(book);
     book.get(31..31 + n).unwrap_or_default()
-}
-
-/// Where a slot begins: of the entry of this number and sender the `place`-th.
-fn slot_at(book: &[u8], number: u8, sender: u8, place: usize) -> usize {
-    let [n, s, ..] = head(book);
-    let entry = usize::from(number) * n + usize::from(sender);
-    slots_from(book[0]) + 21 * (s + entry * (2 * n + 3) + place)
 }
 
 /// How many READYs of the message's declaration its entry has.
@@ -336,13 +326,6 @@ impl Slips for Slipping {
     }
 }
 
-/// The sentence that a check panics with, where it does.
-fn said(check: impl FnOnce()) -> Option<String> {
-    let panic = catch_unwind(AssertUnwindSafe(check)).err()?;
-    let whole = panic.downcast_ref::<String>().cloned();
-    whole.or_else(|| panic.downcast_ref::<&str>().map(|part| part.to_string()))
-}
-
 /// A check of one library, under its name.
 type Check = (&'static str, fn(&mut Slipped<Slipping>));
 
@@ -504,25 +487,14 @@ fn slips() -> Vec<Slip> {
     slips
 }
 
-/// Side by side with a library that does not slip, drawn calls show every slip: what the answer has to
-/// be need not be known.
+/// Drawn calls show every slip.
 #[test]
 fn every_slip_differs_from_no_slip() {
     for slip in slips() {
-        let drawn = || {
-            let mut both = Both {
-                first: Reference,
-                second: Slipped(Slipping { slip }),
-            };
-            openings::openings(&mut both, 2026, 1_000);
-            returns::any_book(&mut both, 2026, 200);
-            refusals::calls(&mut both, 2026, 4_000);
-        };
-        let said = said(drawn).unwrap_or_else(|| panic!("{slip:?} is not seen"));
-        let differs = ["the two libraries differ", "byte of the book that differs"];
-        assert!(
-            differs.iter().any(|what| said.contains(what)),
-            "{slip:?}: {said}"
-        );
+        differs(&format!("{slip:?}"), Slipping { slip }, |both| {
+            openings::openings(both, 2026, 1_000);
+            returns::any_book(both, 2026, 200);
+            refusals::calls(both, 2026, 4_000);
+        });
     }
 }

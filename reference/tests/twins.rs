@@ -93,7 +93,8 @@ impl Slips for Slipping {
                     echo[16..].copy_from_slice(&heard[1..]);
                 }
             }
-            (Slip::CountsSecondEcho, Kind::Echo, 7) | (Slip::CountsSecondReady, Kind::Ready, 7) => {
+            (Slip::CountsSecondEcho, Kind::Echo, 7 | 13)
+            | (Slip::CountsSecondReady, Kind::Ready, 7 | 13) => {
                 let first = 1 + n * (message.kind as usize - 2);
                 let is_free = |house: &usize| {
                     slot(book, number, message.sender.into(), first + house)[0] == 0

@@ -1,4 +1,5 @@
-//! The claims of document 01 and of request 2026-10 over a season, held to what was seen of it from outside.
+//! The claims of document 01 and of requests 2026-03 and 2026-10 over a season, held to what was seen of it
+//! from outside.
 
 use super::season::moments::{Moment, Tally};
 use super::season::Season;
@@ -10,10 +11,18 @@ pub enum Fault {
     /// With each honest house returning at most d times: more copies on one entry than n + 2hn + 6hnd, or
     /// more of READY than hn + 2hnd.
     TooManyCopies,
-    /// An honest house's copy was not accepted, and is not what was accepted before.
+    /// An honest house's copy was not accepted, and had not been before.
     HonestCopyRefused,
     /// A kind was accepted twice from one house on one entry.
     RepeatAccepted,
+    /// Another answer than 7 to a plausible declaration that was accepted before from the same house, of the
+    /// same kind and on the same entry; or 7 to anything else.
+    Repeat,
+    /// Another answer than 13 to a plausible declaration where a different one was accepted before from the
+    /// same house, of the same kind and on the same entry; or 13 to anything else.
+    Conflict,
+    /// A copy that an honest house sent was answered 13.
+    HonestCalledLiar,
     /// The first plausible declaration of an honest house at a number was refused.
     PublicationRefused,
     /// A second publication at a number was accepted.
@@ -61,7 +70,7 @@ pub struct Finding {
 }
 
 /// What was seen of one entry.
-#[derive(Clone, Default)]
+#[derive(Clone, Debug, Default, PartialEq, Eq)]
 pub(super) struct Seen {
     /// The accepted publication.
     pub published: Option<Declaration>,

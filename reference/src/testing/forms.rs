@@ -1,7 +1,7 @@
 //! Declarations, sheets, messages and books to test with, in plain form or drawn at random.
 
 use super::random::Random;
-use crate::{Declaration, Gate, Message, SHEET};
+use crate::{Declaration, Gate, Kind, Message, SHEET};
 
 /// The season of document 01's whole message.
 pub const SEASON: u32 = 2026;
@@ -102,7 +102,7 @@ pub fn open_sheet() -> [u8; SHEET] {
 /// The bytes of a message with this kind byte, known or not.
 pub fn message(kind: u8, season: u32, sender: u8, number: u8, v: &Declaration) -> [u8; 36] {
     let bytes = Message {
-        kind: crate::Kind::Send,
+        kind: Kind::Send,
         season,
         sender,
         number,
@@ -141,6 +141,30 @@ pub fn fresh([n, s, own, f, d]: [u8; 5], season: u32, sheet: &[u8; SHEET]) -> Ve
 /// Where the slots begin in a book of so many houses: behind the header and the help counts.
 pub fn slots_from(n: u8) -> usize {
     31 + usize::from(n)
+}
+
+/// Which slot of its entry a message of this kind from this house is recorded in, where there are n houses.
+/// A SEND has one, whichever house it comes from.
+pub fn place_of(kind: Kind, n: u8, house: usize) -> usize {
+    match kind {
+        Kind::Send => 0,
+        Kind::Echo => 1 + house,
+        Kind::Ready => 1 + usize::from(n) + house,
+    }
+}
+
+/// Where a slot begins: of the entry of this number and sender the `place`-th.
+pub fn slot_at(book: &[u8], number: u8, sender: u8, place: usize) -> usize {
+    let [n, s] = [book[0], book[1]].map(usize::from);
+    let entry = usize::from(number) * n + usize::from(sender);
+    slots_from(book[0]) + 21 * (s + entry * (2 * n + 3) + place)
+}
+
+/// The slot that begins here holds this, or is empty.
+pub fn put(book: &mut [u8], at: usize, held: Option<&Declaration>) {
+    let slot = &mut book[at..at + 21];
+    slot[0] = u8::from(held.is_some());
+    slot[1..].copy_from_slice(held.unwrap_or(&[0; 20]));
 }
 
 /// A number below `bound`, or at times one that is not.

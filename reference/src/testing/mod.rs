@@ -10,6 +10,7 @@ pub mod pairs;
 pub mod random;
 pub mod readings;
 pub mod refusals;
+pub mod repeats;
 pub mod requests;
 pub mod returns;
 pub mod rows;

@@ -2,9 +2,9 @@
 //! once.
 
 use super::forms::{
-    fresh, honey, message, open_sheet, request_of, sheet, slots_from, OPEN, SEASON,
+    fresh, honey, message, open_sheet, put, request_of, sheet, slots_from, OPEN, SEASON,
 };
-use crate::{Gate, Library, Outcome};
+use crate::{Declaration, Gate, Library, Outcome};
 
 /// A receiving with errors to be. As it starts it is accepted.
 struct Receiving {
@@ -16,16 +16,28 @@ struct Receiving {
     sender: u8,
     number: u8,
     kilograms: u32,
+    /// The lot of what the book heard. The rest of it is as the message has it.
+    heard: u32,
 }
 
 /// A change that makes one error, with its answer and a name.
 type Error<T> = (u8, &'static str, fn(&mut T));
 
-/// The errors of receiving. Where two touch the same field, they make both errors in this order.
-const RECEIVING: [Error<Receiving>; 15] = [
+/// The errors of receiving, of each number the SEND's first. Where two touch the same field, they make both
+/// errors in this order.
+const RECEIVING: [Error<Receiving>; 18] = [
+    (7, "SEND again", |r| (r.kind, r.house) = (1, 2)),
     (7, "ECHO again", |r| (r.kind, r.house) = (2, 0)),
     (7, "READY again", |r| (r.kind, r.house) = (3, 3)),
-    (7, "SEND again", |r| (r.kind, r.house) = (1, 2)),
+    (13, "another SEND", |r| {
+        (r.kind, r.house, r.heard) = (1, 2, 78);
+    }),
+    (13, "another ECHO", |r| {
+        (r.kind, r.house, r.heard) = (2, 0, 78);
+    }),
+    (13, "another READY", |r| {
+        (r.kind, r.house, r.heard) = (3, 3, 78);
+    }),
     (6, "not the sender", |r| (r.kind, r.house) = (1, 3)),
     (5, "kilograms", |r| r.kilograms = 801),
     (4, "house", |r| r.house = 4),
@@ -40,35 +52,38 @@ const RECEIVING: [Error<Receiving>; 15] = [
     (1, "book", |r| r.damaged = true),
 ];
 
-/// The pairs of receiving that can occur, and those with 1.
-const RECEIVING_PAIRS: [(u8, u8); 15] = [
+/// The pairs of receiving that can occur, and those with 1. With 7 and 13 some cannot: 4, for there is no
+/// slot of a house or an entry that is not there; and 6, for the SEND that stands is its sender's, and from
+/// this house none was accepted. Nor can 7 with 13, for one declaration stands in a slot.
+const RECEIVING_PAIRS: [(u8, u8); 18] = [
     (1, 2),
     (1, 3),
     (1, 4),
     (1, 5),
     (1, 6),
     (1, 7),
+    (1, 13),
     (2, 4),
     (3, 4),
     (3, 5),
     (3, 6),
     (3, 7),
+    (3, 13),
     (4, 5),
     (4, 6),
     (5, 6),
     (5, 7),
+    (5, 13),
 ];
 
-/// A legal book of four houses that heard, on number 0 of sender 2, its SEND, house 0's ECHO and house
-/// 3's READY, that published at number 0, and that helped house 3 as often as it may and the others less.
-fn book() -> Vec<u8> {
+/// A legal book of four houses that heard this on number 0 of sender 2, by its SEND, house 0's ECHO and house
+/// 3's READY, that published it at number 0, and that helped house 3 as often as it may and the others less.
+fn book(heard: &Declaration) -> Vec<u8> {
     let mut book = fresh([4, 2, 1, 1, 3], SEASON, &open_sheet());
     book[31..slots_from(4)].copy_from_slice(&[0, 1, 2, 3]);
     let entry = 2 + 2 * 11;
     for slot in [0, entry, entry + 1, entry + 1 + 4 + 3] {
-        let slot = &mut book[slots_from(4) + 21 * slot..][..21];
-        slot[0] = 1;
-        slot[1..].copy_from_slice(&honey(77, 40, 800));
+        put(&mut book, slots_from(4) + 21 * slot, Some(heard));
     }
     book
 }
@@ -84,11 +99,12 @@ fn received(library: &mut impl Library, errors: &[&Error<Receiving>]) -> u8 {
         sender: 2,
         number: 0,
         kilograms: 800,
+        heard: 77,
     };
     for (_, _, error) in errors {
         error(&mut call);
     }
-    let mut lent = book();
+    let mut lent = book(&honey(call.heard, 40, call.kilograms));
     if call.damaged {
         lent[slots_from(4)] = 2;
     }
@@ -117,7 +133,7 @@ fn clean(outcome: &Outcome, same: bool) -> bool {
     outcome.answer == 0 || (same && !carries)
 }
 
-/// Receiving: 1 to 7 in order.
+/// Receiving: 1 to 6 in order, and last 7 or 13.
 pub fn receiving(library: &mut impl Library) {
     assert_eq!(received(library, &[]), 0, "receiving with no error");
     for error in &RECEIVING {
@@ -128,19 +144,18 @@ pub fn receiving(library: &mut impl Library) {
             error.1
         );
     }
+    let of = |number| RECEIVING.iter().filter(move |error| error.0 == number);
     for (first, second) in RECEIVING_PAIRS {
-        let of = |number| RECEIVING.iter().filter(move |error| error.0 == number);
         for (a, b) in of(first).flat_map(|a| of(second).map(move |b| (a, b))) {
             let answer = received(library, &[b, a]);
             assert_eq!(answer, first, "receiving: {} and {}", a.1, b.1);
         }
     }
-    let not_the_sender_again = [&RECEIVING[2], &RECEIVING[3]];
-    assert_eq!(
-        received(library, &not_the_sender_again),
-        6,
-        "another's SEND after the SEND"
-    );
+    let sends = of(7).take(1).chain(of(13).take(1));
+    for (heard, other) in sends.flat_map(|a| of(6).map(move |b| (a, b))) {
+        let answer = received(library, &[heard, other]);
+        assert_eq!(answer, 6, "receiving: {} and {}", other.1, heard.1);
+    }
 }
 
 /// A request with errors to be. As it starts it is accepted.
@@ -190,7 +205,7 @@ fn asked(library: &mut impl Library, errors: &[&Error<Asking>]) -> u8 {
     for (_, _, error) in errors {
         error(&mut call);
     }
-    let mut lent = book();
+    let mut lent = book(&honey(77, 40, 800));
     if call.damaged {
         lent[31] = 4;
     }
@@ -243,6 +258,7 @@ pub fn nobody_to_help(library: &mut impl Library) {
 /// Publishing: 1, 4, 5, 8.
 pub fn publishing(library: &mut impl Library) {
     let (good, bad) = (honey(77, 40, 800), honey(77, 40, 801));
+    let other = honey(78, 40, 800);
     let cases = [
         ("no error", false, 1, good, 0),
         ("1", true, 1, good, 1),
@@ -251,6 +267,7 @@ pub fn publishing(library: &mut impl Library) {
         ("4, the largest", false, u32::MAX, good, 4),
         ("5", false, 1, bad, 5),
         ("8", false, 0, good, 8),
+        ("8, of another declaration", false, 0, other, 8),
         ("1+4", true, 2, good, 1),
         ("1+5", true, 1, bad, 1),
         ("1+8", true, 0, good, 1),
@@ -259,7 +276,7 @@ pub fn publishing(library: &mut impl Library) {
         ("1+4+5", true, 2, bad, 1),
     ];
     for (name, damaged, number, declaration, answer) in cases {
-        let mut lent = book();
+        let mut lent = book(&good);
         if damaged {
             lent[2] = 4;
         }

@@ -306,8 +306,9 @@ fn other_f_differs(
     differs
 }
 
-/// "This kind was already accepted from this house on this entry, same declaration or not"; and "already
-/// published at this number".
+/// The same again, and another declaration: "this kind was already accepted from this house on this entry",
+/// with the same declaration or with a different one; and "already published at this number", whatever is
+/// published.
 fn check_again(
     library: &mut impl Library,
     random: &mut Random,
@@ -316,18 +317,20 @@ fn check_again(
     pool: &[Declaration],
 ) {
     let other = random.pick(pool);
-    let (mut again, refused) = match call {
-        Call::Publish(number, _) => (Call::Publish(*number, other), 8),
+    let (again, mut answers) = match call {
+        Call::Publish(number, _) => (Call::Publish(*number, other), [8, 8]),
         Call::Receive(house, bytes) if bytes.len() == 36 => {
+            let same = bytes[16..] == other;
             let bytes = [&bytes[..16], &other[..]].concat();
-            (Call::Receive(*house, bytes), 7)
+            let answers = [7, if same { 7 } else { 13 }];
+            (Call::Receive(*house, bytes), answers)
         }
         Call::Receive(..) => return,
     };
     if library.judge(&after[7..29], &other) != 0 {
-        again = call.clone();
+        answers[1] = 5;
     }
-    for call in [call, &again] {
+    for (call, refused) in [call, &again].into_iter().zip(answers) {
         let mut book = after.to_vec();
         let outcome = call.make(library, &mut book);
         assert_eq!(outcome.answer, refused, "{call:?} again");
@@ -366,7 +369,8 @@ pub fn calls(library: &mut impl Library, seed: u64, books: usize) {
             helped += usize::from(outcome.helps);
         }
     }
-    let seen = answers[..9].iter().all(|&count| count > 0) && answers[14] > 0;
+    let refused = [13, 14].iter().all(|&answer| answers[answer] > 0);
+    let seen = answers[..9].iter().all(|&count| count > 0) && refused;
     let came = [given, delivered, helped, differ];
     assert!(
         seen && came.iter().all(|&count| count > 0),

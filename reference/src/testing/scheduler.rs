@@ -1,6 +1,7 @@
 //! Whole seasons under a random scheduler, and directed ones.
 
 pub mod attacks;
+pub mod carrier;
 pub mod directed;
 pub mod twins;
 mod weather;
@@ -11,6 +12,7 @@ use super::season::moments::Tally;
 use super::season::{Rules, Season};
 use super::wrong::{plausible, Wrong};
 use crate::{Declaration, Library};
+use carrier::Carrier;
 use weather::{pick_some, Aim, Weather};
 
 /// In which order copies are consumed.
@@ -97,6 +99,7 @@ struct Run<'r, 'l, L> {
     lies: usize,
     order: Order,
     weather: Weather,
+    carrier: Carrier,
 }
 
 impl<L: Library> Run<'_, '_, L> {
@@ -140,10 +143,14 @@ impl<L: Library> Run<'_, '_, L> {
             return;
         }
         let aim = self.random.pick(&[Aim::Given, Aim::Given, Aim::Help]);
-        self.weather
+        let answer = self
+            .weather
             .step(self.random, &mut self.season, (lie.to, aim), |season| {
                 season.hand_in(lie.to, lie.under, &lie.bytes)
             });
+        if answer == 0 {
+            self.wrong.was_accepted(lie);
+        }
     }
 
     /// The next copy is consumed, or never comes.
@@ -186,13 +193,6 @@ impl<L: Library> Run<'_, '_, L> {
             self.weather.helped(&mut self.season, asked.from);
         }
     }
-
-    fn bring_again(&mut self) {
-        if self.season.consumed() > 0 {
-            let place = self.random.below(self.season.consumed());
-            self.season.bring_again(place);
-        }
-    }
 }
 
 /// Runs one season to its end: every copy and request is consumed, but for some of houses that are then
@@ -208,13 +208,7 @@ fn run_in<'l, L: Library>(
     rules: Rules,
     weather: Weather,
 ) -> Season<'l, L> {
-    let pool = plausible(random);
-    let plan = Plan {
-        to_publish: publications(random, &rules, &pool),
-        rules,
-        weather,
-        pool,
-    };
+    let plan = Plan::random(random, rules, weather);
     run_plan(library, random, plan)
 }
 
@@ -226,6 +220,21 @@ struct Plan {
     pool: [Declaration; 4],
     /// The last comes first.
     to_publish: Vec<Publication>,
+    carrier: Carrier,
+}
+
+impl Plan {
+    /// What honest houses publish and wrong ones tell is drawn, and how nervous the carrier is.
+    fn random(random: &mut Random, rules: Rules, weather: Weather) -> Self {
+        let pool = plausible(random);
+        Plan {
+            to_publish: publications(random, &rules, &pool),
+            rules,
+            weather,
+            pool,
+            carrier: Carrier::random(random),
+        }
+    }
 }
 
 fn run_plan<'l, L: Library>(library: &'l mut L, random: &mut Random, plan: Plan) -> Season<'l, L> {
@@ -234,6 +243,7 @@ fn run_plan<'l, L: Library>(library: &'l mut L, random: &mut Random, plan: Plan)
         weather,
         pool,
         to_publish,
+        carrier,
     } = plan;
     let favoured = weather.favoured(random);
     let wrong = Wrong::new(random, &rules, &pool, &favoured);
@@ -244,6 +254,7 @@ fn run_plan<'l, L: Library>(library: &'l mut L, random: &mut Random, plan: Plan)
         wrong,
         order: Order::random(random, rules.n),
         weather,
+        carrier,
         season: Season::open(library, rules),
         random,
     };
@@ -255,10 +266,13 @@ fn run_plan<'l, L: Library>(library: &'l mut L, random: &mut Random, plan: Plan)
             0 | 1 if run.random.chance(haste, 16) => run.publish(),
             2..=7 if run.lies > 0 => run.hand_in(),
             8 => run.consume_request(),
-            9 if run.random.chance(1, 2) => run.bring_again(),
             _ => run.consume(),
         }
+        run.carrier.pass(&mut run.season);
     }
+    // Of what is brought again nothing comes, or it is consumed too.
+    run.carrier.end(&mut run.season);
+    run.season.drain();
     run.season
 }
 

@@ -16,6 +16,36 @@ pub(super) use house::House;
 pub use rules::Rules;
 pub use sending::{Asked, Sent, Why};
 
+/// A copy that was consumed at a house that was up.
+struct Consumed {
+    copy: usize,
+    /// At which step, and how often the house had returned by then.
+    at: usize,
+    returns: usize,
+    /// How often it was brought again.
+    again: usize,
+}
+
+/// What a season leaves: every book, every copy that was sent, and what was seen of every entry.
+pub struct Left {
+    books: Vec<Vec<u8>>,
+    copies: Vec<Sent>,
+    seen: Vec<Seen>,
+}
+
+impl Left {
+    /// What is not as another season left it.
+    pub fn unlike(&self, other: &Left) -> Vec<&'static str> {
+        let parts = [
+            (self.books == other.books, "a byte of a book"),
+            (self.copies == other.copies, "a copy that was sent"),
+            (self.seen == other.seen, "what was seen of an entry"),
+        ];
+        let unlike = parts.into_iter().filter(|(same, _)| !same);
+        unlike.map(|(_, part)| part).collect()
+    }
+}
+
 /// A season under way.
 pub struct Season<'l, L> {
     pub(super) library: &'l mut L,
@@ -28,8 +58,7 @@ pub struct Season<'l, L> {
     requests: VecDeque<Asked>,
     /// Copies and requests that are never brought, by sender and receiver.
     kept_back: Vec<(usize, usize)>,
-    /// Copies that were consumed at a house that was up.
-    consumed: Vec<usize>,
+    consumed: Vec<Consumed>,
     /// The power fails at the next sending, and only these leave.
     cut: Option<Vec<bool>>,
     steps: usize,
@@ -206,7 +235,12 @@ impl<'l, L: Library> Season<'l, L> {
             }
             return None;
         }
-        self.consumed.push(which);
+        self.consumed.push(Consumed {
+            copy: which,
+            at: self.steps,
+            returns: self.returns(copy.to),
+            again: 0,
+        });
         let answer = self.honest_copy(&copy);
         if self.is_overdue(copy.entry) {
             self.find(Fault::NotDelivered, format!("entry {} in time", copy.entry));
@@ -214,24 +248,36 @@ impl<'l, L: Library> Season<'l, L> {
         Some(answer)
     }
 
-    /// Brings a consumed copy again: "repeats get answer 7". At a house that is down it is lost.
-    pub fn bring_again(&mut self, place: usize) {
-        let copy = self.copies[self.consumed[place]].clone();
+    /// A nervous carrier brings a consumed copy again: "answer 7 is kept for the same declaration again".
+    /// At a house that is down it is lost, and there is no answer.
+    pub fn bring_again(&mut self, place: usize) -> Option<u8> {
+        let copy = self.copies[self.consumed[place].copy].clone();
         if self.is_down(copy.to) {
-            return;
+            return None;
         }
-        self.honest_copy(&copy);
-        self.tally.add(Moment::BroughtAgain);
+        let (now, returns) = (self.steps, self.returns(copy.to));
+        let brought = &mut self.consumed[place];
+        brought.again += 1;
+        let moments = [
+            (true, Moment::BroughtAgain),
+            (brought.again > 2, Moment::BroughtOften),
+            (now >= brought.at + 100, Moment::BroughtLate),
+            (returns > brought.returns, Moment::BroughtAfterReturn),
+        ];
+        let answer = self.honest_copy(&copy);
+        for (_, moment) in moments.iter().filter(|(is, _)| *is && answer == 7) {
+            self.tally.add(*moment);
+        }
+        Some(answer)
     }
 
-    /// A copy that an honest house sent comes to a house that is up. It is answered 0; or 7, and then it is
-    /// the very declaration that was accepted.
+    /// A copy that an honest house sent comes to a house that is up. Where it is first heard it is answered
+    /// 0; and where it was heard before, as what is brought again.
     fn honest_copy(&mut self, copy: &Sent) -> u8 {
-        let (kind, declaration) = (usize::from(copy.bytes[3]) - 1, &copy.bytes[16..]);
+        let message = Message::from_bytes(&copy.bytes).expect("what honest houses send");
+        let is_first = self.accepted(copy.to, copy.from as u32, &message).is_none();
         let answer = self.receive(copy.to, copy.from as u32, &copy.bytes);
-        let accepted = self.houses[copy.to].accepted[copy.entry][kind][copy.from];
-        let same = accepted.is_some_and(|v| v == declaration);
-        let as_said = answer == 0 || (answer == 7 && same);
+        let as_said = answer == 0 || (answer == 7 && !is_first);
         self.hold(as_said, Fault::HonestCopyRefused, || {
             let (from, to) = (copy.from, copy.to);
             format!("answer {answer} at house {to} to house {from}")
@@ -379,7 +425,9 @@ impl<'l, L: Library> Season<'l, L> {
         if outcome.answer != 0 {
             self.refused(house, &before, &outcome);
         }
-        match Form::from_bytes(bytes) {
+        let form = Form::from_bytes(bytes);
+        self.compared(house, from, form.and_then(Form::message), outcome.answer);
+        match form {
             Some(Form::Message(message)) if outcome.answer == 0 => {
                 self.heard(house, from, &message, &outcome);
             }
@@ -389,6 +437,37 @@ impl<'l, L: Library> Season<'l, L> {
             }),
         }
         outcome.answer
+    }
+
+    /// What came is compared with what was accepted before from the same house, of the same kind and on the
+    /// same entry: where it is plausible, the same is answered 7 and a different one 13, and nothing else
+    /// is. Who is answered 13 is wrong.
+    fn compared(&mut self, house: usize, from: u32, message: Option<Message>, answer: u8) {
+        let place = || format!("answer {answer} at house {house} to house {from}");
+        let plausible = |v: &Declaration| crate::judge(&self.rules.sheet, v) == 0;
+        let message = message.filter(|message| plausible(&message.declaration));
+        let stands = message.and_then(|message| self.accepted(house, from, &message));
+        let again = message.zip(stands);
+        let same = again.map(|(message, stands)| message.declaration == stands);
+        let wrong = self.rules.wrong.get(from as usize) == Some(&true);
+        self.hold((answer == 7) == (same == Some(true)), Fault::Repeat, place);
+        self.hold(
+            (answer == 13) == (same == Some(false)),
+            Fault::Conflict,
+            place,
+        );
+        self.hold(answer != 13 || wrong, Fault::HonestCalledLiar, place);
+        match answer {
+            7 if wrong => self.tally.add(Moment::WrongRepeat),
+            13 if wrong => self.tally.add(Moment::Conflict),
+            _ => (),
+        }
+    }
+
+    /// What this house accepted from that one, of the message's kind and on its entry.
+    fn accepted(&self, house: usize, from: u32, message: &Message) -> Option<Declaration> {
+        let entry = self.entry_of(message).filter(|_| self.is_in_book(from))?;
+        self.houses[house].accepted[entry][message.kind as usize - 1][from as usize]
     }
 
     /// A message was accepted: what came of it is what the steps say, and is carried out.
@@ -476,6 +555,16 @@ impl<'l, L: Library> Season<'l, L> {
         let first = delivered.is_none();
         delivered.get_or_insert(declaration);
         self.hold(first, Fault::DeliveredTwice, place);
+    }
+
+    /// What it leaves, as it stands.
+    pub fn left(&self) -> Left {
+        let books = self.houses.iter().map(|house| house.book.clone());
+        Left {
+            books: books.collect(),
+            copies: self.copies.clone(),
+            seen: self.seen.clone(),
+        }
     }
 
     /// For how many steps this house was down, and how many steps there were.

@@ -1,10 +1,12 @@
 //! What the next message makes of legal books that no run need ever reach: for every n and f, each kind,
 //! every number of vouchers and every state of the two marks.
 
-use super::forms::{fresh, message, open_sheet, redraw_helped, slots_from, twins, SEASON};
+use super::forms::{
+    fresh, message, open_sheet, place_of, put, redraw_helped, slot_at, twins, SEASON,
+};
 use super::random::Random;
 use super::rows::all_counts;
-use crate::{Counts, Declaration, Kind, Library, Outcome};
+use crate::{Counts, Kind, Library, Outcome};
 
 /// What a slot holds, seen from the message that comes: nothing, its declaration, or another.
 #[derive(Clone, Copy, Debug, PartialEq)]
@@ -39,7 +41,10 @@ struct Case {
     sender: usize,
     kind: Kind,
     house: usize,
-    /// How many vouch for the message's declaration before it comes, and what the others vouch for.
+    /// What stands in the slot in which it would be recorded.
+    stands: Holds,
+    /// How many other houses vouch for the message's declaration before it comes, and what the rest vouches
+    /// for.
     vouchers: usize,
     others: Holds,
     beside: Beside,
@@ -56,15 +61,11 @@ struct Due {
 impl Case {
     /// The slot of the entry in which a message of the kind from this house is recorded.
     fn slot(&self, house: usize) -> usize {
-        match self.kind {
-            Kind::Send => 0,
-            Kind::Echo => 1 + house,
-            Kind::Ready => 1 + usize::from(self.n) + house,
-        }
+        place_of(self.kind, self.n, house)
     }
 
     /// What each slot of the entry holds: SEND, the ECHOes, the READYs, READY sent, delivered. Any houses
-    /// vouch, that of the message last of all.
+    /// vouch.
     fn slots(&self, random: &mut Random) -> Vec<Holds> {
         let n = usize::from(self.n);
         let mut slots = vec![self.beside.kinds; 2 * n + 1];
@@ -77,19 +78,20 @@ impl Case {
                 false => self.others,
             };
         }
-        slots[self.slot(self.house)] = match (self.kind, self.vouchers < n) {
-            (Kind::Send, _) => self.others,
-            (_, true) => Holds::Nothing,
-            (_, false) => Holds::Same,
-        };
+        slots[self.slot(self.house)] = self.stands;
         slots
     }
 
-    /// What has to come of it where it comes to these slots.
-    fn due(&self, slots: &[Holds], counts: &Counts) -> Due {
-        if slots[self.slot(self.house)] != Holds::Nothing {
+    /// What has to come of it.
+    fn due(&self, counts: &Counts) -> Due {
+        let answer = match self.stands {
+            Holds::Nothing => 0,
+            Holds::Same => 7,
+            Holds::Other => 13,
+        };
+        if answer != 0 {
             return Due {
-                answer: 7,
+                answer,
                 ..Due::default()
             };
         }
@@ -101,7 +103,7 @@ impl Case {
             Kind::Ready => (unsent && vouchers >= counts.amplify).then_some(Kind::Ready),
         };
         Due {
-            answer: 0,
+            answer,
             gives,
             delivers: self.kind == Kind::Ready && undelivered && vouchers >= counts.deliver,
         }
@@ -111,24 +113,20 @@ impl Case {
     fn check(&self, library: &mut impl Library, random: &mut Random, counts: &Counts) {
         let [v, other] = random.pick(&twins());
         let slots = self.slots(random);
-        let due = self.due(&slots, counts);
-        let entry = slots_from(self.n) + 21 * (1 + self.sender * slots.len());
-        let put = |book: &mut [u8], slot: usize, holds: Holds| {
-            let held: Option<&Declaration> = match holds {
+        let due = self.due(counts);
+        let hold = |book: &mut [u8], slot: usize, holds: Holds| {
+            let held = match holds {
                 Holds::Nothing => None,
                 Holds::Same => Some(&v),
                 Holds::Other => Some(&other),
             };
-            if let Some(held) = held {
-                let slot = &mut book[entry + 21 * slot..][..21];
-                slot[0] = 1;
-                slot[1..].copy_from_slice(held);
-            }
+            let at = slot_at(book, 0, self.sender as u8, slot);
+            put(book, at, held);
         };
         let mut book = fresh([self.n, 1, self.n - 1, self.f, 0], SEASON, &open_sheet());
         redraw_helped(random, &mut book);
         for (slot, holds) in slots.iter().enumerate() {
-            put(&mut book, slot, *holds);
+            hold(&mut book, slot, *holds);
         }
         let mut expected = book.clone();
         let marks = slots.len() - 2;
@@ -138,7 +136,7 @@ impl Case {
             (due.delivers, marks + 1),
         ];
         for (_, slot) in made.into_iter().filter(|(is_made, _)| *is_made) {
-            put(&mut expected, slot, Holds::Same);
+            hold(&mut expected, slot, Holds::Same);
         }
 
         let bytes = |kind: Kind| message(kind as u8, SEASON, self.sender as u8, 0, &v);
@@ -161,15 +159,31 @@ impl std::fmt::Display for Case {
     }
 }
 
-/// Every n and f: SENDs that come to an empty slot and to a full one; and ECHOes and READYs that 0 to n
-/// houses vouch for before, where the others vouch for nothing and for another declaration. Each with every
-/// state of the marks, "both may come of one call" among them, and with the other kinds empty and full.
+/// The messages that come where there are so many houses: kind, what stands in its slot, how many other
+/// houses vouch for it, and what the rest vouches for.
+fn comings(houses: usize) -> Vec<(Kind, Holds, usize, Holds)> {
+    let none = Holds::Nothing;
+    let mut all = ALL.map(|heard| (Kind::Send, heard, 0, none)).to_vec();
+    for kind in [Kind::Echo, Kind::Ready] {
+        for others in [none, Holds::Other] {
+            all.extend((0..houses).map(|vouchers| (kind, none, vouchers, others)));
+        }
+        all.extend([Holds::Same, Holds::Other].map(|again| (kind, again, houses - 1, none)));
+    }
+    all
+}
+
+/// Every n and f: SENDs, ECHOes and READYs that come to an empty slot, to one that holds the same and to one
+/// that holds another declaration. To an empty slot come ECHOes and READYs that 0 to n-1 other houses vouch
+/// for, where the rest vouches for nothing and for another declaration; to a full one those that all others
+/// vouch for. Each with every state of the marks, "both may come of one call" among them, and with the other
+/// kinds empty and full.
 pub fn every_count(library: &mut impl Library, seed: u64) {
     let mut random = Random::new(seed);
     for (n, f, counts) in all_counts() {
         let houses = usize::from(n);
         for beside in all_beside() {
-            let mut check = |kind: Kind, vouchers: usize, others: Holds| {
+            for (kind, stands, vouchers, others) in comings(houses) {
                 let house = random.below(houses);
                 let sender = match kind {
                     Kind::Send => house,
@@ -181,20 +195,12 @@ pub fn every_count(library: &mut impl Library, seed: u64) {
                     sender,
                     kind,
                     house,
+                    stands,
                     vouchers,
                     others,
                     beside,
                 };
                 case.check(library, &mut random, &counts);
-            };
-            for heard in ALL {
-                check(Kind::Send, 0, heard);
-            }
-            for vouchers in 0..=houses {
-                for others in [Holds::Nothing, Holds::Other] {
-                    check(Kind::Echo, vouchers, others);
-                    check(Kind::Ready, vouchers, others);
-                }
             }
         }
     }

@@ -1,11 +1,11 @@
 //! Wrong houses that work together: they see every copy, plan what each honest house is to believe,
-//! equivocate, vouch for it, replay, lie about the kind, stay silent towards some, ask for help again and
-//! again, and send noise.
+//! equivocate, vouch for it, go back on it, replay, lie about the kind, stay silent towards some, ask for
+//! help again and again, and send noise.
 
 use super::forms::{honey, message, random_declaration, twins, SEASON};
 use super::random::Random;
 use super::season::{Rules, Sent};
-use crate::{request, Declaration};
+use crate::{request, Declaration, MESSAGE};
 
 /// Plausible declarations of a season, near to each other: one bit apart, the sign of a zero apart.
 pub fn plausible(random: &mut Random) -> [Declaration; 4] {
@@ -16,6 +16,7 @@ pub fn plausible(random: &mut Random) -> [Declaration; 4] {
 }
 
 /// Bytes for an honest house, and the number that they come under.
+#[derive(Clone)]
 pub struct Lie {
     /// The honest house.
     pub to: usize,
@@ -33,6 +34,8 @@ pub struct Wrong {
     rules: Rules,
     honest: Vec<usize>,
     wrong: Vec<usize>,
+    /// What they tell.
+    pool: Vec<Declaration>,
     /// For each entry and house, what it is to believe.
     plan: Vec<Vec<Declaration>>,
     /// For each wrong and honest house, which kinds are never said.
@@ -41,6 +44,10 @@ pub struct Wrong {
     resolve: usize,
     /// How many lies in sixteen are requests.
     asks: usize,
+    /// How many more there are, in sixteen, that go back on what was accepted.
+    turns: usize,
+    /// The messages that were accepted.
+    accepted: Vec<Lie>,
 }
 
 impl Wrong {
@@ -76,6 +83,7 @@ impl Wrong {
             honest,
             wrong,
             rules: rules.clone(),
+            pool: pool.to_vec(),
             plan,
             silent: silent.chunks(houses).map(<[_]>::to_vec).collect(),
             resolve: if favours {
@@ -84,6 +92,8 @@ impl Wrong {
                 random.pick(&[4, 12, 15])
             },
             asks: random.pick(&[0, 1, 1, 4, 14]),
+            turns: random.pick(&[0, 2, 4, 8]),
+            accepted: vec![],
         }
     }
 
@@ -95,9 +105,17 @@ impl Wrong {
             usize::from(self.rules.d),
         ];
         let some = self.rules.entries() * (1 + random.below(6 * n));
+        let some = some + some * self.turns / 16;
         match self.asks {
             14 => some + (8 * h * n * d).min(MOST_REQUESTS),
             _ => some,
+        }
+    }
+
+    /// This message of theirs was accepted.
+    pub fn was_accepted(&mut self, lie: Lie) {
+        if lie.bytes.len() == MESSAGE {
+            self.accepted.push(lie);
         }
     }
 
@@ -106,6 +124,9 @@ impl Wrong {
         let to = random.pick(&self.honest);
         if self.wrong.is_empty() {
             return Some(self.stranger(random, to, copies));
+        }
+        if random.chance(self.turns, 16 + self.turns) && !self.accepted.is_empty() {
+            return Some(self.turned(random));
         }
         let from = random.pick(&self.wrong);
         if random.chance(self.asks, 16) {
@@ -158,6 +179,24 @@ impl Wrong {
             under: from as u32,
             bytes: message(kind, SEASON, sender as u8, number as u8, &belief).to_vec(),
         })
+    }
+
+    /// To a house that accepted something the same is said again, or a different thing in its place:
+    /// another that is told, one bit of it apart, or the sign of a reading. At times another wrong house
+    /// says it.
+    fn turned(&self, random: &mut Random) -> Lie {
+        let mut lie = random.pick(&self.accepted);
+        let said = &mut lie.bytes[16..];
+        match random.below(8) {
+            0 => (),
+            1 => said[random.below(20)] ^= 1 << random.below(8),
+            2 => said[12 + 4 * random.below(2)] ^= 0x80,
+            _ => said.copy_from_slice(&random.pick(&self.pool)),
+        }
+        if random.chance(1, 8) {
+            lie.under = random.pick(&self.wrong) as u32;
+        }
+        lie
     }
 
     /// A request, as often as not well-formed and of this season; at times under a number that no house has.

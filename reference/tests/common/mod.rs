@@ -1,8 +1,15 @@
-//! The reference with a slip: each call is the reference's own, unless the slip has another.
+//! The reference with a slip: each call is the reference's own, unless the slip has another. And what it
+//! takes to see that a check sees it.
 
+use reference::testing::both::Both;
+use reference::testing::claims::Fault;
+use reference::testing::random::Random;
+use reference::testing::scheduler;
+use reference::testing::season::Rules;
 use reference::{
-    Declaration, Library, Outcome, ReadAnswer, Returned, SentAnswer, Waiting, Written,
+    Declaration, Library, Outcome, ReadAnswer, Reference, Returned, SentAnswer, Waiting, Written,
 };
+use std::panic::{catch_unwind, AssertUnwindSafe};
 
 /// The calls that a slip may change. None of them is the call of a library under test.
 pub trait Slips {
@@ -95,4 +102,51 @@ impl<S: Slips> Library for Slipped<S> {
     fn read(&mut self, message: &[u8]) -> ReadAnswer {
         reference::read(message)
     }
+}
+
+/// Whether seasons with at most t wrong houses show this fault.
+pub fn shows<S: Slips>(slip: impl Fn() -> S, fault: Fault) -> bool {
+    let sizes: [(u8, u8, u8, &[usize]); 6] = [
+        (1, 0, 1, &[]),
+        (3, 1, 1, &[]),
+        (4, 0, 1, &[2]),
+        (5, 2, 2, &[]),
+        (6, 1, 1, &[5]),
+        (7, 1, 2, &[0]),
+    ];
+    (0..1_200).any(|seed| {
+        let (n, f, d, wrong) = sizes[seed as usize % sizes.len()];
+        let mut random = Random::new(seed);
+        let mut library = Slipped(slip());
+        let rules = Rules::new(n, 1, wrong).with(f, d);
+        let mut season = scheduler::run(&mut library, &mut random, rules);
+        let findings = season.findings();
+        findings.iter().any(|finding| finding.fault == fault)
+    })
+}
+
+/// The sentence that a check panics with, where it does.
+pub fn said(check: impl FnOnce()) -> Option<String> {
+    let panic = catch_unwind(AssertUnwindSafe(check)).err()?;
+    let whole = panic.downcast_ref::<String>().cloned();
+    whole.or_else(|| panic.downcast_ref::<&str>().map(|part| part.to_string()))
+}
+
+/// The check sees this slip, side by side with a library that does not slip: what the answer has to be need
+/// not be known.
+pub fn differs<S: Slips>(
+    name: &str,
+    slip: S,
+    check: impl FnOnce(&mut Both<Reference, Slipped<S>>),
+) {
+    let mut both = Both {
+        first: Reference,
+        second: Slipped(slip),
+    };
+    let said = said(|| check(&mut both)).unwrap_or_else(|| panic!("{name} is not seen"));
+    let differs = ["the two libraries differ", "byte of the book that differs"];
+    assert!(
+        differs.iter().any(|what| said.contains(what)),
+        "{name}: {said}"
+    );
 }

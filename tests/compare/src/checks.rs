@@ -4,11 +4,12 @@ use crate::linked::Linked;
 use crate::{drawn, edges, entries};
 use reference::testing::both::Both;
 use reference::testing::scheduler::twins::{self, Count};
-use reference::testing::scheduler::{attacks, directed};
+use reference::testing::scheduler::{attacks, carrier, directed};
 use reference::testing::season::moments::{Moment, Tally};
 use reference::testing::season::Rules;
 use reference::testing::{
-    books, openings, pairs, readings, refusals, requests, returns, rows, scheduler, trips, vouchers,
+    books, openings, pairs, readings, refusals, repeats, requests, returns, rows, scheduler, trips,
+    vouchers,
 };
 use reference::Reference;
 use std::ops::RangeInclusive;
@@ -20,7 +21,7 @@ pub type Pair = Both<Linked, Reference>;
 pub type Check = (&'static str, fn(&mut Pair, u64, usize));
 
 /// Checks that are the same at any size, the quickest first; the seed is for noise.
-pub const COUNTED: [Check; 24] = [
+pub const COUNTED: [Check; 26] = [
     ("the rows and run cases of document 01", |pair, _, _| {
         rows::card(pair);
         rows::judged(pair);
@@ -42,6 +43,12 @@ pub const COUNTED: [Check; 24] = [
     ("two wrong houses of four, step by step", |pair, _, _| {
         directed::one_wrong_too_many(pair);
     }),
+    (
+        "a liar and a nervous carrier, step by step",
+        |pair, _, _| {
+            directed::liar_and_carrier(pair);
+        },
+    ),
     ("two seasons with a premise not met", |pair, _, _| {
         twins::premises::each(pair);
     }),
@@ -93,6 +100,10 @@ pub const COUNTED: [Check; 24] = [
     ("declarations counted apart", |pair, _, _| {
         readings::counted_apart(pair);
     }),
+    ("each byte of what stands and what comes", |pair, _, _| {
+        repeats::every_byte(pair);
+        repeats::every_pair(pair);
+    }),
     ("the counts for every n and f", |pair, seed, _| {
         rows::another_f(pair);
         vouchers::every_count(pair, seed);
@@ -111,10 +122,16 @@ pub const COUNTED: [Check; 24] = [
 ];
 
 /// Checks that draw their cases: more with a larger size.
-pub const DRAWN: [Check; 16] = [
+pub const DRAWN: [Check; 18] = [
     ("calls on any legal book", |pair, seed, scale| {
         refusals::calls(pair, seed, 200 * scale);
     }),
+    (
+        "repeats and conflicts on any legal book",
+        |pair, seed, scale| {
+            repeats::any_book(pair, seed, 100 * scale);
+        },
+    ),
     ("requests until helped enough", |pair, seed, scale| {
         for round in 0..scale.div_ceil(4) as u64 {
             requests::until_enough(pair, seed + round);
@@ -150,10 +167,26 @@ pub const DRAWN: [Check; 16] = [
                 tally.add_all(&scheduler::seasons(pair, seed, n, s, seasons as u64));
             }
         }
-        let missing = tally.missing();
-        let enough = scale < ENOUGH_FOR_ALL || missing.is_empty();
-        assert!(enough, "it never came about: {missing:?}");
+        let (missing, rare) = (tally.missing(), tally.rare(&AGAIN));
+        let enough = scale < ENOUGH_FOR_ALL || (missing.is_empty() && rare.is_empty());
+        assert!(
+            enough,
+            "it never came about: {missing:?}, or seldom: {rare:?}"
+        );
     }),
+    (
+        "seasons with a nervous carrier and with none",
+        |pair, seed, scale| {
+            let mut tally = Tally::default();
+            for n in 1..=7 {
+                let seasons = scale as u64;
+                tally.add_all(&carrier::changes_nothing(pair, seed, n, 1 + n % 2, seasons));
+            }
+            let rare = tally.rare(&BROUGHT_AGAIN);
+            let enough = scale < ENOUGH_FOR_ALL || rare.is_empty();
+            assert!(enough, "it seldom came about: {rare:?}");
+        },
+    ),
     (
         "two seasons with the same publications",
         |pair, seed, scale| {
@@ -195,6 +228,24 @@ pub const DRAWN: [Check; 16] = [
 /// At this size each moment of a season that is counted comes about.
 const ENOUGH_FOR_ALL: usize = 8;
 
+/// And copies are brought again so often at least, whatever the seed, and wrong houses say the same again and
+/// another thing.
+const AGAIN: [(Moment, usize); 6] = [
+    (Moment::BroughtAgain, 10_000),
+    (Moment::BroughtOften, 4_000),
+    (Moment::BroughtLate, 4_000),
+    (Moment::BroughtAfterReturn, 800),
+    (Moment::WrongRepeat, 800),
+    (Moment::Conflict, 600),
+];
+
+/// And where seasons are run with a nervous carrier and with none.
+const BROUGHT_AGAIN: [(Moment, usize); 3] = [
+    (Moment::BroughtAgain, 1_500),
+    (Moment::BroughtLate, 500),
+    (Moment::Conflict, 60),
+];
+
 /// And what is counted of two seasons comes about in so many pairs or more, whatever the seed.
 const ENOUGH_TWINS: usize = 3;
 
@@ -209,5 +260,7 @@ fn hostile(pair: &mut Pair, seed: u64, houses: RangeInclusive<u8>) {
         let seen = |moment| tally.of(moment) > 0;
         assert!(n < 2 || seen(Moment::TooManyWrong), "n = {n}: {tally}");
         assert!(n < 4 || seen(Moment::WrongAndCrash), "n = {n}: {tally}");
+        let again = [Moment::BroughtAgain, Moment::WrongRepeat, Moment::Conflict];
+        assert!(n < 6 || again.into_iter().all(seen), "n = {n}: {tally}");
     }
 }

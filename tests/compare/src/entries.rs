@@ -1,13 +1,16 @@
 //! Every state of one entry that counts for a message: reachable or not, with all that may come of it.
 
 use reference::testing::forms::{
-    declaration, fresh, message, open_sheet, redraw_helped, slots_from, SEASON,
+    declaration, fresh, message, open_sheet, put, redraw_helped, slots_from, SEASON,
 };
 use reference::testing::random::Random;
 use reference::{Declaration, Library};
 
 /// The entry's number and sender are the last ones, in a book with two numbers.
 const NUMBERS: u8 = 2;
+
+/// So many repeats and so many conflicts at least are among them.
+const ENOUGH_AGAIN: usize = 10_000;
 
 /// Three declarations: two plausible ones that differ in the sign of a zero, and one that no run records.
 fn three() -> [Declaration; 3] {
@@ -20,7 +23,7 @@ fn three() -> [Declaration; 3] {
 /// slots, d and the help counts are drawn.
 pub fn states(library: &mut impl Library, seed: u64, most: u8) {
     let mut random = Random::new(seed);
-    let (mut given, mut delivered) = (0, 0);
+    let (mut given, mut delivered, mut again) = (0, 0, [0; 2]);
     for (n, f) in (1..=most).flat_map(|n| (0..n.div_ceil(2)).map(move |f| (n, f))) {
         let houses = usize::from(n);
         let first = usize::from(NUMBERS) + (2 * houses - 1) * (2 * houses + 3);
@@ -40,6 +43,8 @@ pub fn states(library: &mut impl Library, seed: u64, most: u8) {
                         let outcome = library.receive(&mut book.clone(), u32::from(house), &bytes);
                         given += usize::from(outcome.message.is_some());
                         delivered += usize::from(outcome.delivery.is_some());
+                        again[0] += usize::from(outcome.answer == 7);
+                        again[1] += usize::from(outcome.answer == 13);
                     }
                 }
                 library.waiting(&book);
@@ -49,6 +54,8 @@ pub fn states(library: &mut impl Library, seed: u64, most: u8) {
         }
     }
     assert!(given > 0 && delivered > 0, "nothing came of any state");
+    let enough = again.iter().all(|count| *count >= ENOUGH_AGAIN);
+    assert!(enough, "repeats and conflicts: {again:?}");
 }
 
 /// A legal book whose counted slots are as this state says, and whose entry is else drawn.
@@ -63,20 +70,15 @@ fn book(
     redraw_helped(random, &mut book);
     let of = three();
     let other = 1 + random.below(2);
-    let mut put = |slot: usize, v: Option<&Declaration>| {
-        let slot = &mut book[slots_from(n) + 21 * slot..][..21];
-        slot.fill(0);
-        if let Some(v) = v {
-            slot[0] = 1;
-            slot[1..].copy_from_slice(v);
-        }
+    let mut hold = |slot: usize, v: Option<&Declaration>| {
+        put(&mut book, slots_from(n) + 21 * slot, v);
     };
     for slot in first..first + 2 * usize::from(n) + 3 {
-        put(slot, of.get(random.below(5)));
+        hold(slot, of.get(random.below(5)));
     }
     let mut rest = state;
     for &slot in counted {
-        put(slot, [None, Some(&of[0]), Some(&of[other])][rest % 3]);
+        hold(slot, [None, Some(&of[0]), Some(&of[other])][rest % 3]);
         rest /= 3;
     }
     book

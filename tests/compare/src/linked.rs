@@ -12,7 +12,7 @@ pub const ANSWERS: [(Call, &[u8]); 10] = [
     (Call::Length, &[0, 9]),
     (Call::Open, &[0, 9, 10, 11]),
     (Call::Publish, &[0, 1, 4, 5, 8]),
-    (Call::Receive, &[0, 1, 2, 3, 4, 5, 6, 7, 14]),
+    (Call::Receive, &[0, 1, 2, 3, 4, 5, 6, 7, 13, 14]),
     (Call::ComeBack, &[0, 1]),
     (Call::Sent, &[0, 1, 2, 4]),
     (Call::Waiting, &[0, 1]),

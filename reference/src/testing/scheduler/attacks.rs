@@ -44,7 +44,7 @@ fn bytes(size: &Size, kind: Kind, v: &Declaration) -> [u8; 36] {
     message(kind as u8, SEASON, size.n - 1, 0, v)
 }
 
-/// The wrong house with this number hands in a message of the sender's entry: accepted, or a repeat.
+/// The wrong house with this number hands in a message of the sender's entry: accepted, or a conflict.
 fn hand_in<L: Library>(
     season: &mut Season<L>,
     size: &Size,
@@ -71,7 +71,7 @@ pub fn split<'l, L: Library>(library: &'l mut L, size: &Size, wrong: usize) -> S
             false => [other, one],
         };
         hand_in(&mut season, size, (sender, to), (Kind::Send, &belief), 0);
-        for (v, answer) in [(belief, 0), (other, 7)] {
+        for (v, answer) in [(belief, 0), (other, 13)] {
             for kind in [Kind::Echo, Kind::Ready] {
                 for from in honest..size.houses() {
                     hand_in(&mut season, size, (from, to), (kind, &v), answer);

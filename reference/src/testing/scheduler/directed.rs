@@ -1,6 +1,7 @@
 //! Seasons that are laid out step by step, with exact numbers.
 
 use crate::testing::forms::{honey, message, open_sheet, SEASON};
+use crate::testing::season::moments::Moment;
 use crate::testing::season::{Rules, Season};
 use crate::{request, Declaration, Kind, Library};
 
@@ -245,6 +246,57 @@ pub fn crashes(library: &mut impl Library) {
     sender_down(library);
     asking_often(library);
     all_helped(library);
+}
+
+/// Brings every consumed copy again: gives how many were answered 7, and how many were lost. The season is
+/// left as it was.
+fn brought_again<L: Library>(season: &mut Season<L>) -> [usize; 2] {
+    let before = season.left();
+    let all: Vec<_> = (0..season.consumed())
+        .map(|place| season.bring_again(place))
+        .collect();
+    let changed = season.left().unlike(&before);
+    assert!(changed.is_empty(), "a nervous carrier changes {changed:?}");
+    let count = |answer: Option<u8>| all.iter().filter(|given| **given == answer).count();
+    let counts = [count(Some(7)), count(None)];
+    assert_eq!(counts[0] + counts[1], all.len(), "{all:?}");
+    counts
+}
+
+/// Four houses and d = 1. House 3 is wrong: it tells house 1 one thing and house 2 another, which no book
+/// sees; and it goes back on it towards both, which is answered 13 each time, while what was said first is
+/// a repeat as before. A nervous carrier brings every copy of the honest houses again, three times, and
+/// again when house 1 is down and when it has returned: each is answered 7.
+pub fn liar_and_carrier(library: &mut impl Library) {
+    let mut season = Season::open(library, Rules::new(4, 1, &[3]).with(0, 1));
+    assert_eq!(season.publish(0, 0, &published()), 0, "the publication");
+    let tells = |kind: Kind, v: &Declaration| message(kind as u8, SEASON, 0, 0, v);
+    for kind in [Kind::Echo, Kind::Ready] {
+        for (to, [first, other]) in [(1, [published(), lie()]), (2, [lie(), published()])] {
+            let told = [first, other, first, other, other];
+            let answers = told.map(|v| season.hand_in(to, 3, &tells(kind, &v)));
+            assert_eq!(answers, [0, 13, 7, 13, 13], "{kind:?} to house {to}");
+        }
+    }
+    season.drain();
+    let send = tells(Kind::Send, &lie());
+    assert_eq!(season.hand_in(1, 3, &send), 6, "it is not the sender");
+    for _ in 0..3 {
+        assert_eq!(brought_again(&mut season), [21, 0]);
+    }
+    season.crash(1);
+    assert_eq!(brought_again(&mut season), [14, 7], "house 1 is down");
+    season.come_back(1);
+    assert_eq!(answers(&mut season), [Some(0); 3]);
+    season.drain();
+    assert_eq!(brought_again(&mut season), [34, 0], "house 1 has returned");
+    season.check();
+    assert_eq!(delivered(&season, 0), [0, 1, 2]);
+    let tally = season.tally();
+    let came = [Moment::Conflict, Moment::WrongRepeat, Moment::BroughtAgain];
+    assert_eq!(came.map(|moment| tally.of(moment)), [12, 4, 63 + 14 + 34]);
+    let late = tally.of(Moment::BroughtAfterReturn);
+    assert_eq!(late, 7, "what house 1 had consumed before");
 }
 
 /// Four houses, of which these are wrong, and f and d at zero: house 0 publishes. Each wrong house

@@ -3,6 +3,7 @@
 
 pub mod premises;
 
+use super::carrier::Carrier;
 use super::weather::Weather;
 use super::{publications, run_plan, some_houses, Plan, Publication};
 use crate::testing::claims::Finding;
@@ -227,6 +228,7 @@ impl Same {
             weather: Weather::within(random, &rules),
             to_publish: self.publications(random, &rules),
             pool: self.pool,
+            carrier: Carrier::random(random),
             rules,
         }
     }

@@ -50,8 +50,18 @@ pub enum Moment {
     WrongPastD,
     /// A copy of an honest house got answer 7.
     Repeat,
-    /// A consumed copy was brought again, and got answer 7.
+    /// A nervous carrier brought a consumed copy again, and it got answer 7.
     BroughtAgain,
+    /// It did so with one copy for the third time or more.
+    BroughtOften,
+    /// It did so a hundred steps or more after the copy was consumed.
+    BroughtLate,
+    /// It did so at a house that had crashed and returned since.
+    BroughtAfterReturn,
+    /// A wrong house said the same again, and got answer 7.
+    WrongRepeat,
+    /// A wrong house said a different thing, and got answer 13.
+    Conflict,
     /// More than t houses were wrong.
     TooManyWrong,
     /// Exactly t houses were wrong, and there was a crash.
@@ -98,6 +108,11 @@ pub const ALL: [Moment; MOMENTS] = [
     Moment::WrongPastD,
     Moment::Repeat,
     Moment::BroughtAgain,
+    Moment::BroughtOften,
+    Moment::BroughtLate,
+    Moment::BroughtAfterReturn,
+    Moment::WrongRepeat,
+    Moment::Conflict,
     Moment::TooManyWrong,
     Moment::WrongAndCrash,
     Moment::TooManyDown,
@@ -109,8 +124,14 @@ pub const ALL: [Moment; MOMENTS] = [
 ];
 
 /// How often each moment came about.
-#[derive(Clone, Debug, Default, PartialEq, Eq)]
+#[derive(Clone, Debug, PartialEq, Eq)]
 pub struct Tally([usize; MOMENTS]);
+
+impl Default for Tally {
+    fn default() -> Self {
+        Tally([0; MOMENTS])
+    }
+}
 
 impl Tally {
     /// How often this moment came about.
@@ -133,6 +154,15 @@ impl Tally {
         for moment in ALL {
             self.add_times(moment, other.of(moment));
         }
+    }
+
+    /// Which of these came about less often than so many times, and how often.
+    pub fn rare(&self, least: &[(Moment, usize)]) -> Vec<(Moment, usize)> {
+        let came = least
+            .iter()
+            .filter(|(moment, least)| self.of(*moment) < *least);
+        came.map(|(moment, _)| (*moment, self.of(*moment)))
+            .collect()
     }
 
     /// The moments that never came about.

@@ -20,7 +20,7 @@ pub enum Why {
 }
 
 /// A copy of a message, from an honest house to one of the n.
-#[derive(Clone, Debug)]
+#[derive(Clone, Debug, PartialEq, Eq)]
 pub struct Sent {
     /// The house that gave it.
     pub from: usize,
