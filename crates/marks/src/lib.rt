@@ -17,13 +17,14 @@ pub struct Marks {
     pub delivers: bool,
 }
 
-// 0, or this kind was already accepted from this house on this entry: 7, with the same declaration; 13, with a different one.
+// 0, or this kind was already accepted from this house on this entry: 7, with the same declaration; 13, with a different one. The slot is
+// compared as vouchers are counted, so that declarations are compared in one place.
 pub fn record_answer(book: &[u8], at: usize, d: [u8; 20]) -> u8
     requires { ⌜ at + slotLength ≤ length (now book) ⌝ }
     ensures { λ r. ⌜ r ≡ recording (slotAt (now (book .entry)) at) d ⌝ }
 {
     if slots::is_full(book, at) {
-        if vouchers::holds_at(book, at, d) {
+        if vouchers::count_same(book, at, 1, d) == 1 {
             return 7;
         }
         return 13;

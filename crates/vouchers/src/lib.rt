@@ -21,7 +21,7 @@ fn is_same_at(b: &[u8], at: usize, d: &[u8]) -> bool
 }
 
 // Whether the slot at `at` holds d.
-pub fn holds_at(b: &[u8], at: usize, d: [u8; 20]) -> bool
+fn holds_at(b: &[u8], at: usize, d: [u8; 20]) -> bool
     requires { ⌜ at + slotLength ≤ length (now b) ⌝ }
     ensures { λ r. ⌜ r ≡ holds (slotAt (now (b .entry)) at) d ⌝ }
 {
