@@ -76,6 +76,7 @@ impl Wrong {
             [send, vouch, vouch]
         });
         let silent: Vec<[bool; 3]> = silent.collect();
+        let resolve = random.pick(&[4, 12, 15]);
         let honest = rules.honest();
         let mut wrong: Vec<usize> = (0..houses).collect();
         wrong.retain(|house| !honest.contains(house));
@@ -86,11 +87,7 @@ impl Wrong {
             pool: pool.to_vec(),
             plan,
             silent: silent.chunks(houses).map(<[_]>::to_vec).collect(),
-            resolve: if favours {
-                16
-            } else {
-                random.pick(&[4, 12, 15])
-            },
+            resolve: if favours { 16 } else { resolve },
             asks: random.pick(&[0, 1, 1, 4, 14]),
             turns: random.pick(&[0, 2, 4, 8]),
             accepted: vec![],
