@@ -1,5 +1,5 @@
 -- What this crate promises holds.
-use Rattle.sheet.proofs.Exactly.{plausible-exactly, nothing-plausible}
+use Rattle.sheet.proofs.Exactly.{plausible-exactly, no-colonies, no-kilograms}
 use Rattle.sheet.specs.Claims.{Claims}
 use Rattle.sheet.proofs.OneForm.{sheet-of-bytes, legal-bytes, judged-bytes, bytes-of-sheet, one-form}
 
@@ -7,7 +7,8 @@ pub claims : Claims
 claims =
     record {
       exactly = plausible-exactly;
-      nothing = nothing-plausible;
+      no-colonies = no-colonies;
+      no-kilograms = no-kilograms;
       sheet-of-bytes = sheet-of-bytes;
       legal-bytes = legal-bytes;
       judged-bytes = judged-bytes;

@@ -1,58 +1,93 @@
--- The test `plausible` is true exactly when document 01's conditions hold.
-use Prim.Native.Nat.{_*_, _≤_, zero-le}
-use mathlib.Core.Path.{_≡_, refl}
+-- The test `plausible` is true exactly when document 01's conditions hold. Its text is read here in three cases, and nowhere else:
+-- whoever asks whether a declaration is plausible needs the laws below.
+use Prim.Native.Nat.{_*_, _≤_, _<_, zero-le}
+use native.Mathlib.Decide.{decLe}
+use native.Mathlib.Omega.{arith}
+use mathlib.Core.Path.{_≡_, refl, sym, _∙_}
 use mathlib.Core.Logic.{_↔_}
-use mathlib.Core.Bool.{Bool, true, false, _&&_, and-eq-true-iff}
-use lib.Dec.{leb}
+use mathlib.Core.Bool.{Bool, true, false, _&&_, true≢false, and-eq-true-iff}
 use lib.Ieee.{binary32, ofBits}
-use borrow.Author.Tests.{leb-true, le-leb}
+use borrow.Author.Tests.{le-leb, lt-leb}
 use Rattle.sheet.specs.declared.Sheet.{Sheet}
 use Rattle.lot.specs.declared.Declaration.{Declaration}
 use Rattle.sheet.specs.Sheet.{readingsOf, finite, within, passes, admitted, plausible, Plausible}
 
-pub plausible-exactly : (s : Sheet) (d : Declaration) → (plausible s d ≡ true) ↔ Plausible s d
-unfolding plausible admitted passes
-plausible-exactly s d = (to, from)
-  where
-    to : plausible s d ≡ true → Plausible s d
-    to h =
-        let m = ofBits binary32 (d .moisture) in
-        let c = ofBits binary32 (d .conductivity) in
-        let x = passes (s .moisture) m in
-        let y = passes (s .conductivity) c in
-        let a = and-eq-true-iff (leb (d .kilograms) (d .colonies * s .cap)) (x && y) .0 h in
-        let b = and-eq-true-iff x y .0 (a .1) in
-        let p = and-eq-true-iff (finite m) (within (s .moisture) m) .0 (b .0) in
-        let q = and-eq-true-iff (finite c) (within (s .conductivity) c) .0 (b .1) in
-        record {
-          weight = leb-true _ _ (a .0);
-          moisture-finite = p .0;
-          conductivity-finite = q .0;
-          moisture-within = p .1;
-          conductivity-within = q .1;
-        }
+and-true : (a b : Bool) → a ≡ true → a && b ≡ b
+and-true a b e = rw e
 
-    from : Plausible s d → plausible s d ≡ true
-    from p =
-        rw (le-leb _ _ (p .weight), p .moisture-finite, p .conductivity-finite, p .moisture-within, p .conductivity-within)
+and-false : (a b : Bool) → a ≡ false → a && b ≡ false
+and-false a b e = rw e
 
--- So no colonies and no kilograms is plausible.
-pub nothing-plausible : (s : Sheet) (d : Declaration) → d .kilograms ≡ 0 → admitted s (readingsOf d) ≡ true → plausible s d ≡ true
+-- ---- the three cases
+
+-- A declaration with no colonies isn't plausible, whatever its weight;
+pub no-colonies : (s : Sheet) (d : Declaration) → d .colonies ≡ 0 → plausible s d ≡ false
 unfolding plausible
-nothing-plausible s d z a =
-    let l : d .kilograms ≤ d .colonies * s .cap = rw z zero-le in
-    rw (le-leb _ _ l, a)
+no-colonies s d none = rw none
 
--- and with a reading that is not finite none is
-and-no : (b : Bool) → false ≡ b && false
-and-no true = refl
-and-no false = refl
+-- with colonies it isn't where it weighs too much,
+pub too-heavy : (s : Sheet) (d : Declaration) → 1 ≤ d .colonies → d .colonies * s .cap < d .kilograms → plausible s d ≡ false
+unfolding plausible
+too-heavy s d colony heavy = and-true _ _ (le-leb _ _ colony) ∙ and-false _ (admitted s (readingsOf d)) (lt-leb _ _ heavy)
 
-pub moisture-not-finite : (s : Sheet) (d : Declaration) → finite (ofBits binary32 (d .moisture)) ≡ false → false ≡ plausible s d
-unfolding plausible admitted passes
-moisture-not-finite s d h = rw h (and-no (leb (d .kilograms) (d .colonies * s .cap)))
+-- and otherwise the readings decide.
+pub readings-decide : (s : Sheet) (d : Declaration) → 1 ≤ d .colonies → d .kilograms ≤ d .colonies * s .cap
+    → plausible s d ≡ admitted s (readingsOf d)
+unfolding plausible
+readings-decide s d colony weight = and-true _ _ (le-leb _ _ colony) ∙ and-true _ _ (le-leb _ _ weight)
 
-pub conductivity-not-finite : (s : Sheet) (d : Declaration) → finite (ofBits binary32 (d .conductivity)) ≡ false → false ≡ plausible s d
-unfolding plausible admitted passes
-conductivity-not-finite s d h =
-    rw (h, ← and-no (passes (s .moisture) (ofBits binary32 (d .moisture)))) (and-no (leb (d .kilograms) (d .colonies * s .cap)))
+-- ---- the conditions
+
+module _ (s : Sheet) (d : Declaration) where
+  read : 1 ≤ d .colonies → d .kilograms ≤ d .colonies * s .cap → admitted s (readingsOf d) ≡ true → Plausible s d
+  unfolding admitted passes
+  read colony weight a =
+      let m = ofBits binary32 (d .moisture) in
+      let c = ofBits binary32 (d .conductivity) in
+      let b = and-eq-true-iff (passes (s .moisture) m) (passes (s .conductivity) c) .0 a in
+      let p = and-eq-true-iff (finite m) (within (s .moisture) m) .0 (b .0) in
+      let q = and-eq-true-iff (finite c) (within (s .conductivity) c) .0 (b .1) in
+      record {
+        colony = colony;
+        weight = weight;
+        moisture-finite = p .0;
+        conductivity-finite = q .0;
+        moisture-within = p .1;
+        conductivity-within = q .1;
+      }
+
+  to : plausible s d ≡ true → Plausible s d
+  to h =
+      elim (decLe 1 (d .colonies)) [
+        | yes colony ↦ elim (decLe (d .kilograms) (d .colonies * s .cap)) [
+          | yes weight ↦ read colony weight (sym (readings-decide s d colony weight) ∙ h)
+          | no f ↦ absurd (true≢false (sym h ∙ too-heavy s d colony (omega arith)))
+        ]
+        | no f ↦ absurd (true≢false (sym h ∙ no-colonies s d (omega arith)))
+      ]
+
+  from : Plausible s d → plausible s d ≡ true
+  unfolding admitted passes
+  from p =
+      rw (
+        readings-decide s d (p .colony) (p .weight),
+        p .moisture-finite,
+        p .conductivity-finite,
+        p .moisture-within,
+        p .conductivity-within,
+      )
+
+  pub plausible-exactly : (plausible s d ≡ true) ↔ Plausible s d
+  plausible-exactly = (to, from)
+
+  -- where one of the conditions fails
+  pub not-plausible : (Plausible s d → ⊥) → false ≡ plausible s d
+  not-plausible f = go (plausible s d) refl
+    where
+      go : (b : Bool) → plausible s d ≡ b → false ≡ plausible s d
+      go true e = absurd (f (to e))
+      go false e = sym e
+
+  -- no kilograms is plausible, of one colony or more, where the readings are admitted
+  pub no-kilograms : 1 ≤ d .colonies → d .kilograms ≡ 0 → admitted s (readingsOf d) ≡ true → plausible s d ≡ true
+  no-kilograms colony none a = readings-decide s d colony (rw none zero-le) ∙ a

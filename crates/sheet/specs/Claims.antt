@@ -1,8 +1,8 @@
 -- What this crate promises: when a declaration is plausible, and that a sheet has one byte form.
 use mathlib.Core.Logic.{_↔_}
-use Prim.Native.Nat.{ℕ}
+use Prim.Native.Nat.{ℕ, _≤_}
 use mathlib.Core.Path.{_≡_}
-use mathlib.Core.Bool.{true}
+use mathlib.Core.Bool.{true, false}
 use mathlib.Core.List.{List}
 use Rattle.words.specs.Words.{Bytes}
 use Rattle.sheet.specs.declared.Sheet.{Sheet}
@@ -14,8 +14,11 @@ use Rattle.sheet.specs.Kept.{sheetBytes, sheetAt, isSheet, judged}
 pub record Claims : Type 0 where
   -- A declaration is plausible exactly when document 01's conditions hold.
   pub exactly : (sheet : Sheet) (d : Declaration) → (plausible sheet d ≡ true) ↔ Plausible sheet d
-  -- So no colonies and no kilograms is plausible: no kilograms, of however many colonies, where the readings are admitted.
-  pub nothing : (sheet : Sheet) (d : Declaration) → d .kilograms ≡ 0 → admitted sheet (readingsOf d) ≡ true → plausible sheet d ≡ true
+  -- So a declaration with no colonies isn't plausible, whatever its weight;
+  pub no-colonies : (sheet : Sheet) (d : Declaration) → d .colonies ≡ 0 → plausible sheet d ≡ false
+  -- and no kilograms is, of one colony or more, where the readings are admitted.
+  pub no-kilograms : (sheet : Sheet) (d : Declaration) → 1 ≤ d .colonies → d .kilograms ≡ 0 → admitted sheet (readingsOf d) ≡ true
+      → plausible sheet d ≡ true
   -- Sheet limits are kept as their bits: the bytes of a sheet read as that sheet,
   pub sheet-of-bytes : (sheet : Sheet) → GateFits (sheet .moisture) → GateFits (sheet .conductivity) → sheetAt (sheetBytes sheet) 0 ≡ sheet
   -- they are a legal sheet's exactly when it is legal,

@@ -59,10 +59,10 @@ unfoldable pub admitted : Sheet → Readings → Bool
 unfolding passes
 admitted sheet r = passes (sheet .moisture) (r .moisture) && passes (sheet .conductivity) (r .conductivity)
 
--- kilograms is at most colonies times cap (the exact product), and both readings pass
+-- it has at least one colony, kilograms is at most colonies times cap (the exact product), and both readings pass
 unfoldable pub plausible : Sheet → Declaration → Bool
 unfolding admitted
-plausible sheet d = leb (d .kilograms) (d .colonies * sheet .cap) && admitted sheet (readingsOf d)
+plausible sheet d = leb 1 (d .colonies) && (leb (d .kilograms) (d .colonies * sheet .cap) && admitted sheet (readingsOf d))
 
 -- judging takes a sheet and a declaration and answers 10, then 5, else 0
 unfoldable pub judgedBy : Sheet → Declaration → ℕ
@@ -71,6 +71,8 @@ judgedBy sheet d = cond (sheetLegal sheet) (cond (plausible sheet d) 0 5) 10
 
 -- a declaration is plausible exactly when all of these hold (proofs/Exactly.antt)
 pub record Plausible (sheet : Sheet) (d : Declaration) : Type 0 where
+  -- it has at least one colony
+  pub colony : 1 ≤ d .colonies
   -- kilograms is at most colonies times cap
   pub weight : d .kilograms ≤ d .colonies * sheet .cap
   -- neither reading is NaN or infinite
