@@ -69,10 +69,12 @@ pub fn is_plausible(sheet: Sheet, d: Declaration) -> bool
     requires { ⌜ sheetLegal sheet ≡ true ⌝ }
     ensures { λ r. ⌜ r ≡ plausible sheet d ⌝ }
 {
-    if d.kilograms as u64 <= most(d.colonies, sheet.cap) {
-        if floats::is_finite(d.moisture) {
-            if floats::is_finite(d.conductivity) {
-                return admits(sheet, readings_of(d));
+    if d.colonies >= 1 {
+        if d.kilograms as u64 <= most(d.colonies, sheet.cap) {
+            if floats::is_finite(d.moisture) {
+                if floats::is_finite(d.conductivity) {
+                    return admits(sheet, readings_of(d));
+                }
             }
         }
     }

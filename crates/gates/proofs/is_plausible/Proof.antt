@@ -1,15 +1,16 @@
 -- `gates::is_plausible` meets its contract.
-use borrow.Author.Tests.{le-leb, lt-leb}
-use mathlib.Core.Path.{sym, ap, _∙_}
+use native.Mathlib.Omega.{arith}
+use mathlib.Core.Path.{_≡_, sym, ap, _∙_}
+use mathlib.Core.Bool.{true≢false}
 use Rattle.sheet.specs.declared.Readings.{Readings}
-use Rattle.sheet.specs.Sheet.{finite, admitted, plausible}
-use Rattle.sheet.proofs.Exactly.{moisture-not-finite, conductivity-not-finite}
+use Rattle.sheet.specs.Sheet.{finite, admitted}
+use Rattle.sheet.proofs.Exactly.{no-colonies, too-heavy, readings-decide, not-plausible}
 use borrow.Author.Needs.{needs}
 use Rattle.gates.proofs.is_plausible.Statement.{statement}
 use Rattle.gates.proofs.is_plausible.Tie as tie
 
-cast-if1 : tie.Need-cast-if1
-cast-if1 c = search needs
+cast-if2 : tie.Need-cast-if2
+cast-if2 c = search needs
 
 most-requires : tie.Need-most-requires
 most-requires c κs = search needs
@@ -28,34 +29,50 @@ admits-requires c κs =
     let conductivity = c .before .before in
     let moisture = conductivity .before .before in
     let r = c .readings-of .ensures in (
-      moisture .before .before .before .before .pre,
-      ap (λ (x : Readings). finite (x .moisture)) r ∙ sym (moisture .is-finite .ensures) ∙ conductivity .before .if2 .taken,
-      ap (λ (x : Readings). finite (x .conductivity)) r ∙ sym (conductivity .is-finite2 .ensures) ∙ c .before .if3 .taken,
+      moisture .before .before .before .before .before .before .pre,
+      ap (λ (x : Readings). finite (x .moisture)) r ∙ sym (moisture .is-finite .ensures) ∙ conductivity .before .if3 .taken,
+      ap (λ (x : Readings). finite (x .conductivity)) r ∙ sym (conductivity .is-finite2 .ensures) ∙ c .before .if4 .taken,
     )
 
+-- every test passed, and the readings decide
 returns : tie.Need-returns
-unfolding plausible
 returns c =
     let moisture = c .before .before .before .before .before in
     let m = moisture .before .before in
-    rw (← m .most .ensures, le-leb _ _ (moisture .before .if1 .taken))
-    (c .admits .ensures ∙ ap (admitted (m .before .before .args .sheet)) (c .before .readings-of .ensures))
+    let taken = m .before .before .if1 .taken in
+    let weight = rw (m .most .ensures) at (moisture .before .if2 .taken) in
+    let given = m .before .before .before .before .args in
+    c .admits .ensures ∙ ap (admitted (given .sheet)) (c .before .readings-of .ensures)
+    ∙ sym (readings-decide (given .sheet) (given .d) (omega arith) weight)
 
+-- a reading is not finite
 returns-2 : tie.Need-returns-2
-returns-2 c = conductivity-not-finite _ _ (sym (c .before .is-finite2 .ensures) ∙ c .if3 .left)
+returns-2 c = not-plausible _ _ (λ p. true≢false (sym (p .conductivity-finite) ∙ sym (c .before .is-finite2 .ensures) ∙ c .if4 .left))
 
 returns-3 : tie.Need-returns-3
-returns-3 c = moisture-not-finite _ _ (sym (c .before .is-finite .ensures) ∙ c .if2 .left)
+returns-3 c = not-plausible _ _ (λ p. true≢false (sym (p .moisture-finite) ∙ sym (c .before .is-finite .ensures) ∙ c .if3 .left))
 
+-- too many kilograms
 returns-4 : tie.Need-returns-4
-unfolding plausible
-returns-4 c = rw (← c .before .most .ensures, lt-leb _ _ (c .if1 .left))
+returns-4 c =
+    let before = c .before .before .before in
+    let taken = before .if1 .taken in
+    let heavy = rw (c .before .most .ensures) at (c .if2 .left) in
+    let given = before .before .before .args in
+    sym (too-heavy (given .sheet) (given .d) (omega arith) heavy)
+
+-- no colonies
+returns-5 : tie.Need-returns-5
+returns-5 c =
+    let left = c .if1 .left in
+    let given = c .before .before .args in
+    sym (no-colonies (given .sheet) (given .d) (omega arith))
 
 pub is-plausible-spec : {M : Type 1} → statement M
 is-plausible-spec =
     tie.close
     (tie.spec
-    cast-if1
+    cast-if2
     most-requires
     is-finite-requires
     is-finite-requires-2
@@ -64,4 +81,5 @@ is-plausible-spec =
     returns
     returns-2
     returns-3
-    returns-4)
+    returns-4
+    returns-5)
