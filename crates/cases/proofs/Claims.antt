@@ -31,5 +31,5 @@ pub claims : Claims
 claims =
     record {
       all-hold = table rows .shows (T-of computes);
-      none-left-out = has-each 12 rows .shows tt;
+      none-left-out = has-each 15 rows .shows tt;
     }

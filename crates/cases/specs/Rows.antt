@@ -47,4 +47,7 @@ rows =
     ∷ (10, calls 4 (echo 0 none ∷ echo 1 none ∷ echo 2 (some 3) ∷ []))
     ∷ (11, calls 4 (ready 1 none false ∷ ready 2 (some 3) false ∷ ready 3 none true ∷ []))
     ∷ (12, calls 1 (ready 0 (some 3) true ∷ []))
+    ∷ (13, judge (sheet 20 Open) (lot 0 0 seventeenHalf) 5)
+    ∷ (14, judge (sheet 20 Open) (lot 0 1 seventeenHalf) 5)
+    ∷ (15, judge (sheet 20 Open) (lot 1 0 seventeenHalf) 0)
     ∷ []
