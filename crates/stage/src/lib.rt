@@ -192,8 +192,9 @@ pub fn take(desk: &mut [u8], r: Numbers) -> Taken {
 // ---- down and back
 
 // The first byte of the book of house 0, n, becomes 17.
+// Byte x of the book becomes zero.
 fn spoil(s: &[u8], desk: &mut [u8], r: Numbers) {
-    put(desk, 0, 0, 17);
+    put(desk, 0, r[FREE], 0);
     told(s, r);
 }
 
