@@ -1,6 +1,7 @@
-/* Each call with each of its answers, two answers at once where the order decides, the walk over what was sent, null pointers with
- * length 0, the message of document 01, and the header's helpers, in two float modes: says what is not so, and ends with status 1
- * then. It tries that header and archive agree; tests over all inputs stand elsewhere. */
+/* Each call with each of its answers, two answers at once where the order decides, the walk over what was sent, no colonies in each call
+ * and in a book of an earlier version, null pointers with length 0, the message of document 01, and the header's helpers, in two float
+ * modes: says what is not so, and ends with status 1 then. It tries that header and archive agree; tests over all inputs stand
+ * elsewhere. */
 #include "grassmunch.h"
 
 #include <stdio.h>
@@ -16,6 +17,10 @@ static const uint8_t heavy[GM_DECLARATION_BYTES] = {0, 0, 0, 77, 0, 0, 0, 40, 0,
 static const uint8_t light[GM_DECLARATION_BYTES] = {0, 0, 0, 77, 0, 0, 0, 40, 0, 0, 3, 0x1F, 0x41, 0x8C, 0, 0, 0x3F, 0, 0, 0};
 static const uint8_t zero[GM_DECLARATION_BYTES] = {0, 0, 0, 77, 0, 0, 0, 40, 0, 0, 3, 0x20, 0x41, 0x8C, 0, 0, 0, 0, 0, 0};
 static const uint8_t minus_zero[GM_DECLARATION_BYTES] = {0, 0, 0, 77, 0, 0, 0, 40, 0, 0, 3, 0x20, 0x41, 0x8C, 0, 0, 0x80, 0, 0, 0};
+/* No colonies with no kilograms, which passed up to 3.0.0, and with one; and one colony with no kilograms, which is plausible. */
+static const uint8_t nothing[GM_DECLARATION_BYTES] = {0, 0, 0, 77, 0, 0, 0, 0, 0, 0, 0, 0, 0x41, 0x8C, 0, 0, 0x3F, 0, 0, 0};
+static const uint8_t no_bees[GM_DECLARATION_BYTES] = {0, 0, 0, 77, 0, 0, 0, 0, 0, 0, 0, 1, 0x41, 0x8C, 0, 0, 0x3F, 0, 0, 0};
+static const uint8_t no_honey[GM_DECLARATION_BYTES] = {0, 0, 0, 77, 0, 0, 0, 1, 0, 0, 0, 0, 0x41, 0x8C, 0, 0, 0x3F, 0, 0, 0};
 static const uint8_t whole[GM_MESSAGE_BYTES] = {1, 0, 1, GM_SEND, 2, 0, 6, 0, 0, 0x07, 0xEA, 2, 1, 3, 0, 20,
                                                 0, 0, 0, 77, 0, 0, 0, 40, 0, 0, 3, 0x20, 0x41, 0x8C, 0, 0, 0x3F, 0, 0, 0};
 static const uint8_t request[GM_REQUEST_BYTES + 1] = {1, 0, 1, GM_REQUEST, 2, 0, 4, 0, 0, 0x07, 0xEA};
@@ -245,6 +250,84 @@ static void with_one_down(void) {
     book[31 + 3] = 0;
 }
 
+/* A declaration with no colonies is answered 5, whatever its weight, where 5 stands in each call's order. One colony with no kilograms is
+ * plausible. */
+static void no_colonies(void) {
+    so(gm_judge(sheet, sizeof sheet, nothing) == GM_NOT_PLAUSIBLE, "judging 5: 0 colonies, 0 kilograms");
+    so(gm_judge(sheet, sizeof sheet, no_bees) == GM_NOT_PLAUSIBLE, "judging 5: 0 colonies, 1 kilogram");
+    so(gm_judge(sheet, sizeof sheet, no_honey) == GM_ACCEPTED, "judging 0: 1 colony, 0 kilograms");
+    so(gm_judge(sheet, sizeof sheet - 1, nothing) == GM_SHEET_NOT_LEGAL, "judging 10 before 5: no colonies");
+    so(open_as(HOUSES, 0, DOWN, LIMIT) == GM_ACCEPTED, "a fresh book, for no colonies");
+    memcpy(before, book, BOOK);
+    static const uint8_t *const without[] = {nothing, no_bees};
+    for (size_t i = 0; i < sizeof without / sizeof *without; i++) {
+        so(refused(gm_publish(book, BOOK, 1, without[i]), GM_NOT_IN_BOOK), "publishing 4 before 5: no colonies");
+        so(refused(gm_publish(book, BOOK, 0, without[i]), GM_NOT_PLAUSIBLE), "publishing 5: no colonies");
+        for (uint8_t kind = GM_SEND; kind <= GM_READY; kind++) {
+            so(refused(receive(4, kind, 2026, 3, without[i]), GM_NOT_IN_BOOK), "receiving 4 before 5: no colonies");
+            so(refused(receive(3, kind, 2026, 3, without[i]), GM_NOT_PLAUSIBLE), "receiving 5: no colonies");
+        }
+        so(refused(receive(1, GM_SEND, 2026, 3, without[i]), GM_NOT_PLAUSIBLE), "receiving 5 before 6: no colonies");
+    }
+    so(gm_publish(book, BOOK, 0, no_honey).gives, "publishing 0: 1 colony, 0 kilograms");
+    for (uint8_t kind = GM_SEND; kind <= GM_READY; kind++) {
+        so(receive(3, kind, 2026, 3, no_honey).answer == GM_ACCEPTED, "receiving 0: 1 colony, 0 kilograms");
+    }
+    memcpy(before, book, BOOK);
+    so(refused(gm_publish(book, BOOK, 0, nothing), GM_NOT_PLAUSIBLE), "publishing 5 before 8: no colonies");
+    for (uint8_t kind = GM_SEND; kind <= GM_READY; kind++) {
+        so(refused(receive(3, kind, 2026, 3, nothing), GM_NOT_PLAUSIBLE), "receiving 5 before 13: no colonies");
+    }
+}
+
+/* Fills a slot by hand: docs/BOOK.md, "A slot". */
+static void fill(size_t slot, const uint8_t *declaration) {
+    uint8_t *at = book + 31 + HOUSES + 21 * slot;
+    at[0] = 1;
+    memcpy(at + 1, declaration, GM_DECLARATION_BYTES);
+}
+
+/* A book as the calls of 3.0.0 could leave it, all of it of no colonies. House 0 published at number 0; of sender 3 it recorded the SEND,
+ * the ECHO of house 1 and the READYs of houses 1 and 2, and it sent its own READY, which delivered there when it came. Nothing that is
+ * recorded is judged: the book is legal, waits, returns, tells again what was sent, and helps. What comes again is 5, before 7; and so is
+ * what comes first, so that it is never delivered. */
+static void book_of_before(void) {
+    enum { ENTRY = 1 + 3 * (2 * HOUSES + 3) };
+    static const size_t slots[] = {0, ENTRY, ENTRY + 1 + 1, ENTRY + 1 + HOUSES + 1, ENTRY + 1 + HOUSES + 2, ENTRY + 1 + 2 * HOUSES};
+    so(open_as(HOUSES, 0, DOWN, LIMIT) == GM_ACCEPTED, "a fresh book, to be filled by hand");
+    for (size_t i = 0; i < sizeof slots / sizeof *slots; i++) {
+        fill(slots[i], nothing);
+    }
+    memcpy(before, book, BOOK);
+    gm_waiting_answer next = gm_waiting(book, BOOK);
+    so(next.answer == GM_ACCEPTED, "no colonies recorded: legal");
+    so(next.waits && next.number == 0 && next.sender == 3, "no colonies recorded: the entry waits");
+    so(gm_return(book, BOOK).answer == GM_ACCEPTED, "no colonies recorded: a return 0");
+    static const uint8_t kinds[] = {GM_SEND, GM_ECHO, GM_READY};
+    static const uint8_t senders[] = {0, 3, 3};
+    size_t count = 0;
+    gm_walk walk = gm_first_sent(book, BOOK);
+    for (; walk.sent.gives && count < sizeof kinds; gm_next_sent(book, BOOK, &walk)) {
+        gm_written same = gm_write(kinds[count], 2026, senders[count], 0, nothing);
+        so(memcmp(walk.sent.message, same.message, 36) == 0, "no colonies recorded: sent 0, the same 36 bytes");
+        so(refused(gm_receive(book, BOOK, 0, walk.sent.message, 36), GM_NOT_PLAUSIBLE), "receiving 5: what the walk gave, no colonies");
+        count++;
+    }
+    so(count == sizeof kinds && not_sent(walk.sent, GM_NOT_IN_BOOK), "no colonies recorded: the walk gives three messages");
+    so(refused(receive(3, GM_SEND, 2026, 3, nothing), GM_NOT_PLAUSIBLE), "receiving 5 before 7: a SEND, no colonies");
+    so(refused(receive(1, GM_ECHO, 2026, 3, nothing), GM_NOT_PLAUSIBLE), "receiving 5 before 7: an ECHO, no colonies");
+    so(refused(receive(2, GM_READY, 2026, 3, nothing), GM_NOT_PLAUSIBLE), "receiving 5 before 7: a READY, no colonies");
+    so(refused(receive(1, GM_ECHO, 2026, 3, no_bees), GM_NOT_PLAUSIBLE), "receiving 5 before 13: an ECHO, no colonies recorded");
+    so(refused(receive(1, GM_ECHO, 2026, 3, lot77), GM_CONFLICT), "receiving 13: an ECHO, no colonies recorded");
+    so(refused(gm_publish(book, BOOK, 0, nothing), GM_NOT_PLAUSIBLE), "publishing 5 before 8: no colonies recorded");
+    so(refused(gm_publish(book, BOOK, 0, lot77), GM_ALREADY_PUBLISHED), "publishing 8: no colonies recorded");
+    fill(ENTRY + 2 + 2 * HOUSES, nothing);
+    next = gm_waiting(book, BOOK);
+    so(next.answer == GM_ACCEPTED && !next.waits, "no colonies delivered: legal, and none waits");
+    so(receive(2, GM_SEND, 2026, 2, lot77).gives, "no colonies recorded: another entry goes on");
+    so(helped(hear_request(3)), "no colonies recorded: a request 0");
+}
+
 static void judging_writing_reading(void) {
     so(gm_judge(sheet, sizeof sheet, lot77) == GM_ACCEPTED, "judging 0");
     so(gm_judge(sheet, sizeof sheet, heavy) == GM_NOT_PLAUSIBLE, "judging 5");
@@ -353,6 +436,8 @@ static void all(void) {
     returning();
     walking();
     with_one_down();
+    no_colonies();
+    book_of_before();
     judging_writing_reading();
     null_with_length_0();
 }

@@ -18,8 +18,9 @@
 enum { HOUSES = 4, NUMBERS = 2, DOWN = 0, LIMIT = 2, SEASON = 2026, PUBLISHER = 2, NUMBER = 1, LOSES_POWER = 1, LIAR = 3 };
 enum { COPIES = 128, LOTS = 2 };
 
-/* Made by `declare` at the start: the lot that is published, one that weighs too much, and the two of the liar. */
-static uint8_t lot77[GM_DECLARATION_BYTES], heavy[GM_DECLARATION_BYTES], lot90[GM_DECLARATION_BYTES], twin[GM_DECLARATION_BYTES];
+/* Made by `declare` at the start: the lot that is published, one that weighs too much, one with no colonies, and the two of the liar. */
+static uint8_t lot77[GM_DECLARATION_BYTES], heavy[GM_DECLARATION_BYTES], no_bees[GM_DECLARATION_BYTES];
+static uint8_t lot90[GM_DECLARATION_BYTES], twin[GM_DECLARATION_BYTES];
 
 struct house {
     uint32_t own;
@@ -381,6 +382,21 @@ static bool refuse(void) {
            publish(&houses[PUBLISHER], NUMBER, lot77) && publish(&houses[PUBLISHER], 0, heavy);
 }
 
+/* No bees, no honey: with no colonies a lot is not plausible, whatever its weight. Nothing was published, and the number may be used. */
+static bool ask_for_the_colonies(void) {
+    struct house *house = &houses[PUBLISHER];
+    printf("a beekeeper declares lot 78 with no colonies and no kilograms\n");
+    if (!publish(house, 0, no_bees)) {
+        return false;
+    }
+    gm_sent_answer none = gm_sent(house->book, house->len, GM_SEND, PUBLISHER, 0);
+    if (none.answer != GM_ACCEPTED || none.gives) {
+        return false;
+    }
+    printf("house %d asks the beekeeper for the colonies; its number 0 is still free\n", PUBLISHER);
+    return true;
+}
+
 /* The liar's SEND, ECHO and READY of a declaration, to one house. */
 static void say(uint32_t to, const uint8_t *declaration) {
     for (uint8_t kind = GM_SEND; kind <= GM_READY; kind++) {
@@ -425,10 +441,11 @@ static bool repeat_and_conflict(void) {
 static bool run(void) {
     declare(lot77, 77, 40, 800);
     declare(heavy, 77, 40, 801);
+    declare(no_bees, 78, 0, 0);
     declare(lot90, 90, 30, 600);
     declare(twin, 90, 30, 500);
     return open_all() && publish(&houses[PUBLISHER], NUMBER, lot77) && bring_all() && come_back(&houses[LOSES_POWER]) &&
-           bring_all() && repeat_the_request() && refuse() && lie() && repeat_and_conflict() &&
+           bring_all() && repeat_the_request() && refuse() && ask_for_the_colonies() && lie() && repeat_and_conflict() &&
            !gm_waiting(houses[LOSES_POWER].book, houses[LOSES_POWER].len).waits;
 }
 

@@ -19,9 +19,9 @@
 #include <string.h>
 
 /* The version: the first number changes where the bytes of a book or a message change, or a call. A season is finished with the first
- * number that it was opened with, or with one that goes with it: 3 goes with 2 (CHANGELOG.md). */
-#define GM_VERSION "3.0.0"
-#define GM_VERSION_MAJOR 3
+ * number that it was opened with, or with one that goes with it: 3 goes with 2, and 4 with neither (CHANGELOG.md). */
+#define GM_VERSION "4.0.0"
+#define GM_VERSION_MAJOR 4
 #define GM_VERSION_MINOR 0
 #define GM_VERSION_PATCH 0
 
@@ -136,7 +136,11 @@ gm_sent_answer gm_sent(const uint8_t *book, size_t len, uint8_t kind, uint32_t s
  * plain none; or answer 1." Answers 1, else 0. */
 gm_waiting_answer gm_waiting(const uint8_t *book, size_t len);
 
-/* "Judging takes a sheet and a declaration and answers 10, then 5, else 0." */
+/* "Judging takes a sheet and a declaration and answers 10, then 5, else 0." Publishing and receiving judge alike, by the book's sheet:
+ * "A declaration is plausible exactly when it has at least one colony, kilograms is at most colonies times cap (the exact product),
+ * neither reading is NaN or infinite, and each reading is within its gate by float comparison. So a declaration with no colonies isn't
+ * plausible, whatever its weight." No other call judges a declaration, and none judges what is recorded: a book of a version before 4
+ * that has a declaration with no colonies is legal. */
 uint8_t gm_judge(const uint8_t *sheet, size_t sheet_len, const uint8_t declaration[20]);
 
 /* "The writer takes kind, season, sender, number and declaration and hands back the 36 bytes, with no lent buffer; any sender and
@@ -154,7 +158,7 @@ gm_read_answer gm_read(const uint8_t *message, size_t message_len);
 /* The five things of a declaration: moisture in percent, conductivity in mS/cm. */
 typedef struct {
     uint32_t lot;
-    uint32_t colonies;
+    uint32_t colonies; /* at least one, else it is not plausible */
     uint32_t kilograms;
     float moisture;
     float conductivity;

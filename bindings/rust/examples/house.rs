@@ -347,6 +347,22 @@ impl Valley {
         Ok(())
     }
 
+    /// No bees, no honey: with no colonies a lot is not plausible, whatever its weight. Nothing was published, and the number may be
+    /// used.
+    fn ask_for_the_colonies(&mut self) -> Fallible<()> {
+        println!("a beekeeper declares lot 78 with no colonies and no kilograms");
+        self.publish(PUBLISHER, 0, &Declaration::new(78, 0, 0, 17.5, 0.5))?;
+        let (number, sender) = (0, PUBLISHER as u8);
+        let entry = Entry { number, sender };
+        if self.up(PUBLISHER)?.sent(Kind::Send, entry)?.is_some() {
+            return Err("a lot with no colonies was published".into());
+        }
+        println!(
+            "house {PUBLISHER} asks the beekeeper for the colonies; its number 0 is still free"
+        );
+        Ok(())
+    }
+
     /// The liar's SEND, ECHO and READY of lot 90, with that many kilograms, to one house.
     fn say(&mut self, to: usize, kilograms: u32) {
         for &kind in Kind::ALL {
@@ -431,6 +447,7 @@ fn main() -> Fallible<()> {
     valley.receive(0, (1 << 32) + publisher, &send)?; // cut to 32 bits it would be the publisher
     valley.publish(PUBLISHER, NUMBER, &lot77)?;
     valley.publish(PUBLISHER, 0, &Declaration::new(77, 40, 801, 17.5, 0.5))?;
+    valley.ask_for_the_colonies()?;
     valley.lie()?;
     valley.repeat_and_conflict()
 }

@@ -172,6 +172,28 @@ impl Book {
     /// use grassmunch::{Book, Refusal};
     /// assert_eq!(Book::from_bytes(vec![0; 158]), Err(Refusal::NoLegalBook));
     /// ```
+    ///
+    /// Nothing that is recorded is judged. A book of a version before 4 that has a declaration with no colonies is read, waits, and tells
+    /// again what was sent; but what comes of that declaration is refused, also where it stands already:
+    ///
+    /// ```
+    /// use grassmunch::{Book, Declaration, Entry, Gate, Opening, Refusal, Sheet};
+    /// let sheet = Sheet { cap: 20, moisture: Gate::Open, conductivity: Gate::Open };
+    /// let mut bytes = Book::open(&Opening { n: 1, s: 1, f: 0, d: 1, season: 2026, sheet }, 0)?.into_bytes();
+    /// for slot in [0, 1, 2] {
+    ///     let at = 32 + 21 * slot; // docs/BOOK.md, "A whole book": published, the SEND, the ECHO of house 0
+    ///     bytes[at] = 1;
+    ///     bytes[at + 1..at + 21].copy_from_slice(Declaration::new(77, 0, 0, 17.5, 0.5).as_bytes());
+    /// }
+    /// let mut book = Book::from_bytes(bytes)?;
+    /// assert_eq!(book.waiting(), Ok(Some(Entry { number: 0, sender: 0 })));
+    /// let sent: Vec<_> = book.all_sent().collect();
+    /// assert_eq!(sent.len(), 2); // its SEND and its ECHO
+    /// for message in sent {
+    ///     assert_eq!(book.receive(0, &message).err(), Some(Refusal::NotPlausible));
+    /// }
+    /// # Ok::<(), Refusal>(())
+    /// ```
     pub fn from_bytes(bytes: Vec<u8>) -> Result<Book, Refusal> {
         Refusal::of(ffi::waiting(&bytes).answer)?;
         Ok(Book(bytes))
@@ -228,6 +250,19 @@ impl Book {
     }
 
     /// "Publishing marks the own entry and gives a SEND." Works on a copy. Answers 1, 4, 5, 8.
+    ///
+    /// ```
+    /// use grassmunch::{Book, Declaration, Gate, Opening, Refusal, Sheet};
+    /// let sheet = Sheet { cap: 20, moisture: Gate::Open, conductivity: Gate::Open };
+    /// let mut book = Book::open(&Opening { n: 4, s: 1, f: 0, d: 1, season: 2026, sheet }, 0)?;
+    ///
+    /// // with no colonies nothing is published, and the number is still free for the lot with them
+    /// assert_eq!(book.publish(0, &Declaration::new(77, 0, 0, 17.5, 0.5)).err(), Some(Refusal::NotPlausible));
+    /// let stored = |_: &Book, _: Option<&Declaration>| Ok::<(), Refusal>(());
+    /// assert!(book.publish(0, &Declaration::new(77, 40, 800, 17.5, 0.5))?.store(stored)?.message.is_some());
+    /// assert_eq!(book.publish(0, &Declaration::new(77, 40, 800, 17.5, 0.5)).err(), Some(Refusal::AlreadyPublished));
+    /// # Ok::<(), Refusal>(())
+    /// ```
     pub fn publish(
         &mut self,
         number: u32,

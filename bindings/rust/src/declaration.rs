@@ -50,7 +50,7 @@ impl Declaration {
         self.word(0)
     }
 
-    /// The colonies.
+    /// The colonies: at least one, else it is not plausible.
     pub fn colonies(&self) -> u32 {
         self.word(1)
     }

@@ -21,7 +21,7 @@ pub enum Refusal {
     OtherSeason,
     /// 4: house number, sender or entry number not in the book.
     NotInBook,
-    /// 5: not plausible.
+    /// 5: not plausible, by the sheet's test ([`Sheet::judge`](crate::Sheet::judge)). A declaration with no colonies never is.
     NotPlausible,
     /// 6: SEND not from the entry's sender.
     NotFromSender,

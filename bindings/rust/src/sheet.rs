@@ -112,13 +112,23 @@ impl Sheet {
         })
     }
 
-    /// "Judging takes a sheet and a declaration and answers 10, then 5, else 0."
+    /// "Judging takes a sheet and a declaration and answers 10, then 5, else 0." Publishing and receiving judge alike, by the book's sheet.
+    ///
+    /// "A declaration is plausible exactly when it has at least one colony, kilograms is at most colonies times cap (the exact product),
+    /// neither reading is NaN or infinite, and each reading is within its gate by float comparison. So a declaration with no colonies
+    /// isn't plausible, whatever its weight."
     ///
     /// ```
     /// use grassmunch::{Declaration, Gate, Refusal, Sheet};
     /// let sheet = Sheet { cap: 20, moisture: Gate::Open, conductivity: Gate::Open };
     /// assert_eq!(sheet.judge(&Declaration::new(77, 40, 800, 17.5, 0.5)), Ok(()));
     /// assert_eq!(sheet.judge(&Declaration::new(77, 40, 801, 17.5, 0.5)), Err(Refusal::NotPlausible));
+    ///
+    /// // no bees, no honey; but a colony may have given none
+    /// assert_eq!(sheet.judge(&Declaration::new(77, 0, 0, 17.5, 0.5)), Err(Refusal::NotPlausible));
+    /// assert_eq!(sheet.judge(&Declaration::new(77, 0, 1, 17.5, 0.5)), Err(Refusal::NotPlausible));
+    /// assert_eq!(sheet.judge(&Declaration::new(77, 1, 0, 17.5, 0.5)), Ok(()));
+    ///
     /// let crossed = Sheet { moisture: Gate::Between { low: 2.0, high: 1.0 }, ..sheet };
     /// assert_eq!(crossed.judge(&Declaration::new(77, 40, 801, 17.5, 0.5)), Err(Refusal::SheetNotLegal));
     /// ```
