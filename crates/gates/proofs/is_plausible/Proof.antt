@@ -1,6 +1,6 @@
 -- `gates::is_plausible` meets its contract.
 use native.Mathlib.Omega.{arith}
-use mathlib.Core.Path.{_≡_, sym, ap, _∙_}
+use mathlib.Core.Path.{sym, ap, _∙_}
 use mathlib.Core.Bool.{true≢false}
 use Rattle.sheet.specs.declared.Readings.{Readings}
 use Rattle.sheet.specs.Sheet.{finite, admitted}
@@ -37,13 +37,10 @@ admits-requires c κs =
 -- every test passed, and the readings decide
 returns : tie.Need-returns
 returns c =
-    let moisture = c .before .before .before .before .before in
-    let m = moisture .before .before in
-    let taken = m .before .before .if1 .taken in
-    let weight = rw (m .most .ensures) at (moisture .before .if2 .taken) in
-    let given = m .before .before .before .before .args in
+    let taken = c .before .before .before .before in
+    let given = taken .before .before .before .before .before .before .before .args in
     c .admits .ensures ∙ ap (admitted (given .sheet)) (c .before .readings-of .ensures)
-    ∙ sym (readings-decide (given .sheet) (given .d) (omega arith) weight)
+    ∙ sym (readings-decide (given .sheet) (given .d) (omega arith) (omega arith))
 
 -- a reading is not finite
 returns-2 : tie.Need-returns-2
@@ -54,19 +51,11 @@ returns-3 c = not-plausible _ _ (λ p. true≢false (sym (p .moisture-finite) �
 
 -- too many kilograms
 returns-4 : tie.Need-returns-4
-returns-4 c =
-    let before = c .before .before .before in
-    let taken = before .if1 .taken in
-    let heavy = rw (c .before .most .ensures) at (c .if2 .left) in
-    let given = before .before .before .args in
-    sym (too-heavy (given .sheet) (given .d) (omega arith) heavy)
+returns-4 c = sym (too-heavy _ _ (omega arith) (omega arith))
 
 -- no colonies
 returns-5 : tie.Need-returns-5
-returns-5 c =
-    let left = c .if1 .left in
-    let given = c .before .before .args in
-    sym (no-colonies (given .sheet) (given .d) (omega arith))
+returns-5 c = sym (no-colonies _ _ (omega arith))
 
 pub is-plausible-spec : {M : Type 1} → statement M
 is-plausible-spec =
