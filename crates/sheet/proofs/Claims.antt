@@ -1,7 +1,7 @@
 -- What this crate promises holds.
 use Rattle.sheet.proofs.Exactly.{plausible-exactly, no-colonies, no-kilograms}
 use Rattle.sheet.specs.Claims.{Claims}
-use Rattle.sheet.proofs.OneForm.{sheet-of-bytes, legal-bytes, judged-bytes, bytes-of-sheet, one-form}
+use Rattle.sheet.proofs.OneForm.{sheet-of-bytes, legal-bytes, judged-bytes, judged-exactly, bytes-of-sheet, one-form}
 
 pub claims : Claims
 claims =
@@ -12,6 +12,7 @@ claims =
       sheet-of-bytes = sheet-of-bytes;
       legal-bytes = legal-bytes;
       judged-bytes = judged-bytes;
+      judged-exactly = judged-exactly;
       bytes-of-sheet = bytes-of-sheet;
       one-form = one-form;
     }

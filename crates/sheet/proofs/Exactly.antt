@@ -39,6 +39,17 @@ readings-decide s d colony weight = and-true _ _ (le-leb _ _ colony) ∙ and-tru
 -- ---- the conditions
 
 module _ (s : Sheet) (d : Declaration) where
+  from : Plausible s d → plausible s d ≡ true
+  unfolding admitted passes
+  from p =
+      rw (
+        readings-decide s d (p .colony) (p .weight),
+        p .moisture-finite,
+        p .conductivity-finite,
+        p .moisture-within,
+        p .conductivity-within,
+      )
+
   read : 1 ≤ d .colonies → d .kilograms ≤ d .colonies * s .cap → admitted s (readingsOf d) ≡ true → Plausible s d
   unfolding admitted passes
   read colony weight a =
@@ -65,17 +76,6 @@ module _ (s : Sheet) (d : Declaration) where
         ]
         | no f ↦ absurd (true≢false (sym h ∙ no-colonies s d (omega arith)))
       ]
-
-  from : Plausible s d → plausible s d ≡ true
-  unfolding admitted passes
-  from p =
-      rw (
-        readings-decide s d (p .colony) (p .weight),
-        p .moisture-finite,
-        p .conductivity-finite,
-        p .moisture-within,
-        p .conductivity-within,
-      )
 
   pub plausible-exactly : (plausible s d ≡ true) ↔ Plausible s d
   plausible-exactly = (to, from)

@@ -1,7 +1,8 @@
--- A sheet and its 22 bytes settle each other, so a sheet has one byte form; judging at the bytes is judging.
+-- A sheet and its 22 bytes settle each other, so a sheet has one byte form; judging at the bytes is judging, and its 0 is told plainly.
 use Prim.Native.Nat.{ℕ, _+_, _^_, _<_}
 use mathlib.Core.Path.{_≡_, refl, sym, ap, ap₂, _∙_}
 use mathlib.Core.Bool.{Bool, true, false, cond, _&&_, and-eq-true-iff}
+use mathlib.Core.Logic.{_↔_}
 use mathlib.Core.List.{List, _∷_, _++_}
 use lib.Dec.{eqb}
 use lib.Ieee.{Float, binary32, ofBits}
@@ -18,11 +19,12 @@ use Rattle.sheet.specs.declared.Gate.the-variants.{Open, AtMost, Between
 use Rattle.sheet.specs.declared.Sheet.{Sheet}
 use Rattle.sheet.specs.declared.Kept.{Kept}
 use Rattle.lot.specs.declared.Declaration.{Declaration}
-use Rattle.lot.specs.Declaration.{bytesOf}
-use Rattle.sheet.specs.Sheet.{GateFits, gateLegal, sheetLegal, plausible, judgedBy}
+use Rattle.lot.specs.Declaration.{bytesOf, declarationAt}
+use Rattle.sheet.specs.Sheet.{GateFits, gateLegal, sheetLegal, plausible, Plausible, judgedBy}
 use Rattle.sheet.specs.Kept.{keptOf, keptBytes, laid, sheetBytes, gateOf, keptForm, keptLegal, keptAt, sheetAt, sheetLegalAt, isSheet}
 use Rattle.sheet.specs.Kept.{judged, sheetLength}
 use Rattle.lot.proofs.Declared.{numbers-of-bytes}
+use Rattle.sheet.proofs.Exactly.{plausible-exactly}
 use Rattle.sheet.proofs.Finite.{no-nan, at-most-finite, low-finite, high-finite}
 use Rattle.sheet.proofs.Gates.{legal-gate, sheet-sized}
 
@@ -180,3 +182,20 @@ module _ (b : List ℕ) (bytes : Bytes b) (h : isSheet b ≡ true) where
 -- one byte form per meaning
 pub one-form : (b c : List ℕ) → Bytes b → Bytes c → isSheet b ≡ true → isSheet c ≡ true → sheetAt b 0 ≡ sheetAt c 0 → b ≡ c
 one-form b c x y h k e = sym (bytes-of-sheet b x h) ∙ ap sheetBytes e ∙ bytes-of-sheet c y k
+
+-- ---- judging at the bytes answers 0 exactly when all conditions hold
+
+zero-only : (legal ok : Bool) → _≡_ {A = ℕ} (cond legal (cond ok 0 5) 10) 0 → (legal ≡ true) × (ok ≡ true)
+zero-only true true e = (refl, refl)
+zero-only true false e = absurd (omega arith)
+zero-only false ok e = absurd (omega arith)
+
+pub judged-exactly : (s d : List ℕ) → (judged s d ≡ 0) ↔ ((isSheet s ≡ true) × Plausible (sheetAt s 0) (declarationAt d 0))
+unfolding judged
+judged-exactly s d =
+    let sheet = sheetAt s 0 in
+    let declaration = declarationAt d 0 in
+    let exactly = plausible-exactly sheet declaration in (
+      λ h. let z = zero-only (isSheet s) (plausible sheet declaration) h in (z .0, exactly .0 (z .1)),
+      λ p. rw (p .0, exactly .1 (p .1)),
+    )

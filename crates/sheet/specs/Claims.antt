@@ -7,7 +7,7 @@ use mathlib.Core.List.{List}
 use Rattle.words.specs.Words.{Bytes}
 use Rattle.sheet.specs.declared.Sheet.{Sheet}
 use Rattle.lot.specs.declared.Declaration.{Declaration}
-use Rattle.lot.specs.Declaration.{bytesOf}
+use Rattle.lot.specs.Declaration.{bytesOf, declarationAt}
 use Rattle.sheet.specs.Sheet.{GateFits, sheetLegal, judgedBy, plausible, Plausible, admitted, readingsOf}
 use Rattle.sheet.specs.Kept.{sheetBytes, sheetAt, isSheet, judged}
 
@@ -27,6 +27,9 @@ pub record Claims : Type 0 where
   -- and judging at the bytes is judging by that sheet.
   pub judged-bytes : (sheet : Sheet) → GateFits (sheet .moisture) → GateFits (sheet .conductivity) → (d : Declaration)
       → judged (sheetBytes sheet) (bytesOf d) ≡ judgedBy sheet d
+  -- At any bytes it answers 0 exactly when they are a legal sheet's and these conditions hold of what they read as.
+  pub judged-exactly : (sheet declaration : List ℕ)
+      → (judged sheet declaration ≡ 0) ↔ ((isSheet sheet ≡ true) × Plausible (sheetAt sheet 0) (declarationAt declaration 0))
   -- Bytes that are a legal sheet's are the bytes of the sheet that they read as,
   pub bytes-of-sheet : (b : List ℕ) → Bytes b → isSheet b ≡ true → sheetBytes (sheetAt b 0) ≡ b
   -- so a sheet has one byte form.
