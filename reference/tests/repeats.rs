@@ -3,7 +3,7 @@
 
 use crate::common::{differs, said, shows, Slipped, Slips};
 use reference::testing::claims::Fault;
-use reference::testing::forms::{place_of, put, slot_at};
+use reference::testing::forms::{held, place_of, put, slot_at};
 use reference::testing::{pairs, refusals, repeats, vouchers};
 use reference::{Declaration, Kind, Message, Outcome, Reference};
 
@@ -67,12 +67,6 @@ struct Slipping(Slip);
 fn slot_of(book: &[u8], house: u32, message: &Message) -> usize {
     let place = place_of(message.kind, book[0], house as usize);
     slot_at(book, message.number, message.sender, place)
-}
-
-/// What the slot that begins here holds.
-fn held(book: &[u8], at: usize) -> Option<Declaration> {
-    let held = book[at + 1..at + 21].try_into().expect("20 bytes");
-    (book[at] == 1).then_some(held)
 }
 
 /// 7 where these are the same, 13 where they are not.
@@ -318,7 +312,7 @@ fn every_slip_differs_from_no_slip() {
 
 /// What a season shows of each slip that a season can tell: what stands in one is plausible, and by which
 /// answer a publication is refused is not asked.
-const SHOWN: [(Slip, &[Fault]); 13] = [
+const SHOWN: [(Slip, &[Fault]); 12] = [
     (Slip::CallsAllRepeats, &[Fault::Repeat, Fault::Conflict]),
     (
         Slip::CallsAllConflicts,
@@ -342,7 +336,6 @@ const SHOWN: [(Slip, &[Fault]); 13] = [
         Slip::ComparesTheNext,
         &[Fault::HonestCalledLiar, Fault::Repeat],
     ),
-    (Slip::ZerosAreNone, &[Fault::RepeatAccepted, Fault::Repeat]),
     (
         Slip::RecordsConflicts,
         &[Fault::UncleanRefusal, Fault::Repeat],
