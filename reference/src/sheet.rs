@@ -92,8 +92,9 @@ impl Sheet {
         })
     }
 
-    /// "Kilograms is at most colonies times cap (the exact product), neither reading is NaN or infinite,
-    /// and each reading is within its gate by float comparison."
+    /// "It has at least one colony, kilograms is at most colonies times cap (the exact product), neither
+    /// reading is NaN or infinite, and each reading is within its gate by float comparison." So one with no
+    /// colonies isn't plausible, whatever its weight.
     pub fn is_plausible(&self, declaration: &Declaration) -> bool {
         let colonies = u64::from(word(declaration, 4));
         let kilograms = u64::from(word(declaration, 8));
@@ -101,7 +102,8 @@ impl Sheet {
             moisture: f32::from_bits(word(declaration, 12)),
             conductivity: f32::from_bits(word(declaration, 16)),
         };
-        kilograms <= colonies * u64::from(self.cap)
+        colonies >= 1
+            && kilograms <= colonies * u64::from(self.cap)
             && self.moisture.admits(readings.moisture)
             && self.conductivity.admits(readings.conductivity)
     }

@@ -2,6 +2,7 @@
 
 mod attacks;
 mod calls;
+mod colonies;
 mod common;
 mod pairs;
 mod readings;

@@ -1,9 +1,9 @@
 //! The same declaration again, or a different one: libraries with a slip each, to see that the checks of
 //! single calls see it, and the claims of a season where a season can tell.
 
-use crate::common::{differs, said, shows, Slipped, Slips};
+use crate::common::{self, all_caught, all_differ, all_let_pass, all_shown, Caught, Slips};
 use reference::testing::claims::Fault;
-use reference::testing::forms::{place_of, put, slot_at};
+use reference::testing::forms::{held, place_of, put, slot_at};
 use reference::testing::{pairs, refusals, repeats, vouchers};
 use reference::{Declaration, Kind, Message, Outcome, Reference};
 
@@ -67,12 +67,6 @@ struct Slipping(Slip);
 fn slot_of(book: &[u8], house: u32, message: &Message) -> usize {
     let place = place_of(message.kind, book[0], house as usize);
     slot_at(book, message.number, message.sender, place)
-}
-
-/// What the slot that begins here holds.
-fn held(book: &[u8], at: usize) -> Option<Declaration> {
-    let held = book[at + 1..at + 21].try_into().expect("20 bytes");
-    (book[at] == 1).then_some(held)
 }
 
 /// 7 where these are the same, 13 where they are not.
@@ -159,8 +153,7 @@ impl Slips for Slipping {
     }
 }
 
-/// A check of one library, under its name.
-type Check = (&'static str, fn(&mut Slipped<Slipping>));
+type Check = common::Check<Slipping>;
 
 const BYTES: Check = ("each of the 20 bytes", |library| {
     repeats::every_byte(library);
@@ -186,8 +179,7 @@ const COUNTS: Check = ("the counts on any legal book", |library| {
 
 const ALL: [Check; 7] = [BYTES, MISTAKEN, ANY_BOOK, PAIRS, PUBLISHING, CALLS, COUNTS];
 
-/// Each slip, what is said of it by checks that know what is due, and which others catch it too.
-const CAUGHT: [(Slip, &str, &[Check], &[Check]); 15] = [
+const CAUGHT: [Caught<Slip, Slipping>; 15] = [
     (
         Slip::CallsAllRepeats,
         "7 is answered where 13 is due",
@@ -282,43 +274,26 @@ const CAUGHT: [(Slip, &str, &[Check], &[Check]); 15] = [
 
 #[test]
 fn every_slip_is_caught() {
-    for (slip, sentence, checks, others) in CAUGHT {
-        let caught = |(name, check): &Check| {
-            let said = said(|| check(&mut Slipped(Slipping(slip))));
-            said.unwrap_or_else(|| panic!("{slip:?} is not seen by: {name}"))
-        };
-        for check in checks {
-            let said = caught(check);
-            assert!(said.contains(sentence), "{slip:?}, by {}: {said}", check.0);
-        }
-        for check in others {
-            caught(check);
-        }
-    }
+    all_caught(Slipping, &CAUGHT);
 }
 
 #[test]
 fn no_slip_is_let_pass() {
-    for (name, check) in ALL {
-        let said = said(|| check(&mut Slipped(Slipping(Slip::None))));
-        assert_eq!(said, None, "{name}");
-    }
+    all_let_pass(|| Slipping(Slip::None), &ALL);
 }
 
 /// Drawn calls show every slip.
 #[test]
 fn every_slip_differs_from_no_slip() {
-    for (slip, ..) in CAUGHT {
-        differs(&format!("{slip:?}"), Slipping(slip), |both| {
-            repeats::any_book(both, 2026, 400);
-            refusals::calls(both, 2026, 400);
-        });
-    }
+    all_differ(Slipping, CAUGHT.map(|row| row.0), |both| {
+        repeats::any_book(both, 2026, 400);
+        refusals::calls(both, 2026, 400);
+    });
 }
 
 /// What a season shows of each slip that a season can tell: what stands in one is plausible, and by which
 /// answer a publication is refused is not asked.
-const SHOWN: [(Slip, &[Fault]); 13] = [
+const SHOWN: [(Slip, &[Fault]); 12] = [
     (Slip::CallsAllRepeats, &[Fault::Repeat, Fault::Conflict]),
     (
         Slip::CallsAllConflicts,
@@ -342,7 +317,6 @@ const SHOWN: [(Slip, &[Fault]); 13] = [
         Slip::ComparesTheNext,
         &[Fault::HonestCalledLiar, Fault::Repeat],
     ),
-    (Slip::ZerosAreNone, &[Fault::RepeatAccepted, Fault::Repeat]),
     (
         Slip::RecordsConflicts,
         &[Fault::UncleanRefusal, Fault::Repeat],
@@ -359,10 +333,5 @@ const SHOWN: [(Slip, &[Fault]); 13] = [
 
 #[test]
 fn every_fault_of_a_repeat_can_be_seen() {
-    for (slip, faults) in SHOWN {
-        for &fault in faults {
-            let shown = shows(|| Slipping(slip), fault);
-            assert!(shown, "{slip:?} does not show {fault:?}");
-        }
-    }
+    all_shown(Slipping, &SHOWN);
 }

@@ -1,28 +1,32 @@
 //! Whole seasons with wrong houses, and with houses that crash and return; and libraries with a slip each,
 //! to see that the claims see it.
 
-use crate::common::{shows, Slips};
+use crate::common::{all_shown, Slips};
 use reference::testing::both::Both;
 use reference::testing::claims::Fault;
-use reference::testing::scheduler::{self, carrier, directed};
+use reference::testing::scheduler::{self, carrier, colonies, directed};
 use reference::testing::season::moments::{Moment, Tally};
 use reference::{Counts, Declaration, Message, Outcome, Reference, Returned, SentAnswer};
 use std::collections::HashSet;
 
-/// In the seasons of one test copies are brought again so often at least, and wrong houses say the same again
-/// and another thing.
-const AGAIN: [(Moment, usize); 6] = [
+/// In the seasons of one test copies are brought again so often at least, wrong houses say the same again and
+/// another thing, and no colonies are told of and published.
+const OFTEN: [(Moment, usize); 10] = [
     (Moment::BroughtAgain, 20_000),
     (Moment::BroughtOften, 10_000),
     (Moment::BroughtLate, 10_000),
     (Moment::BroughtAfterReturn, 1_000),
     (Moment::WrongRepeat, 2_000),
     (Moment::Conflict, 2_000),
+    (Moment::NoColonies, 1_000),
+    (Moment::NoColoniesAgain, 800),
+    (Moment::NoColoniesPublished, 200),
+    (Moment::PublishedAfterNone, 80),
 ];
 
 /// Panics where it was less often.
-fn often_again(tally: &Tally) {
-    let rare = tally.rare(&AGAIN);
+fn came_often(tally: &Tally) {
+    let rare = tally.rare(&OFTEN);
     assert!(rare.is_empty(), "it seldom came about: {rare:?}");
 }
 
@@ -36,7 +40,7 @@ fn up_to_seven_houses() {
     }
     let missing = tally.missing();
     assert!(missing.is_empty(), "it never came about: {missing:?}");
-    often_again(&tally);
+    came_often(&tally);
 }
 
 #[test]
@@ -47,7 +51,7 @@ fn eight_to_sixteen_houses() {
     }
     let missing = tally.missing();
     assert!(missing.is_empty(), "it never came about: {missing:?}");
-    often_again(&tally);
+    came_often(&tally);
 }
 
 #[test]
@@ -56,7 +60,7 @@ fn t_wrong_one_less_none_and_one_more() {
     for (n, s) in (1..=16).map(|n| (n, 1)).chain([(5, 2), (7, 3), (4, 4)]) {
         tally.add_all(&scheduler::hostile(&mut Reference, 2026, n, s));
     }
-    often_again(&tally);
+    came_often(&tally);
 }
 
 #[test]
@@ -80,13 +84,19 @@ fn a_liar_and_a_nervous_carrier_step_by_step() {
 }
 
 #[test]
+fn no_colonies_told_and_published() {
+    colonies::told(&mut Reference);
+    colonies::published(&mut Reference);
+}
+
+#[test]
 fn a_nervous_carrier_changes_nothing() {
     let mut tally = Tally::default();
     for (n, seasons) in (1..=7).map(|n| (n, 40)).chain([(10, 8), (16, 2)]) {
         let came = carrier::changes_nothing(&mut Reference, 2026, n, 1 + n % 3, seasons);
         tally.add_all(&came);
     }
-    often_again(&tally);
+    came_often(&tally);
 }
 
 #[test]
@@ -403,10 +413,5 @@ fn every_fault_of_a_crash_can_be_seen() {
         (Slip::RefusesRepeats, &[Fault::HonestCopyRefused]),
         (Slip::AcceptsRepeats, &[Fault::RepeatAccepted]),
     ];
-    for (slip, faults) in slips {
-        for &fault in faults {
-            let shown = shows(|| Slipping::new(slip), fault);
-            assert!(shown, "{slip:?} does not show {fault:?}");
-        }
-    }
+    all_shown(Slipping::new, &slips);
 }

@@ -133,6 +133,7 @@ fn every_fault_can_be_seen() {
         (Slip::DeliversOnReady, Fault::NotPublished),
         (Slip::DeliversOnReady, Fault::Disagreement),
         (Slip::JudgesNothing, Fault::Implausible),
+        (Slip::JudgesNothing, Fault::ImplausibleAccepted),
         (Slip::NeverWaits, Fault::Waiting),
     ];
     for (slip, fault) in slips {

@@ -2,7 +2,7 @@
 //! caught by a check that knows the answer, and again by drawn calls beside a library that does not
 //! slip.
 
-use crate::common::{differs, said, Slipped, Slips};
+use crate::common::{self, all_differ, all_let_pass, said, Slipped, Slips};
 use reference::testing::forms::{slot_at, slots_from};
 use reference::testing::{books, openings, pairs, refusals, requests, returns, rows, vouchers};
 use reference::{
@@ -326,8 +326,7 @@ impl Slips for Slipping {
     }
 }
 
-/// A check of one library, under its name.
-type Check = (&'static str, fn(&mut Slipped<Slipping>));
+type Check = common::Check<Slipping>;
 
 const OPENINGS: Check = ("openings with every f and d", |library| {
     openings::every_f_and_d(library);
@@ -469,14 +468,7 @@ fn a_return_in_another_season_is_caught() {
 
 #[test]
 fn no_slip_is_let_pass() {
-    for (name, check) in ALL {
-        let slip = Slip::None;
-        assert_eq!(
-            said(|| check(&mut Slipped(Slipping { slip }))),
-            None,
-            "{name}"
-        );
-    }
+    all_let_pass(|| Slipping { slip: Slip::None }, &ALL);
 }
 
 /// All slips.
@@ -490,11 +482,13 @@ fn slips() -> Vec<Slip> {
 /// Drawn calls show every slip.
 #[test]
 fn every_slip_differs_from_no_slip() {
-    for slip in slips() {
-        differs(&format!("{slip:?}"), Slipping { slip }, |both| {
+    all_differ(
+        |slip| Slipping { slip },
+        slips(),
+        |both| {
             openings::openings(both, 2026, 1_000);
             returns::any_book(both, 2026, 200);
             refusals::calls(both, 2026, 4_000);
-        });
-    }
+        },
+    );
 }

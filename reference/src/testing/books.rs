@@ -1,8 +1,8 @@
 //! Which bytes are a legal book, and the earliest waiting entry of any legal book.
 
 use super::forms::{
-    fresh, honey, message, open_sheet, random_book, random_declaration, random_pool, request_of,
-    slots_from, SEASON,
+    fresh, held, honey, message, open_sheet, random_book, random_declaration, random_pool,
+    request_of, slot_at, slots_from, SEASON,
 };
 use super::random::Random;
 use crate::Library;
@@ -188,8 +188,24 @@ pub fn helped_and_down(library: &mut impl Library, seed: u64) {
     assert!(found.iter().all(|&count| count > 100), "both: {found:?}");
 }
 
-/// "Lowest number first and then lowest sender, with a SEND heard and nothing delivered; or a plain none."
-/// And any slots make a legal book.
+/// Whether an entry waits in this legal book. The one that is named is the earliest by the layout: "lowest
+/// number first and then lowest sender, with a SEND heard and nothing delivered; or a plain none."
+pub(super) fn waits(library: &mut impl Library, book: &[u8]) -> bool {
+    let last = 2 * usize::from(book[0]) + 2;
+    let full = |number, sender, place| held(book, slot_at(book, number, sender, place)).is_some();
+    let entries = (0..book[1]).flat_map(|number| (0..book[0]).map(move |sender| (number, sender)));
+    let mut waits = entries.filter(|&(number, sender)| {
+        let [heard, delivered] = [0, last].map(|place| full(number, sender, place));
+        heard && !delivered
+    });
+    let waiting = library.waiting(book);
+    assert_eq!(waiting.answer, 0, "any slots make a legal book");
+    let entry = waiting.entry.map(|entry| (entry.number, entry.sender));
+    assert_eq!(entry, waits.next(), "the earliest waiting entry");
+    entry.is_some()
+}
+
+/// The earliest waiting entry of any legal book: any slots make one.
 pub fn waiting(library: &mut impl Library, seed: u64, books: usize) {
     let mut random = Random::new(seed);
     let mut found = [0usize; 2];
@@ -206,22 +222,7 @@ pub fn waiting(library: &mut impl Library, seed: u64, books: usize) {
                 }
             }
         }
-        let full = |slot: usize| book[slots_from(book[0]) + 21 * slot] == 1;
-        let mut expected = None;
-        'search: for number in 0..s {
-            for sender in 0..n {
-                let first = s + (number * n + sender) * size;
-                if full(first) && !full(first + size - 1) {
-                    expected = Some((number as u8, sender as u8));
-                    break 'search;
-                }
-            }
-        }
-        let waiting = library.waiting(&book);
-        assert_eq!(waiting.answer, 0, "any slots make a legal book");
-        let entry = waiting.entry.map(|entry| (entry.number, entry.sender));
-        assert_eq!(entry, expected, "the earliest waiting entry");
-        found[usize::from(entry.is_some())] += 1;
+        found[usize::from(waits(library, &book))] += 1;
     }
     assert!(
         found[0] > 0 && found[1] > 0,

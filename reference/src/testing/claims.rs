@@ -1,5 +1,5 @@
-//! The claims of document 01 and of requests 2026-03 and 2026-10 over a season, held to what was seen of it
-//! from outside.
+//! The claims of document 01 and of requests 2026-03, 2026-04 and 2026-10 over a season, held to what was seen of
+//! it from outside.
 
 use super::season::moments::{Moment, Tally};
 use super::season::Season;
@@ -27,6 +27,8 @@ pub enum Fault {
     PublicationRefused,
     /// A second publication at a number was accepted.
     PublishedTwice,
+    /// A declaration was published or accepted that is not plausible.
+    ImplausibleAccepted,
     /// A refusal changed the book, or carried a message, a delivery or help.
     UncleanRefusal,
     /// A call gave what no step of document 01 gives.
@@ -74,6 +76,8 @@ pub struct Finding {
 pub(super) struct Seen {
     /// The accepted publication.
     pub published: Option<Declaration>,
+    /// Before that its sender tried to publish one with no colonies.
+    pub refused_bare: bool,
     /// For each house, whether it accepted a SEND.
     pub heard: Vec<bool>,
     /// For each house, what it delivered first.

@@ -56,10 +56,22 @@ pub fn honey(lot: u32, colonies: u32, kilograms: u32) -> Declaration {
     )
 }
 
+/// Whether it has a colony, by its bytes alone.
+pub fn has_colonies(v: &Declaration) -> bool {
+    v[4..8] != [0; 4]
+}
+
+/// The same with so many colonies.
+pub fn with_colonies(v: &Declaration, colonies: u32) -> Declaration {
+    let mut other = *v;
+    other[4..8].copy_from_slice(&colonies.to_be_bytes());
+    other
+}
+
 /// Pairs of plausible declarations that are easily taken for one, or for none: the sign of a zero apart, in each
-/// reading; the largest lot beside others; the last bit of the kilograms apart; and all zeros, as an empty slot
-/// has them.
-pub fn twins() -> [[Declaration; 2]; 6] {
+/// reading; the largest lot beside others; the last bit of the kilograms apart; the first byte of the colonies
+/// and the last; and zeros but for one colony, which is as near as they come to an empty slot.
+pub fn twins() -> [[Declaration; 2]; 7] {
     let zero = |moisture, conductivity| declaration(77, 40, 800, [moisture, conductivity]);
     let usual = [17.5f32.to_bits(), 0.5f32.to_bits()];
     [
@@ -68,7 +80,8 @@ pub fn twins() -> [[Declaration; 2]; 6] {
         [honey(u32::MAX, 40, 800), honey(0, 40, 800)],
         [honey(0x7FFF_FFFF, 40, 800), honey(u32::MAX, 40, 800)],
         [honey(77, 40, 800), honey(77, 40, 799)],
-        [declaration(0, 0, 0, [0; 2]), declaration(1, 0, 0, [0; 2])],
+        [honey(77, 1 << 24, 0), honey(77, 1, 0)],
+        [declaration(0, 1, 0, [0; 2]), declaration(1, 1, 0, [0; 2])],
     ]
 }
 
@@ -160,11 +173,22 @@ pub fn slot_at(book: &[u8], number: u8, sender: u8, place: usize) -> usize {
     slots_from(book[0]) + 21 * (s + entry * (2 * n + 3) + place)
 }
 
+/// Where the slot begins of what was published at this number.
+pub fn published_at(book: &[u8], number: u8) -> usize {
+    slots_from(book[0]) + 21 * usize::from(number)
+}
+
 /// The slot that begins here holds this, or is empty.
 pub fn put(book: &mut [u8], at: usize, held: Option<&Declaration>) {
     let slot = &mut book[at..at + 21];
     slot[0] = u8::from(held.is_some());
     slot[1..].copy_from_slice(held.unwrap_or(&[0; 20]));
+}
+
+/// What the slot that begins here holds.
+pub fn held(book: &[u8], at: usize) -> Option<Declaration> {
+    let held = book[at + 1..at + 21].try_into().expect("20 bytes");
+    (book[at] == 1).then_some(held)
 }
 
 /// A number below `bound`, or at times one that is not.
@@ -200,8 +224,8 @@ pub fn random_declaration(random: &mut Random) -> Declaration {
     declaration(lot, colonies, kilograms, readings)
 }
 
-/// A few declarations, so that houses vouch for the same: plausible ones that differ in one bit, twins, and
-/// one of any kind.
+/// A few declarations, so that houses vouch for the same: plausible ones that differ in one bit, twins, one with
+/// no colonies, and one of any kind.
 pub fn random_pool(random: &mut Random) -> Vec<Declaration> {
     let mut odd = honey(1, 40, 40);
     odd[random.below(4)] ^= 1 << random.below(8);
@@ -211,6 +235,7 @@ pub fn random_pool(random: &mut Random) -> Vec<Declaration> {
         odd,
         one,
         other,
+        random.pick(&[[0; 20], honey(1, 0, 0), honey(1, 0, 1), honey(1, 0, 40)]),
         random_declaration(random),
     ]
 }
@@ -258,13 +283,18 @@ pub fn redraw_helped(random: &mut Random, book: &mut [u8]) {
     }
 }
 
-/// A legal book that no run need ever reach: f is any that fits, d and the help counts are any, and any
-/// slot is full with any 20 bytes, often a few of a pool.
+/// A legal book that no run need ever reach, more often than not of up to seven houses.
 pub fn random_book(random: &mut Random, pool: &[Declaration]) -> Vec<u8> {
     let n = match random.below(4) {
         0 => 1 + random.below(16),
         _ => 1 + random.below(7),
-    } as u8;
+    };
+    random_book_of(random, n as u8, pool)
+}
+
+/// One of so many houses: f is any that fits, d and the help counts are any, and any slot is full with any 20
+/// bytes, often a few of a pool.
+pub fn random_book_of(random: &mut Random, n: u8, pool: &[Declaration]) -> Vec<u8> {
     let s = 1 + random.below(4) as u8;
     let own = random.below(usize::from(n)) as u8;
     let season = random.pick(&[SEASON, 0, u32::MAX]);

@@ -4,6 +4,7 @@
 pub mod books;
 pub mod both;
 pub mod claims;
+pub mod colonies;
 pub mod forms;
 pub mod openings;
 pub mod pairs;

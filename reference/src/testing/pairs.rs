@@ -15,6 +15,7 @@ struct Receiving {
     season: u32,
     sender: u8,
     number: u8,
+    colonies: u32,
     kilograms: u32,
     /// The lot of what the book heard. The rest of it is as the message has it.
     heard: u32,
@@ -25,7 +26,7 @@ type Error<T> = (u8, &'static str, fn(&mut T));
 
 /// The errors of receiving, of each number the SEND's first. Where two touch the same field, they make both
 /// errors in this order.
-const RECEIVING: [Error<Receiving>; 18] = [
+const RECEIVING: [Error<Receiving>; 21] = [
     (7, "SEND again", |r| (r.kind, r.house) = (1, 2)),
     (7, "ECHO again", |r| (r.kind, r.house) = (2, 0)),
     (7, "READY again", |r| (r.kind, r.house) = (3, 3)),
@@ -40,6 +41,13 @@ const RECEIVING: [Error<Receiving>; 18] = [
     }),
     (6, "not the sender", |r| (r.kind, r.house) = (1, 3)),
     (5, "kilograms", |r| r.kilograms = 801),
+    (5, "no colonies", |r| r.colonies = 0),
+    (5, "no colonies, one kilogram", |r| {
+        (r.colonies, r.kilograms) = (0, 1);
+    }),
+    (5, "no colonies, no kilograms", |r| {
+        (r.colonies, r.kilograms) = (0, 0);
+    }),
     (4, "house", |r| r.house = 4),
     (4, "house, beyond a byte", |r| r.house = 257),
     (4, "house, the largest", |r| r.house = u32::MAX),
@@ -98,18 +106,19 @@ fn received(library: &mut impl Library, errors: &[&Error<Receiving>]) -> u8 {
         season: SEASON,
         sender: 2,
         number: 0,
+        colonies: 40,
         kilograms: 800,
         heard: 77,
     };
     for (_, _, error) in errors {
         error(&mut call);
     }
-    let mut lent = book(&honey(call.heard, 40, call.kilograms));
+    let mut lent = book(&honey(call.heard, call.colonies, call.kilograms));
     if call.damaged {
         lent[slots_from(4)] = 2;
     }
     let before = lent.clone();
-    let declaration = honey(77, 40, call.kilograms);
+    let declaration = honey(77, call.colonies, call.kilograms);
     let bytes = message(
         call.kind,
         call.season,
@@ -128,7 +137,7 @@ fn received(library: &mut impl Library, errors: &[&Error<Receiving>]) -> u8 {
 }
 
 /// Accepted; or the book the same, no message, no delivery and no help.
-fn clean(outcome: &Outcome, same: bool) -> bool {
+pub(super) fn clean(outcome: &Outcome, same: bool) -> bool {
     let carries = outcome.message.is_some() || outcome.delivery.is_some() || outcome.helps;
     outcome.answer == 0 || (same && !carries)
 }
@@ -255,9 +264,22 @@ pub fn nobody_to_help(library: &mut impl Library) {
     }
 }
 
+/// Colonies and kilograms that are not plausible by a cap of 20.
+const IMPLAUSIBLE: [[u32; 2]; 4] = [[40, 801], [0, 0], [0, 1], [0, 800]];
+
 /// Publishing: 1, 4, 5, 8.
 pub fn publishing(library: &mut impl Library) {
-    let (good, bad) = (honey(77, 40, 800), honey(77, 40, 801));
+    let good = honey(77, 40, 800);
+    for [colonies, kilograms] in IMPLAUSIBLE {
+        let bad = honey(77, colonies, kilograms);
+        for stands in [good, bad] {
+            publishes(library, &stands, [good, bad]);
+        }
+    }
+}
+
+/// A plausible declaration and another are published in books where this stands at number 0.
+fn publishes(library: &mut impl Library, stands: &Declaration, [good, bad]: [Declaration; 2]) {
     let other = honey(78, 40, 800);
     let cases = [
         ("no error", false, 1, good, 0),
@@ -276,7 +298,7 @@ pub fn publishing(library: &mut impl Library) {
         ("1+4+5", true, 2, bad, 1),
     ];
     for (name, damaged, number, declaration, answer) in cases {
-        let mut lent = book(&good);
+        let mut lent = book(stands);
         if damaged {
             lent[2] = 4;
         }
@@ -359,18 +381,14 @@ fn opens(
 pub fn judging(library: &mut impl Library) {
     let good = open_sheet();
     let bad = sheet(20, OPEN, Gate::AtMost(f32::INFINITY));
-    let (plausible, implausible) = (honey(77, 40, 800), honey(77, 40, 801));
-    let cases = [
-        ("no error", good, plausible, 0),
-        ("5", good, implausible, 5),
-        ("10", bad, plausible, 10),
-        ("10+5", bad, implausible, 10),
-    ];
-    for (name, sheet, declaration, answer) in cases {
-        assert_eq!(
-            library.judge(&sheet, &declaration),
-            answer,
-            "judging: {name}"
-        );
+    let mut judges = |sheet, [colonies, kilograms]: [u32; 2], answer| {
+        let judged = library.judge(sheet, &honey(77, colonies, kilograms));
+        assert_eq!(judged, answer, "judging {colonies} with {kilograms}");
+    };
+    judges(&good, [40, 800], 0);
+    judges(&bad, [40, 800], 10);
+    for weight in IMPLAUSIBLE {
+        judges(&good, weight, 5);
+        judges(&bad, weight, 10);
     }
 }

@@ -4,6 +4,7 @@ use super::forms::{
     declaration, fresh, fresh_book, honey, message, open_sheet, sheet, twins, EDGE_READINGS, OPEN,
     SEASON,
 };
+use super::pairs::clean;
 use crate::{Gate, Kind, Library};
 
 const USUAL: [u32; 2] = [0x418C_0000, 0x3F00_0000];
@@ -12,8 +13,9 @@ const USUAL: [u32; 2] = [0x418C_0000, 0x3F00_0000];
 pub fn products(library: &mut impl Library) {
     const MAX: u32 = u32::MAX;
     let cases = [
-        (20, 0, 0, 0),
-        (0, 0, 0, 0),
+        (20, 0, 0, 5),
+        (0, 0, 0, 5),
+        (0, 1, 0, 0),
         (0, MAX, 0, 0),
         (0, MAX, 1, 5),
         (MAX, 0, 1, 5),
@@ -39,14 +41,20 @@ pub fn products(library: &mut impl Library) {
         (1 << 16, 1 << 15, (1 << 31) + 1, 5),
     ];
     for (cap, colonies, kilograms, answer) in cases {
-        let which = format!("cap {cap}, {colonies} colonies, {kilograms} kilograms");
-        let v = honey(1, colonies, kilograms);
-        everywhere(library, &sheet(cap, OPEN, OPEN), &v, answer, &which);
+        weighed(library, [cap, colonies, kilograms], answer);
     }
 }
 
+/// By a sheet with this cap and open gates, with document 01's readings.
+pub(super) fn weighed(library: &mut impl Library, weight: [u32; 3], answer: u8) {
+    let [cap, colonies, kilograms] = weight;
+    let which = format!("cap {cap}, {colonies} colonies, {kilograms} kilograms");
+    let v = honey(1, colonies, kilograms);
+    everywhere(library, &sheet(cap, OPEN, OPEN), &v, answer, &which);
+}
+
 /// Judges, publishes and receives, a SEND, an ECHO and a READY: alike, but that a sheet that is not legal makes
-/// no legal book.
+/// no legal book. What is refused changes and carries nothing.
 fn everywhere(
     library: &mut impl Library,
     sheet: &[u8; 22],
@@ -57,12 +65,15 @@ fn everywhere(
     assert_eq!(library.judge(sheet, v), expected, "{which}");
     let expected = if expected == 10 { 1 } else { expected };
     let mut book = fresh_book(1, 1, 0, SEASON, sheet);
-    let published = library.publish(&mut book, 0, v).answer;
-    assert_eq!(published, expected, "published: {which}");
-    for kind in 1..=3 {
-        let bytes = message(kind, SEASON, 0, 0, v);
-        let received = library.receive(&mut book, 0, &bytes).answer;
-        assert_eq!(received, expected, "received as {kind}: {which}");
+    for kind in 0..=3 {
+        let before = book.clone();
+        let outcome = match kind {
+            0 => library.publish(&mut book, 0, v),
+            _ => library.receive(&mut book, 0, &message(kind, SEASON, 0, 0, v)),
+        };
+        let how = ["published", "SEND", "ECHO", "READY"][usize::from(kind)];
+        assert_eq!(outcome.answer, expected, "{how}: {which}");
+        assert!(clean(&outcome, before == book), "not clean, {how}: {which}");
     }
 }
 
@@ -201,7 +212,7 @@ pub fn sheets(library: &mut impl Library) {
 
 /// Whether both judging and opening take these bytes for a legal sheet.
 fn sheet_is(library: &mut impl Library, bytes: &[u8], legal: bool) {
-    let judged = library.judge(bytes, &declaration(0, 0, 0, USUAL));
+    let judged = library.judge(bytes, &declaration(0, 1, 0, USUAL));
     assert_eq!(judged != 10, legal, "judging by the sheet {bytes:?}");
     let mut book = fresh_book(1, 1, 0, SEASON, &open_sheet());
     let opened = library.open(&mut book, 1, 1, 0, 0, 0, SEASON, bytes);

@@ -9,17 +9,18 @@ use super::forms::{
 use super::random::Random;
 use crate::{Declaration, Gate, Kind, Library, Outcome, DECLARATION};
 
-const KINDS: [Kind; 3] = [Kind::Send, Kind::Echo, Kind::Ready];
+/// Each kind of message on an entry.
+pub(super) const KINDS: [Kind; 3] = [Kind::Send, Kind::Echo, Kind::Ready];
 
 /// A message on an entry, and what stands in the slot of its kind and house there.
 #[derive(Clone, Copy, Debug)]
-struct Case {
-    kind: Kind,
-    house: u8,
-    sender: u8,
-    number: u8,
-    stands: Option<Declaration>,
-    comes: Declaration,
+pub(super) struct Case {
+    pub kind: Kind,
+    pub house: u8,
+    pub sender: u8,
+    pub number: u8,
+    pub stands: Option<Declaration>,
+    pub comes: Declaration,
 }
 
 impl Case {
@@ -42,7 +43,7 @@ impl Case {
 
     /// The message comes to this book, of which the slot is made as it has to stand: it is answered as is
     /// due, and a refusal carries nothing and leaves every byte. Gives the answer.
-    fn check(&self, library: &mut impl Library, book: &[u8]) -> u8 {
+    pub fn check(&self, library: &mut impl Library, book: &[u8]) -> u8 {
         let mut lent = book.to_vec();
         put(&mut lent, self.slot(book), self.stands.as_ref());
         let before = lent.clone();
@@ -86,7 +87,7 @@ impl Case {
 }
 
 /// The first, a middle and the last of so many houses.
-fn some_of(n: u8) -> Vec<u8> {
+pub(super) fn some_of(n: u8) -> Vec<u8> {
     let mut houses = vec![0, n / 2, n - 1];
     houses.dedup();
     houses
@@ -133,7 +134,7 @@ pub fn every_byte(library: &mut impl Library) {
 }
 
 /// Declarations that are easily taken for another, or for none: twins, the edge readings in both places, all
-/// zeros, all ones, and kilograms that are too many.
+/// zeros, all ones, kilograms that are too many, and no colonies.
 fn easily_mistaken() -> Vec<Declaration> {
     let mut all = twins().concat();
     for bits in EDGE_READINGS {
@@ -141,7 +142,8 @@ fn easily_mistaken() -> Vec<Declaration> {
         all.push(declaration(77, 40, 800, [bits, usual[1]]));
         all.push(declaration(77, 40, 800, [usual[0], bits]));
     }
-    all.extend([[0; 20], [255; 20], honey(77, 40, 801), honey(77, 0, 1)]);
+    all.extend([[0; 20], [255; 20], honey(77, 40, 801)]);
+    all.extend([0, 1, 800].map(|kilograms| honey(77, 0, kilograms)));
     all
 }
 

@@ -38,7 +38,13 @@ fn expected(book: &[u8], kind: u8, sender: u32, number: u32) -> SentAnswer {
 }
 
 /// Asks what was sent, and holds it to the layout.
-fn ask(library: &mut impl Library, book: &[u8], kind: u8, sender: u32, number: u32) -> SentAnswer {
+pub(super) fn ask(
+    library: &mut impl Library,
+    book: &[u8],
+    kind: u8,
+    sender: u32,
+    number: u32,
+) -> SentAnswer {
     let answer = library.sent(book, kind, sender, number);
     assert_eq!(
         answer,
@@ -49,7 +55,7 @@ fn ask(library: &mut impl Library, book: &[u8], kind: u8, sender: u32, number: u
 }
 
 /// A return: answer 0, with the request in the book's season.
-fn returns(library: &mut impl Library, book: &[u8]) {
+pub(super) fn returns(library: &mut impl Library, book: &[u8]) {
     let season = u32::from_be_bytes([book[3], book[4], book[5], book[6]]);
     let returned = library.come_back(book);
     assert_eq!(

@@ -1,4 +1,4 @@
-//! Document 01's rows 1 to 12 and its run cases, and the counts for all n and f.
+//! Document 01's rows 1 to 15 and its run cases, and the counts for all n and f.
 
 use super::forms::{
     declaration, fresh, fresh_book, honey, message, open_sheet, sheet, OPEN, SEASON,
@@ -118,7 +118,7 @@ pub fn another_f(library: &mut impl Library) {
     assert_eq!(outcomes, [t_is_1, t_is_0], "READYs at n = 4, f = 0 and 1");
 }
 
-/// Rows 4 to 8: judging.
+/// Rows 4 to 8 and 13 to 15: judging.
 pub fn judged(library: &mut impl Library) {
     let moist = |moisture: f32| {
         let readings = [moisture, 0.5].map(f32::to_bits);
@@ -130,6 +130,9 @@ pub fn judged(library: &mut impl Library) {
         (6, sheet(2, OPEN, OPEN), honey(77, 4, 9), 5),
         (7, sheet(20, Gate::AtMost(20.0), OPEN), moist(20.0), 0),
         (8, open_sheet(), moist(f32::NAN), 5),
+        (13, open_sheet(), honey(77, 0, 0), 5),
+        (14, open_sheet(), honey(77, 0, 1), 5),
+        (15, open_sheet(), honey(77, 1, 0), 0),
     ];
     for (row, sheet, declaration, answer) in rows {
         assert_eq!(library.judge(&sheet, &declaration), answer, "row {row}");

@@ -2,6 +2,7 @@
 
 pub mod attacks;
 pub mod carrier;
+pub mod colonies;
 pub mod directed;
 pub mod twins;
 mod weather;
@@ -10,7 +11,7 @@ use super::forms::random_declaration;
 use super::random::Random;
 use super::season::moments::Tally;
 use super::season::{Rules, Season};
-use super::wrong::{plausible, Wrong};
+use super::wrong::{bare, plausible, Wrong};
 use crate::{Declaration, Library};
 use carrier::Carrier;
 use weather::{pick_some, Aim, Weather};
@@ -71,7 +72,8 @@ impl Order {
 /// A house, a number, and what it will publish there.
 type Publication = (usize, u32, Declaration);
 
-/// What the honest houses will publish: most of their numbers, some twice or with an implausible one.
+/// What the honest houses will publish: most of their numbers, some twice, with an implausible one or with one of
+/// no colonies.
 fn publications(random: &mut Random, rules: &Rules, pool: &[Declaration]) -> Vec<Publication> {
     let mut all = vec![];
     for house in rules.honest() {
@@ -83,6 +85,9 @@ fn publications(random: &mut Random, rules: &Rules, pool: &[Declaration]) -> Vec
                 let number = random.pick(&[number, number, u32::from(rules.s), 256]);
                 let any = random_declaration(random);
                 all.push((house, number, random.pick(&[any, pool[0], pool[1]])));
+            }
+            if random.chance(1, 4) {
+                all.push((house, number, bare(random, pool)));
             }
         }
     }

@@ -7,7 +7,7 @@ mod rules;
 mod sending;
 
 use super::claims::{Fault, Finding, Seen};
-use super::forms::SEASON;
+use super::forms::{has_colonies, SEASON};
 use crate::{request, Declaration, Form, Kind, Library, Message, Outcome};
 use moments::{Moment, Tally};
 use std::collections::VecDeque;
@@ -195,13 +195,21 @@ impl<'l, L: Library> Season<'l, L> {
             self.hold(answer != 0, Fault::NoSuchStep, place);
             return answer;
         };
-        let plausible = crate::judge(&self.rules.sheet, declaration) == 0;
+        let plausible = self.rules.is_plausible(declaration);
         let first = self.seen[entry].published.is_none();
         if answer != 0 {
             self.hold(!(plausible && first), Fault::PublicationRefused, place);
+            if answer == 5 && !has_colonies(declaration) {
+                self.seen[entry].refused_bare |= first;
+                self.tally.add(Moment::NoColoniesPublished);
+            }
             return answer;
         }
+        self.hold(plausible, Fault::ImplausibleAccepted, place);
         self.hold(first, Fault::PublishedTwice, place);
+        if self.seen[entry].refused_bare {
+            self.tally.add(Moment::PublishedAfterNone);
+        }
         self.seen[entry].published.get_or_insert(*declaration);
         let send = Message {
             kind: Kind::Send,
@@ -444,9 +452,9 @@ impl<'l, L: Library> Season<'l, L> {
     /// is. Who is answered 13 is wrong.
     fn compared(&mut self, house: usize, from: u32, message: Option<Message>, answer: u8) {
         let place = || format!("answer {answer} at house {house} to house {from}");
-        let plausible = |v: &Declaration| crate::judge(&self.rules.sheet, v) == 0;
-        let message = message.filter(|message| plausible(&message.declaration));
         let stands = message.and_then(|message| self.accepted(house, from, &message));
+        let bare = message.is_some_and(|message| !has_colonies(&message.declaration));
+        let message = message.filter(|message| self.rules.is_plausible(&message.declaration));
         let again = message.zip(stands);
         let same = again.map(|(message, stands)| message.declaration == stands);
         let wrong = self.rules.wrong.get(from as usize) == Some(&true);
@@ -458,6 +466,11 @@ impl<'l, L: Library> Season<'l, L> {
         );
         self.hold(answer != 13 || wrong, Fault::HonestCalledLiar, place);
         match answer {
+            5 if wrong && bare => {
+                let again = usize::from(stands.is_some());
+                self.tally.add(Moment::NoColonies);
+                self.tally.add_times(Moment::NoColoniesAgain, again);
+            }
             7 if wrong => self.tally.add(Moment::WrongRepeat),
             13 if wrong => self.tally.add(Moment::Conflict),
             _ => (),
@@ -480,6 +493,8 @@ impl<'l, L: Library> Season<'l, L> {
         };
         let as_said = is_as_said(from, message, outcome);
         self.hold(as_said, Fault::NoSuchStep, place);
+        let plausible = self.rules.is_plausible(&message.declaration);
+        self.hold(plausible, Fault::ImplausibleAccepted, place);
         let accepted = &mut self.houses[house].accepted[entry];
         let accepted = &mut accepted[kind as usize - 1][from as usize];
         let first = accepted.replace(message.declaration).is_none();
@@ -549,7 +564,7 @@ impl<'l, L: Library> Season<'l, L> {
 
     fn delivers(&mut self, house: usize, entry: usize, declaration: Declaration) {
         let place = || format!("house {house} on entry {entry}");
-        let plausible = crate::judge(&self.rules.sheet, &declaration) == 0;
+        let plausible = self.rules.is_plausible(&declaration);
         self.hold(plausible, Fault::Implausible, place);
         let delivered = &mut self.seen[entry].delivered[house];
         let first = delivered.is_none();

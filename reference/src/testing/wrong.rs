@@ -1,8 +1,8 @@
 //! Wrong houses that work together: they see every copy, plan what each honest house is to believe,
 //! equivocate, vouch for it, go back on it, replay, lie about the kind, stay silent towards some, ask for
-//! help again and again, and send noise.
+//! help again and again, tell of no colonies, and send noise.
 
-use super::forms::{honey, message, random_declaration, twins, SEASON};
+use super::forms::{honey, message, random_declaration, twins, with_colonies, SEASON};
 use super::random::Random;
 use super::season::{Rules, Sent};
 use crate::{request, Declaration, MESSAGE};
@@ -13,6 +13,15 @@ pub fn plausible(random: &mut Random) -> [Declaration; 4] {
     let lot = random.pick(&[any, any, any, u32::MAX]);
     let [one, other] = random.pick(&twins());
     [honey(lot, 40, 800), honey(lot ^ 1, 40, 800), one, other]
+}
+
+/// One of these with no colonies; at times with no kilograms, or one.
+pub fn bare(random: &mut Random, of: &[Declaration]) -> Declaration {
+    let mut v = with_colonies(&random.pick(of), 0);
+    if random.chance(2, 3) {
+        v[8..12].copy_from_slice(&[0, 0, 0, random.below(2) as u8]);
+    }
+    v
 }
 
 /// Bytes for an honest house, and the number that they come under.
@@ -46,6 +55,8 @@ pub struct Wrong {
     asks: usize,
     /// How many more there are, in sixteen, that go back on what was accepted.
     turns: usize,
+    /// How many more there are, in sixteen, that tell of no colonies.
+    bare: usize,
     /// The messages that were accepted.
     accepted: Vec<Lie>,
 }
@@ -90,6 +101,7 @@ impl Wrong {
             resolve: if favours { 16 } else { resolve },
             asks: random.pick(&[0, 1, 1, 4, 14]),
             turns: random.pick(&[0, 2, 4, 8]),
+            bare: random.pick(&[0, 1, 4, 8]),
             accepted: vec![],
         }
     }
@@ -102,7 +114,7 @@ impl Wrong {
             usize::from(self.rules.d),
         ];
         let some = self.rules.entries() * (1 + random.below(6 * n));
-        let some = some + some * self.turns / 16;
+        let some = some + some * (self.turns + self.bare) / 16;
         match self.asks {
             14 => some + (8 * h * n * d).min(MOST_REQUESTS),
             _ => some,
@@ -118,6 +130,18 @@ impl Wrong {
 
     /// The next lie, or none where a wrong house withholds.
     pub fn lie(&self, random: &mut Random, copies: &[Sent]) -> Option<Lie> {
+        let mut lie = self.any_lie(random, copies)?;
+        if random.chance(self.bare, 16 + self.bare) {
+            if let Some(said) = lie.bytes.get_mut(16..MESSAGE) {
+                let v = said.try_into().expect("20 bytes");
+                said.copy_from_slice(&bare(random, &[v]));
+            }
+        }
+        Some(lie)
+    }
+
+    /// The same with the colonies that it tells of.
+    fn any_lie(&self, random: &mut Random, copies: &[Sent]) -> Option<Lie> {
         let to = random.pick(&self.honest);
         if self.wrong.is_empty() {
             return Some(self.stranger(random, to, copies));

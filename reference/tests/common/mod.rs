@@ -9,6 +9,7 @@ use reference::testing::season::Rules;
 use reference::{
     Declaration, Library, Outcome, ReadAnswer, Reference, Returned, SentAnswer, Waiting, Written,
 };
+use std::fmt::Debug;
 use std::panic::{catch_unwind, AssertUnwindSafe};
 
 /// The calls that a slip may change. None of them is the call of a library under test.
@@ -46,6 +47,10 @@ pub trait Slips {
 
     fn waiting(&mut self, book: &[u8]) -> Waiting {
         reference::waiting(book)
+    }
+
+    fn judge(&mut self, sheet: &[u8], v: &Declaration) -> u8 {
+        reference::judge(sheet, v)
     }
 }
 
@@ -92,7 +97,7 @@ impl<S: Slips> Library for Slipped<S> {
     }
 
     fn judge(&mut self, sheet: &[u8], v: &Declaration) -> u8 {
-        reference::judge(sheet, v)
+        self.0.judge(sheet, v)
     }
 
     fn write(&mut self, kind: u8, season: u32, sender: u8, number: u8, v: &Declaration) -> Written {
@@ -105,7 +110,7 @@ impl<S: Slips> Library for Slipped<S> {
 }
 
 /// Whether seasons with at most t wrong houses show this fault.
-pub fn shows<S: Slips>(slip: impl Fn() -> S, fault: Fault) -> bool {
+fn shows<S: Slips>(slip: impl Fn() -> S, fault: Fault) -> bool {
     let sizes: [(u8, u8, u8, &[usize]); 6] = [
         (1, 0, 1, &[]),
         (3, 1, 1, &[]),
@@ -132,21 +137,67 @@ pub fn said(check: impl FnOnce()) -> Option<String> {
     whole.or_else(|| panic.downcast_ref::<&str>().map(|part| part.to_string()))
 }
 
-/// The check sees this slip, side by side with a library that does not slip: what the answer has to be need
-/// not be known.
-pub fn differs<S: Slips>(
-    name: &str,
-    slip: S,
-    check: impl FnOnce(&mut Both<Reference, Slipped<S>>),
+/// A check of one library, under its name.
+pub type Check<S> = (&'static str, fn(&mut Slipped<S>));
+
+/// What the check says of this slip, where it sees it.
+fn said_by<S: Slips>((_, check): &Check<S>, slip: S) -> Option<String> {
+    said(|| check(&mut Slipped(slip)))
+}
+
+/// A slip, what is said of it by checks that know what is due, and which others catch it too.
+pub type Caught<T, S> = (T, &'static str, &'static [Check<S>], &'static [Check<S>]);
+
+/// All of these are caught so.
+pub fn all_caught<T: Copy + Debug, S: Slips>(slipping: fn(T) -> S, rows: &[Caught<T, S>]) {
+    for (slip, sentence, checks, others) in rows {
+        let caught = |check: &Check<S>| {
+            let said = said_by(check, slipping(*slip));
+            said.unwrap_or_else(|| panic!("{slip:?} is not seen by: {}", check.0))
+        };
+        for check in *checks {
+            let said = caught(check);
+            assert!(said.contains(sentence), "{slip:?}, by {}: {said}", check.0);
+        }
+        for check in *others {
+            caught(check);
+        }
+    }
+}
+
+/// The checks let this pass, which has no slip.
+pub fn all_let_pass<S: Slips>(none: impl Fn() -> S, checks: &[Check<S>]) {
+    for check in checks {
+        assert_eq!(said_by(check, none()), None, "{}", check.0);
+    }
+}
+
+/// Seasons show these faults of each slip.
+pub fn all_shown<T: Copy + Debug, S: Slips>(slipping: fn(T) -> S, rows: &[(T, &[Fault])]) {
+    for (slip, faults) in rows {
+        for fault in *faults {
+            let shown = shows(|| slipping(*slip), *fault);
+            assert!(shown, "{slip:?} does not show {fault:?}");
+        }
+    }
+}
+
+/// The check sees each slip, side by side with a library that does not slip: what the answer has to be need not be
+/// known.
+pub fn all_differ<T: Debug, S: Slips>(
+    slipping: fn(T) -> S,
+    slips: impl IntoIterator<Item = T>,
+    check: fn(&mut Both<Reference, Slipped<S>>),
 ) {
-    let mut both = Both {
-        first: Reference,
-        second: Slipped(slip),
-    };
-    let said = said(|| check(&mut both)).unwrap_or_else(|| panic!("{name} is not seen"));
     let differs = ["the two libraries differ", "byte of the book that differs"];
-    assert!(
-        differs.iter().any(|what| said.contains(what)),
-        "{name}: {said}"
-    );
+    for slip in slips {
+        let name = format!("{slip:?}");
+        let mut both = Both {
+            first: Reference,
+            second: Slipped(slipping(slip)),
+        };
+        let said = said(|| check(&mut both)).unwrap_or_else(|| panic!("{name} is not seen"));
+        let seen = differs.iter().any(|what| said.contains(what));
+        assert!(seen, "{name}: {said}");
+    }
 }

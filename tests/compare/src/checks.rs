@@ -4,12 +4,12 @@ use crate::linked::Linked;
 use crate::{drawn, edges, entries};
 use reference::testing::both::Both;
 use reference::testing::scheduler::twins::{self, Count};
-use reference::testing::scheduler::{attacks, carrier, directed};
+use reference::testing::scheduler::{attacks, carrier, colonies as seasons, directed};
 use reference::testing::season::moments::{Moment, Tally};
 use reference::testing::season::Rules;
 use reference::testing::{
-    books, openings, pairs, readings, refusals, repeats, requests, returns, rows, scheduler, trips,
-    vouchers,
+    books, colonies, openings, pairs, readings, refusals, repeats, requests, returns, rows,
+    scheduler, trips, vouchers,
 };
 use reference::Reference;
 use std::ops::RangeInclusive;
@@ -21,7 +21,7 @@ pub type Pair = Both<Linked, Reference>;
 pub type Check = (&'static str, fn(&mut Pair, u64, usize));
 
 /// Checks that are the same at any size, the quickest first; the seed is for noise.
-pub const COUNTED: [Check; 26] = [
+pub const COUNTED: [Check; 29] = [
     ("the rows and run cases of document 01", |pair, _, _| {
         rows::card(pair);
         rows::judged(pair);
@@ -91,6 +91,9 @@ pub const COUNTED: [Check; 26] = [
         },
     ),
     ("products", |pair, _, _| readings::products(pair)),
+    ("no colonies, with every weight", |pair, _, _| {
+        colonies::every_weight(pair);
+    }),
     ("NaN of every kind", |pair, seed, _| edges::nans(pair, seed)),
     ("edge readings and limits", |pair, _, _| {
         readings::at_open_gates(pair);
@@ -99,6 +102,13 @@ pub const COUNTED: [Check; 26] = [
     }),
     ("declarations counted apart", |pair, _, _| {
         readings::counted_apart(pair);
+    }),
+    ("no colonies, where they stand already", |pair, _, _| {
+        colonies::standing(pair);
+    }),
+    ("no colonies, told and published", |pair, _, _| {
+        seasons::told(pair);
+        seasons::published(pair);
     }),
     ("each byte of what stands and what comes", |pair, _, _| {
         repeats::every_byte(pair);
@@ -122,7 +132,7 @@ pub const COUNTED: [Check; 26] = [
 ];
 
 /// Checks that draw their cases: more with a larger size.
-pub const DRAWN: [Check; 18] = [
+pub const DRAWN: [Check; 19] = [
     ("calls on any legal book", |pair, seed, scale| {
         refusals::calls(pair, seed, 200 * scale);
     }),
@@ -132,6 +142,9 @@ pub const DRAWN: [Check; 18] = [
             repeats::any_book(pair, seed, 100 * scale);
         },
     ),
+    ("no colonies on any legal book", |pair, seed, scale| {
+        colonies::any_book(pair, seed, 8 * scale);
+    }),
     ("requests until helped enough", |pair, seed, scale| {
         for round in 0..scale.div_ceil(4) as u64 {
             requests::until_enough(pair, seed + round);
@@ -167,7 +180,7 @@ pub const DRAWN: [Check; 18] = [
                 tally.add_all(&scheduler::seasons(pair, seed, n, s, seasons as u64));
             }
         }
-        let (missing, rare) = (tally.missing(), tally.rare(&AGAIN));
+        let (missing, rare) = (tally.missing(), tally.rare(&OFTEN));
         let enough = scale < ENOUGH_FOR_ALL || (missing.is_empty() && rare.is_empty());
         assert!(
             enough,
@@ -228,15 +241,19 @@ pub const DRAWN: [Check; 18] = [
 /// At this size each moment of a season that is counted comes about.
 const ENOUGH_FOR_ALL: usize = 8;
 
-/// And copies are brought again so often at least, whatever the seed, and wrong houses say the same again and
-/// another thing.
-const AGAIN: [(Moment, usize); 6] = [
+/// And copies are brought again so often at least, whatever the seed, wrong houses say the same again and
+/// another thing, and no colonies are told of and published.
+const OFTEN: [(Moment, usize); 10] = [
     (Moment::BroughtAgain, 10_000),
     (Moment::BroughtOften, 4_000),
     (Moment::BroughtLate, 4_000),
     (Moment::BroughtAfterReturn, 800),
     (Moment::WrongRepeat, 800),
     (Moment::Conflict, 600),
+    (Moment::NoColonies, 400),
+    (Moment::NoColoniesAgain, 200),
+    (Moment::NoColoniesPublished, 150),
+    (Moment::PublishedAfterNone, 40),
 ];
 
 /// And where seasons are run with a nervous carrier and with none.
@@ -252,15 +269,27 @@ const ENOUGH_TWINS: usize = 3;
 /// Of so many seasons about 14 show a disagreement, whatever the seed; of fifty at times none does.
 const ENOUGH_TO_DISAGREE: usize = 400;
 
+/// What comes about in hostile seasons of some sizes, though not at each of them.
+const AT_SOME: [(Moment, usize); 5] = [
+    (Moment::WrongAndCrash, 1),
+    (Moment::NoColonies, 1),
+    (Moment::NoColoniesAgain, 1),
+    (Moment::NoColoniesPublished, 1),
+    (Moment::PublishedAfterNone, 1),
+];
+
 /// Seasons with as many wrong houses as are tolerated, one less, none and one more, of so many houses.
 fn hostile(pair: &mut Pair, seed: u64, houses: RangeInclusive<u8>) {
+    let mut all = Tally::default();
     for n in houses {
         let s = if n < 8 { 1 + n % 4 } else { 1 };
         let tally = scheduler::hostile(pair, seed, n, s);
         let seen = |moment| tally.of(moment) > 0;
         assert!(n < 2 || seen(Moment::TooManyWrong), "n = {n}: {tally}");
-        assert!(n < 4 || seen(Moment::WrongAndCrash), "n = {n}: {tally}");
         let again = [Moment::BroughtAgain, Moment::WrongRepeat, Moment::Conflict];
         assert!(n < 6 || again.into_iter().all(seen), "n = {n}: {tally}");
+        all.add_all(&tally);
     }
+    let rare = all.rare(&AT_SOME);
+    assert!(rare.is_empty(), "it never came about: {rare:?}");
 }

@@ -1,6 +1,7 @@
 //! Judging at edges drawn at random, and legal books with one thing damaged: what the two libraries say of
 //! them has to be the same, whatever it is.
 
+use reference::testing::colonies::random_weight;
 use reference::testing::forms::{
     declaration, fresh_book, message, random_book, random_pool, random_reading, request_of,
     sheet_of_bits, slots_from, SEASON,
@@ -8,8 +9,11 @@ use reference::testing::forms::{
 use reference::testing::random::Random;
 use reference::Library;
 
-/// A cap, colonies and kilograms whose product is near the kilograms, near 2^32 or near 2^64.
+/// A cap, colonies and kilograms: few colonies or none; or a product near the kilograms, near 2^32 or near 2^64.
 fn near_product(random: &mut Random) -> [u32; 3] {
+    if random.chance(1, 3) {
+        return random_weight(random);
+    }
     let a = match random.below(4) {
         0 => u32::MAX - random.below(3) as u32,
         1 => 1 << random.below(32),
@@ -68,6 +72,7 @@ fn edge(random: &mut Random) -> u32 {
 pub fn judging(library: &mut impl Library, seed: u64, rounds: usize) {
     let mut random = Random::new(seed);
     let mut answers = [0usize; 12];
+    let mut few = [[0usize; 12]; 3];
     for _ in 0..rounds {
         let [cap, colonies, kilograms] = near_product(&mut random);
         let readings = [0, 1].map(|_| edge(&mut random));
@@ -76,17 +81,33 @@ pub fn judging(library: &mut impl Library, seed: u64, rounds: usize) {
         let v = declaration(random.word(), colonies, kilograms, readings);
         let judged = library.judge(&sheet, &v);
         answers[usize::from(judged)] += 1;
+        if let Some(few) = few.get_mut(colonies as usize) {
+            few[usize::from(judged)] += 1;
+        }
         if random.chance(1, 4) {
             let mut book = fresh_book(1, 1, 0, SEASON, &sheet);
             let expected = if judged == 10 { 1 } else { judged };
             let published = library.publish(&mut book, 0, &v).answer;
-            let send = message(1, SEASON, 0, 0, &v);
-            let received = library.receive(&mut book, 0, &send).answer;
-            assert_eq!([published, received], [expected; 2], "as it is judged");
+            assert_eq!(published, expected, "published as it is judged");
+            for kind in 1..=3 {
+                let bytes = message(kind, SEASON, 0, 0, &v);
+                let received = library.receive(&mut book, 0, &bytes).answer;
+                assert_eq!(received, expected, "kind {kind} as it is judged");
+            }
         }
     }
     let seen = [0, 5, 10].iter().all(|&answer| answers[answer] > 0);
     assert!(seen, "too few rounds to tell: {answers:?}");
+    let least = [
+        (0, 5, rounds / 16),
+        (1, 0, rounds / 200),
+        (1, 5, rounds / 64),
+        (2, 0, rounds / 200),
+        (2, 5, rounds / 64),
+    ];
+    let enough =
+        |(colonies, answer, least): &(usize, usize, usize)| few[*colonies][*answer] >= *least;
+    assert!(least.iter().all(enough), "few colonies too seldom: {few:?}");
 }
 
 /// A legal book with one bit flipped, cut, lengthened, or with two pieces exchanged.

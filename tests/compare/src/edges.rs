@@ -8,8 +8,8 @@ use reference::testing::random::Random;
 use reference::{Gate, Library};
 
 /// All 64 sizes: opened with each own number and some f, in buffers that fit and that do not; then the last
-/// entry, from the publication to the delivery, with all of it again and another in its place; and the last
-/// asker.
+/// entry, from the publication to the delivery, with all of it again, another in its place and one with no
+/// colonies; and the last asker.
 pub fn sizes(library: &mut impl Library) {
     for (n, s) in (1..=16).flat_map(|n| (1..=4).map(move |s| (n, s))) {
         let (answer, length) = library.length(n, s);
@@ -43,11 +43,13 @@ fn last_asker(library: &mut impl Library, book: &mut [u8], n: u32, d: u32) {
 
 /// The entry of the last sender and number in that sender's own book.
 fn last_entry(library: &mut impl Library, book: &mut [u8], n: u32, s: u32) {
-    let (v, other) = (honey(77, 40, 800), honey(77, 40, 799));
+    let (v, other, bare) = (honey(77, 40, 800), honey(77, 40, 799), honey(77, 0, 0));
     let bytes_of = |kind, v| message(kind, SEASON, n as u8 - 1, s as u8 - 1, v);
     let bytes = |kind| bytes_of(kind, &v);
-    let published = [0, 1].map(|_| library.publish(book, s - 1, &v).answer);
-    assert_eq!(published, [0, 8], "publishing twice at {n} and {s}");
+    let refused = [1, 2, 3].map(|kind| library.receive(book, n - 1, &bytes_of(kind, &bare)).answer);
+    assert_eq!(refused, [5; 3], "no colonies at {n} and {s}");
+    let published = [bare, v, v, bare].map(|v| library.publish(book, s - 1, &v).answer);
+    assert_eq!(published, [5, 0, 8, 5], "publishing twice at {n} and {s}");
     let sends = [0, 1].map(|_| library.receive(book, n - 1, &bytes(1)).answer);
     assert_eq!(sends, [0, 7], "a SEND twice at {n} and {s}");
     let mut deliveries = 0;
@@ -64,9 +66,9 @@ fn last_entry(library: &mut impl Library, book: &mut [u8], n: u32, s: u32) {
     for kind in 1..=3 {
         let sent = library.sent(book, kind, n - 1, s - 1).message;
         assert_eq!(sent, Some(bytes(kind)), "sent again at {n} and {s}");
-        let again = [bytes(kind), bytes_of(kind, &other)];
+        let again = [&v, &other, &bare].map(|v| bytes_of(kind, v));
         let again = again.map(|bytes| library.receive(book, n - 1, &bytes).answer);
-        assert_eq!(again, [7, 13], "kind {kind} again at {n} and {s}");
+        assert_eq!(again, [7, 13, 5], "kind {kind} again at {n} and {s}");
     }
     assert_eq!(deliveries, 1, "deliveries at {n} and {s}");
 }

@@ -23,12 +23,12 @@ impl Size {
         all_counts().map(|(n, f, counts)| Size { n, f, counts })
     }
 
-    fn houses(&self) -> usize {
+    pub(super) fn houses(&self) -> usize {
         usize::from(self.n)
     }
 
     /// A season in which the last `wrong` houses are wrong, and none returns.
-    fn open<'l, L: Library>(&self, library: &'l mut L, wrong: usize) -> Season<'l, L> {
+    pub(super) fn open<'l, L: Library>(&self, library: &'l mut L, wrong: usize) -> Season<'l, L> {
         let wrong: Vec<usize> = (self.houses() - wrong..self.houses()).collect();
         Season::open(library, Rules::new(self.n, 1, &wrong).with(self.f, 0))
     }
@@ -44,8 +44,8 @@ fn bytes(size: &Size, kind: Kind, v: &Declaration) -> [u8; 36] {
     message(kind as u8, SEASON, size.n - 1, 0, v)
 }
 
-/// The wrong house with this number hands in a message of the sender's entry: accepted, or a conflict.
-fn hand_in<L: Library>(
+/// The wrong house with this number hands in a message of the sender's entry, which is answered so.
+pub(super) fn hand_in<L: Library>(
     season: &mut Season<L>,
     size: &Size,
     (from, to): (usize, usize),
@@ -133,7 +133,7 @@ pub fn silence<'l, L: Library>(library: &'l mut L, size: &Size) -> Season<'l, L>
 }
 
 /// What each honest house delivered on the entry of this sender.
-fn delivered<L: Library>(season: &Season<L>, sender: usize) -> Vec<Option<Declaration>> {
+pub(super) fn delivered<L: Library>(season: &Season<L>, sender: usize) -> Vec<Option<Declaration>> {
     let honest = season.rules().honest().into_iter();
     honest
         .map(|house| season.delivered(house, sender, 0))

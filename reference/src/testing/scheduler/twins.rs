@@ -7,10 +7,10 @@ use super::carrier::Carrier;
 use super::weather::Weather;
 use super::{publications, run_plan, some_houses, Plan, Publication};
 use crate::testing::claims::Finding;
-use crate::testing::forms::{honey, open_sheet, sheet};
+use crate::testing::forms::{open_sheet, sheet};
 use crate::testing::random::Random;
 use crate::testing::season::{Rules, Season};
-use crate::testing::wrong::plausible;
+use crate::testing::wrong::{bare, plausible};
 use crate::{Declaration, Gate, Library, MOST_HOUSES, MOST_NUMBERS, SHEET};
 
 /// What the claim asks of two seasons with f at zero.
@@ -242,7 +242,7 @@ impl Same {
         let numbers = 0..u32::from(rules.s);
         for (number, publishes) in numbers.zip(self.publishes) {
             let first = publishes.map(|v| (self.sender, number, v));
-            let implausible = (self.sender, number, honey(random.word(), 0, 1));
+            let implausible = (self.sender, number, bare(random, &self.pool));
             let beyond = random.pick(&[u32::from(rules.s), 256, u32::MAX]);
             let beyond = (self.sender, beyond, self.pool[0]);
             all.extend(first);

@@ -62,6 +62,14 @@ pub enum Moment {
     WrongRepeat,
     /// A wrong house said a different thing, and got answer 13.
     Conflict,
+    /// A wrong house told of no colonies, and got answer 5.
+    NoColonies,
+    /// It did so where something was accepted from it before, of the same kind and on the same entry.
+    NoColoniesAgain,
+    /// An honest house published no colonies, and got answer 5.
+    NoColoniesPublished,
+    /// At a number where it had done so it published a plausible declaration.
+    PublishedAfterNone,
     /// More than t houses were wrong.
     TooManyWrong,
     /// Exactly t houses were wrong, and there was a crash.
@@ -113,6 +121,10 @@ pub const ALL: [Moment; MOMENTS] = [
     Moment::BroughtAfterReturn,
     Moment::WrongRepeat,
     Moment::Conflict,
+    Moment::NoColonies,
+    Moment::NoColoniesAgain,
+    Moment::NoColoniesPublished,
+    Moment::PublishedAfterNone,
     Moment::TooManyWrong,
     Moment::WrongAndCrash,
     Moment::TooManyDown,

@@ -1,7 +1,7 @@
 //! How a season is set up.
 
-use crate::testing::forms::sheet;
-use crate::{Gate, SHEET};
+use crate::testing::forms::{has_colonies, sheet};
+use crate::{Declaration, Gate, SHEET};
 
 /// How a season is set up.
 #[derive(Clone, Debug)]
@@ -55,6 +55,11 @@ impl Rules {
         let (n, f) = (usize::from(self.n), usize::from(self.f));
         let fits = |t: &usize| n > 3 * t + 2 * f;
         (0..n).rev().find(fits).expect("2f is below n")
+    }
+
+    /// Whether a declaration is plausible in this season. For its colonies its bytes are asked, too.
+    pub fn is_plausible(&self, v: &Declaration) -> bool {
+        has_colonies(v) && crate::judge(&self.sheet, v) == 0
     }
 
     /// How many entries a book has.
