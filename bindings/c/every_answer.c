@@ -182,6 +182,22 @@ static void asking(void) {
     so(helped(hear_request(0)) && book[31] == 1, "another asker, and itself, is helped");
 }
 
+/* The walk gives three messages of this declaration: house 0's own SEND, and its ECHO and READY on the entry of sender 3. */
+static gm_walk walk_of(const uint8_t *declaration) {
+    static const uint8_t kinds[] = {GM_SEND, GM_ECHO, GM_READY};
+    static const uint8_t senders[] = {0, 3, 3};
+    size_t count = 0;
+    gm_walk walk = gm_first_sent(book, BOOK);
+    for (; walk.sent.gives && count < sizeof kinds; gm_next_sent(book, BOOK, &walk)) {
+        gm_written same = gm_write(kinds[count], 2026, senders[count], 0, declaration);
+        so(walk.kind == kinds[count] && walk.sender == senders[count] && walk.number == 0, "the walk's order");
+        so(walk.sent.answer == GM_ACCEPTED && memcmp(walk.sent.message, same.message, 36) == 0, "sent 0, the same 36 bytes");
+        count++;
+    }
+    so(count == sizeof kinds && not_sent(walk.sent, GM_NOT_IN_BOOK), "the walk gives three messages, and ends at answer 4");
+    return walk;
+}
+
 /* House 0 published, heard the SEND of sender 3, and marked a READY there: three messages, and the book holds them. */
 static void returning(void) {
     memcpy(before, book, BOOK);
@@ -196,17 +212,7 @@ static void returning(void) {
     so(not_sent(gm_sent(book, BOOK, GM_SEND, 3, 0), GM_ACCEPTED), "sent 0, none: the SEND of another");
     so(not_sent(gm_sent(book, BOOK, GM_ECHO, 0, 0), GM_ACCEPTED), "sent 0, none: no ECHO before its SEND is heard");
     so(not_sent(gm_sent(book, BOOK, GM_READY, 0, 0), GM_ACCEPTED), "sent 0, none: no READY");
-    static const uint8_t kinds[] = {GM_SEND, GM_ECHO, GM_READY};
-    static const uint8_t senders[] = {0, 3, 3};
-    size_t count = 0;
-    gm_walk walk = gm_first_sent(book, BOOK);
-    for (; walk.sent.gives && count < sizeof kinds; gm_next_sent(book, BOOK, &walk)) {
-        gm_written same = gm_write(kinds[count], 2026, senders[count], 0, lot77);
-        so(walk.kind == kinds[count] && walk.sender == senders[count] && walk.number == 0, "the walk's order");
-        so(walk.sent.answer == GM_ACCEPTED && memcmp(walk.sent.message, same.message, 36) == 0, "sent 0, the same 36 bytes");
-        count++;
-    }
-    so(count == sizeof kinds && not_sent(walk.sent, GM_NOT_IN_BOOK), "the walk gives three messages, and ends at answer 4");
+    gm_walk walk = walk_of(lot77);
     gm_next_sent(book, BOOK, &walk);
     so(not_sent(walk.sent, GM_NOT_IN_BOOK), "a walk that ended has ended");
     so(untouched(), "a return and a walk leave the book");
@@ -303,17 +309,10 @@ static void book_of_before(void) {
     so(next.answer == GM_ACCEPTED, "no colonies recorded: legal");
     so(next.waits && next.number == 0 && next.sender == 3, "no colonies recorded: the entry waits");
     so(gm_return(book, BOOK).answer == GM_ACCEPTED, "no colonies recorded: a return 0");
-    static const uint8_t kinds[] = {GM_SEND, GM_ECHO, GM_READY};
-    static const uint8_t senders[] = {0, 3, 3};
-    size_t count = 0;
-    gm_walk walk = gm_first_sent(book, BOOK);
-    for (; walk.sent.gives && count < sizeof kinds; gm_next_sent(book, BOOK, &walk)) {
-        gm_written same = gm_write(kinds[count], 2026, senders[count], 0, nothing);
-        so(memcmp(walk.sent.message, same.message, 36) == 0, "no colonies recorded: sent 0, the same 36 bytes");
-        so(refused(gm_receive(book, BOOK, 0, walk.sent.message, 36), GM_NOT_PLAUSIBLE), "receiving 5: what the walk gave, no colonies");
-        count++;
-    }
-    so(count == sizeof kinds && not_sent(walk.sent, GM_NOT_IN_BOOK), "no colonies recorded: the walk gives three messages");
+    walk_of(nothing);
+    so(refused(receive(0, GM_SEND, 2026, 0, nothing), GM_NOT_PLAUSIBLE), "receiving 5: the SEND that the walk gave, no colonies");
+    so(refused(receive(0, GM_ECHO, 2026, 3, nothing), GM_NOT_PLAUSIBLE), "receiving 5: the ECHO that the walk gave, no colonies");
+    so(refused(receive(0, GM_READY, 2026, 3, nothing), GM_NOT_PLAUSIBLE), "receiving 5: the READY that the walk gave, no colonies");
     so(refused(receive(3, GM_SEND, 2026, 3, nothing), GM_NOT_PLAUSIBLE), "receiving 5 before 7: a SEND, no colonies");
     so(refused(receive(1, GM_ECHO, 2026, 3, nothing), GM_NOT_PLAUSIBLE), "receiving 5 before 7: an ECHO, no colonies");
     so(refused(receive(2, GM_READY, 2026, 3, nothing), GM_NOT_PLAUSIBLE), "receiving 5 before 7: a READY, no colonies");
