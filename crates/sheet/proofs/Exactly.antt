@@ -1,5 +1,5 @@
--- The test `plausible` is true exactly when document 01's conditions hold. Its text is read here in three cases, and nowhere else:
--- whoever asks whether a declaration is plausible needs the laws below.
+-- The test `plausible` is true exactly when document 01's conditions hold. No other proof reads its text, but for what is computed:
+-- it is read here in three cases, and whoever asks whether a declaration is plausible needs the laws below.
 use Prim.Native.Nat.{_*_, _≤_, _<_, zero-le}
 use native.Mathlib.Decide.{decLe}
 use native.Mathlib.Omega.{arith}
