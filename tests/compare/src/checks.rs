@@ -269,17 +269,20 @@ const ENOUGH_TWINS: usize = 3;
 /// Of so many seasons about 14 show a disagreement, whatever the seed; of fifty at times none does.
 const ENOUGH_TO_DISAGREE: usize = 400;
 
-/// What comes about in hostile seasons of some sizes, though not at each of them.
-const AT_SOME: [(Moment, usize); 5] = [
+/// What comes about in hostile seasons, whatever the seed: so often at least for each size from four houses on,
+/// counted over all sizes together, since a single one may be drawn without it.
+const HOSTILE: [(Moment, usize); 5] = [
     (Moment::WrongAndCrash, 1),
-    (Moment::NoColonies, 1),
-    (Moment::NoColoniesAgain, 1),
-    (Moment::NoColoniesPublished, 1),
-    (Moment::PublishedAfterNone, 1),
+    (Moment::NoColonies, 50),
+    (Moment::NoColoniesAgain, 20),
+    (Moment::NoColoniesPublished, 5),
+    (Moment::PublishedAfterNone, 2),
 ];
 
 /// Seasons with as many wrong houses as are tolerated, one less, none and one more, of so many houses.
 fn hostile(pair: &mut Pair, seed: u64, houses: RangeInclusive<u8>) {
+    let sizes = houses.clone().filter(|n| *n >= 4).count();
+    let due = HOSTILE.map(|(moment, times)| (moment, times * sizes));
     let mut all = Tally::default();
     for n in houses {
         let s = if n < 8 { 1 + n % 4 } else { 1 };
@@ -290,6 +293,6 @@ fn hostile(pair: &mut Pair, seed: u64, houses: RangeInclusive<u8>) {
         assert!(n < 6 || again.into_iter().all(seen), "n = {n}: {tally}");
         all.add_all(&tally);
     }
-    let rare = all.rare(&AT_SOME);
-    assert!(rare.is_empty(), "it never came about: {rare:?}");
+    let rare = all.rare(&due);
+    assert!(rare.is_empty(), "too seldom: {rare:?}");
 }
