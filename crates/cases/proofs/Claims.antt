@@ -1,7 +1,6 @@
 -- What this crate promises, proved: the whole table is one computation, whose `unfolding` line names what it computes with.
 use mathlib.Core.Path.{_≡_, refl}
 use mathlib.Core.Bool.{true}
-use lib.Ieee.{ofBits, toBits, le}
 use Rattle.card.specs.Card.{housesOk, downOk, countsOf}
 use Rattle.lot.specs.Declaration.{bytesOf}
 use Rattle.sheet.specs.Kept.{sheetBytes, judged}
@@ -22,7 +21,7 @@ use Rattle.cases.specs.Claims.{Claims}
 use Rattle.cases.proofs.Rows.{table, has-each}
 
 computes : table rows .test ≡ true
-unfolding countsOf judged sheetBytes bytesOf ofBits toBits le writtenOf readOf requestOf opened housesOk downOk numbersOk
+unfolding countsOf judged sheetBytes bytesOf writtenOf readOf requestOf opened housesOk downOk numbersOk
     mostLimit lengthOf write received legal meant slotAt entrySlot wire same outcome
     receive recording takesSend takesEcho takesReady rulesOf
 computes = refl
@@ -31,5 +30,5 @@ pub claims : Claims
 claims =
     record {
       all-hold = table rows .shows (T-of computes);
-      none-left-out = has-each 15 rows .shows tt;
+      none-left-out = has-each 17 rows .shows tt;
     }

@@ -16,6 +16,13 @@ twenty = 0x41a00000
 abbrev aNan : ℕ
 aNan = 0x7fc00000
 
+-- minus 3 and minus zero
+abbrev minusThree : ℕ
+minusThree = 0xc0400000
+
+abbrev minusZero : ℕ
+minusZero = 0x80000000
+
 -- the message that document 01 writes out, and its 36 bytes there
 abbrev aSend : Five
 aSend = record { kind = 1; season = 2026; sender = 2; number = 1; declaration = sample }
@@ -50,4 +57,6 @@ rows =
     ∷ (13, judge (sheet 20 Open) (lot 0 0 seventeenHalf) 5)
     ∷ (14, judge (sheet 20 Open) (lot 0 1 seventeenHalf) 5)
     ∷ (15, judge (sheet 20 Open) (lot 1 0 seventeenHalf) 0)
+    ∷ (16, judge (sheet 20 Open) (lot 40 800 minusThree) 5)
+    ∷ (17, judge (sheet 20 Open) (lot 40 800 minusZero) 0)
     ∷ []

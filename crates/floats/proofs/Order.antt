@@ -1,22 +1,20 @@
--- The order of finite floats is that of their places, whole numbers made of the bits: so no float compare is needed to judge.
-use Prim.Native.Nat.{ℕ, zero, suc, _+_, _-_, _*_, _/_, _%_, _^_, _≤_, _<_}
+-- A finite float's size is a whole number made of its bits; float comparison is comparison of sign and size, and at most is not above.
+use Prim.Native.Nat.{ℕ, zero, suc, _+_, _*_, _/_, _%_, _^_, _≤_, _<_}
 use mathlib.Core.Path.{_≡_, refl, sym, ap, _∙_, subst}
 use mathlib.Core.Bool.{Bool, true, false, cond, not, _&&_, _||_, true≢false}
 use native.Mathlib.Nat.{add-comm, add-mul, mul-assoc, mul-right-comm, mul-pos, mul-le-mul-right}
 use native.Mathlib.Omega.{arith}
-use lib.Dec.{T, leb, ltb, eqb}
+use lib.Dec.{leb, ltb, eqb}
 use lib.Pow.{pow-pos, pow-mono}
-use lib.Ieee.{Float, nan, inf, fin, binary32, up, down, below, level, odd, ofFields, ofBits, toBits, fits, lt, eq, le}
-use lib.Ieee.Bits.{ofBits-toBits}
+use lib.Ieee.{Float, nan, inf, fin, binary32, up, down, below, level, odd, ofFields, ofBits, lt, eq, le}
 use lib.Ieee.Exact.{HasValue, odd-sign}
 use lib.Ieee.Fits.{down-pos}
-use borrow.Author.Tests.{le-ltb, le-leb, lt-leb, ltb-true, ltb-false, eqb-true, eqb-false, eq-eqb, ne-eqb}
+use borrow.Author.Tests.{le-leb, lt-leb, ltb-true, ltb-false, eqb-true, eqb-false, eq-eqb, ne-eqb}
 use Rattle.sheet.specs.Sheet.{finite}
-use Rattle.floats.specs.Place.{place}
 
 -- ---- tests of whole numbers
 
-same-ltb : (a b c d : ℕ) → (a < b → c < d) → (c < d → a < b) → ltb a b ≡ ltb c d
+pub same-ltb : (a b c d : ℕ) → (a < b → c < d) → (c < d → a < b) → ltb a b ≡ ltb c d
 same-ltb a b c d f g = go (ltb a b) (ltb c d) refl refl
   where
     go : (x y : Bool) → ltb a b ≡ x → ltb c d ≡ y → x ≡ y
@@ -25,7 +23,7 @@ same-ltb a b c d f g = go (ltb a b) (ltb c d) refl refl
     go false true e h = absurd (let l = g (ltb-true c d h) in let k = ltb-false a b e in omega arith)
     go false false e h = refl
 
-not-ltb : (a b : ℕ) → not (ltb b a) ≡ leb a b
+pub not-ltb : (a b : ℕ) → not (ltb b a) ≡ leb a b
 not-ltb a b = go (ltb b a) refl
   where
     go : (x : Bool) → ltb b a ≡ x → not x ≡ leb a b
@@ -34,11 +32,11 @@ not-ltb a b = go (ltb b a) refl
 
 -- ---- a finite pattern's size in units of the smallest float: the digits, or a leading one and the digits, shifted by the exponent
 
-unitsOf : (field digits : ℕ) → ℕ
+unfoldable pub unitsOf : (field digits : ℕ) → ℕ
 unitsOf zero t = t
 unitsOf (suc x) t = (0x80_0000 + t) * 2 ^ x
 
-abbrev units : ℕ → ℕ
+abbrev pub units : ℕ → ℕ
 units i = unitsOf (i / 0x80_0000) (i % 0x80_0000)
 
 -- doubling the leading one passes all the digits
@@ -70,7 +68,7 @@ within-field (suc x) t u l =
     omega (arith, m)
 
 -- a larger pattern is a larger size
-units-mono : (i j : ℕ) → i < j → units i < units j
+pub units-mono : (i j : ℕ) → i < j → units i < units j
 units-mono i j l = go (ltb (i / 0x80_0000) (j / 0x80_0000)) refl
   where
     go : (b : Bool) → ltb (i / 0x80_0000) (j / 0x80_0000) ≡ b → units i < units j
@@ -80,7 +78,7 @@ units-mono i j l = go (ltb (i / 0x80_0000) (j / 0x80_0000)) refl
         subst (λ (x : ℕ). unitsOf x (i % 0x80_0000) < units j) (sym f)
         (within-field (j / 0x80_0000) (i % 0x80_0000) (j % 0x80_0000) (omega arith))
 
-units-back : (i j : ℕ) → units i < units j → i < j
+pub units-back : (i j : ℕ) → units i < units j → i < j
 units-back i j l = go (ltb i j) refl
   where
     go : (b : Bool) → ltb i j ≡ b → i < j
@@ -113,7 +111,7 @@ ofFields-finite s (suc x) t h = go (eqb (suc x) 255) (eqb t 0) h
     go false b e = odd-sign 24 s (0x80_0000 + t) x 149
 
 -- sign and size of a pattern
-sized : (b : ℕ) → finite (ofBits binary32 b) ≡ true
+pub sized : (b : ℕ) → finite (ofBits binary32 b) ≡ true
     → HasValue (ofBits binary32 b) (leb 0x8000_0000 b) (units (b % 0x8000_0000)) (2 ^ 149)
 unfolding ofBits
 sized b h =
@@ -142,7 +140,7 @@ below-same true false p q a b c d C D f g =
     same-ltb 0 (p + q) 0 (a + b) (scaled 0 (p + q) 0 (a + b) c d C D z e) (scaled 0 (a + b) 0 (p + q) d c D C (sym z) (sym e))
 below-same true true p q a b c d C D f g = same-ltb q p b a (scaled q p b a c d C D g f) (scaled b a q p d c D C (sym g) (sym f))
 
-lt-sized : (x y : Float) (s t : Bool) (a b c : ℕ) → 0 < c → HasValue x s a c → HasValue y t b c → lt x y ≡ below s a t b
+pub lt-sized : (x y : Float) (s t : Bool) (a b c : ℕ) → 0 < c → HasValue x s a c → HasValue y t b c → lt x y ≡ below s a t b
 unfolding lt
 lt-sized nan y s t a b c C h k = absurd h
 lt-sized (inf u) y s t a b c C h k = absurd h
@@ -157,60 +155,6 @@ lt-sized (fin u m e) (fin w n d) s t a b c C h k =
     ap (λ (x : Bool). below x (m * up e * down d) w (n * up d * down e)) (h .0)
     ∙ ap (λ (x : Bool). below s (m * up e * down d) x (n * up d * down e)) (k .0)
     ∙ below-same s t (m * up e * down d) (n * up d * down e) a b c (down e * down d) C (mul-pos (down-pos e) (down-pos d)) f g
-
--- ---- and so of places
-
-placed : (s t : Bool) (i j : ℕ) → i < 0x8000_0000 → j < 0x8000_0000
-    → below s (units i) t (units j)
-    ≡ ltb (cond s (0x8000_0000 - i) (0x8000_0000 + i)) (cond t (0x8000_0000 - j) (0x8000_0000 + j))
-unfolding unitsOf
-placed false false i j I J =
-    same-ltb (units i) (units j) (0x8000_0000 + i) (0x8000_0000 + j) (λ l. let m = units-back i j l in omega arith)
-    (λ l. units-mono i j (omega arith))
-placed false true i j I J = sym (le-ltb (0x8000_0000 + i) (0x8000_0000 - j) (omega arith))
-placed true false i j I J =
-    same-ltb 0 (units i + units j) (0x8000_0000 - i) (0x8000_0000 + j) to from
-  where
-    to : 0 < units i + units j → 0x8000_0000 - i < 0x8000_0000 + j
-    to l = go (ltb 0 (units i)) refl
-      where
-        go : (b : Bool) → ltb 0 (units i) ≡ b → 0x8000_0000 - i < 0x8000_0000 + j
-        go true e = let m = units-back 0 i (ltb-true 0 (units i) e) in omega arith
-        go false e =
-            let z = ltb-false 0 (units i) e in
-            let y : 0 < units j = omega arith in
-            let m = units-back 0 j y in
-            omega arith
-
-    from : 0x8000_0000 - i < 0x8000_0000 + j → 0 < units i + units j
-    from l = go (ltb 0 i) refl
-      where
-        go : (b : Bool) → ltb 0 i ≡ b → 0 < units i + units j
-        go true e = let m = units-mono 0 i (ltb-true 0 i e) in omega arith
-        go false e =
-            let z = ltb-false 0 i e in
-            let y : 0 < j = omega arith in
-            let m = units-mono 0 j y in
-            omega arith
-placed true true i j I J =
-    same-ltb (units j) (units i) (0x8000_0000 - i) (0x8000_0000 - j) (λ l. let m = units-back j i l in omega arith)
-    (λ l. units-mono j i (omega arith))
-
-lt-bits : (a b : ℕ) → finite (ofBits binary32 a) ≡ true → finite (ofBits binary32 b) ≡ true
-    → lt (ofBits binary32 a) (ofBits binary32 b) ≡ ltb (place a) (place b)
-unfolding place
-lt-bits a b h k =
-    lt-sized (ofBits binary32 a) (ofBits binary32 b) (leb 0x8000_0000 a) (leb 0x8000_0000 b) (units (a % 0x8000_0000))
-    (units (b % 0x8000_0000)) (2 ^ 149) (pow-pos 149) (sized a h) (sized b k)
-    ∙ placed (leb 0x8000_0000 a) (leb 0x8000_0000 b) (a % 0x8000_0000) (b % 0x8000_0000) (omega arith) (omega arith)
-
--- of floats: what is below is of the lower place
-lt-places : (x y : Float) → T (fits binary32 x) → T (fits binary32 y) → finite x ≡ true → finite y ≡ true
-    → lt x y ≡ ltb (place (toBits binary32 x)) (place (toBits binary32 y))
-lt-places x y X Y h k =
-    let p = ofBits-toBits binary32 x X in
-    let q = ofBits-toBits binary32 y Y in
-    sym (λ i. lt (p i) (q i)) ∙ lt-bits (toBits binary32 x) (toBits binary32 y) (ap finite p ∙ h) (ap finite q ∙ k)
 
 -- ---- at most is not above
 
@@ -260,8 +204,3 @@ le-is (inf s) y h k = absurd (true≢false (sym h))
 le-is (fin s m e) nan h k = absurd (true≢false (sym k))
 le-is (fin s m e) (inf t) h k = absurd (true≢false (sym k))
 le-is (fin s m e) (fin t n d) h k = at-most-whole s t (m * up e * down d) (n * up d * down e)
-
--- what is at most another is of no higher place
-pub le-places : (x y : Float) → T (fits binary32 x) → T (fits binary32 y) → finite x ≡ true → finite y ≡ true
-    → le x y ≡ leb (place (toBits binary32 x)) (place (toBits binary32 y))
-le-places x y X Y h k = le-is x y h k ∙ ap not (lt-places y x Y X k h) ∙ not-ltb (place (toBits binary32 x)) (place (toBits binary32 y))

@@ -2,7 +2,7 @@
 ghost use mathlib.Core.Path.{_≡_};
 ghost use mathlib.Core.Bool.{true};
 ghost use Prim.Native.Nat.{_*_};
-ghost use Rattle.sheet.specs.Sheet.{finite, within, limitsFinite, gateLegal, sheetLegal, readingsOf, admitted, plausible};
+ghost use Rattle.sheet.specs.Sheet.{measurable, within, limitsMeasurable, ordered, sheetLegal, readingsOf, admitted, plausible};
 use lot::Declaration;
 use sheet::Gate;
 use sheet::Readings;
@@ -18,7 +18,7 @@ fn readings_of(d: Declaration) -> Readings
 }
 
 fn is_within(g: Gate, x: f32) -> bool
-    requires { ⌜ (gateLegal g ≡ true) × (finite x ≡ true) ⌝ }
+    requires { ⌜ (limitsMeasurable g ≡ true) × (measurable x ≡ true) ⌝ }
     ensures { λ r. ⌜ r ≡ within g x ⌝ }
 {
     match g {
@@ -33,10 +33,10 @@ fn is_within(g: Gate, x: f32) -> bool
     }
 }
 
-// No low exceeds its high, no limit being NaN or infinite.
-pub fn is_legal_gate(g: Gate) -> bool
-    requires { ⌜ limitsFinite g ≡ true ⌝ }
-    ensures { λ r. ⌜ r ≡ gateLegal g ⌝ }
+// No low exceeds its high, no limit being NaN, infinite or below zero.
+pub fn is_ordered(g: Gate) -> bool
+    requires { ⌜ limitsMeasurable g ≡ true ⌝ }
+    ensures { λ r. ⌜ r ≡ ordered g ⌝ }
 {
     match g {
         Gate::Open => true,
@@ -47,7 +47,7 @@ pub fn is_legal_gate(g: Gate) -> bool
 
 // Each reading is within its gate.
 fn admits(sheet: Sheet, r: Readings) -> bool
-    requires { ⌜ (sheetLegal sheet ≡ true) × (finite (r .moisture) ≡ true) × (finite (r .conductivity) ≡ true) ⌝ }
+    requires { ⌜ (sheetLegal sheet ≡ true) × (measurable (r .moisture) ≡ true) × (measurable (r .conductivity) ≡ true) ⌝ }
     ensures { λ b. ⌜ b ≡ admitted sheet r ⌝ }
 {
     let m = sheet.moisture;
@@ -71,8 +71,8 @@ pub fn is_plausible(sheet: Sheet, d: Declaration) -> bool
 {
     if d.colonies >= 1 {
         if d.kilograms as u64 <= most(d.colonies, sheet.cap) {
-            if floats::is_finite(d.moisture) {
-                if floats::is_finite(d.conductivity) {
+            if floats::is_measurable(d.moisture) {
+                if floats::is_measurable(d.conductivity) {
                     return admits(sheet, readings_of(d));
                 }
             }

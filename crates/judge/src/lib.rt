@@ -11,8 +11,8 @@ fn is_legal_kept(k: Kept) -> bool
     ensures { λ r. ⌜ r ≡ keptLegal k ⌝ }
 {
     if kept::is_form(k) {
-        if kept::has_finite_limits(k) {
-            return gates::is_legal_gate(kept::gate_of(k));
+        if kept::has_measurable_limits(k) {
+            return gates::is_ordered(kept::gate_of(k));
         }
     }
     false

@@ -2,7 +2,7 @@
 ghost use mathlib.Core.Path.{_≡_};
 ghost use Prim.Native.Nat.{_+_, _<_};
 ghost use lib.ListN.{length};
-ghost use Rattle.sheet.specs.Sheet.{limitsFinite};
+ghost use Rattle.sheet.specs.Sheet.{limitsMeasurable};
 ghost use Rattle.sheet.specs.Kept.{keptAt, gateOf, keptForm};
 use sheet::Gate;
 use sheet::Kept;
@@ -44,18 +44,15 @@ pub fn is_form(k: Kept) -> bool
     k.kind == 2
 }
 
-// No limit is NaN or infinite.
-pub fn has_finite_limits(k: Kept) -> bool
-    ensures { λ r. ⌜ r ≡ limitsFinite (gateOf k) ⌝ }
+// No limit is NaN, infinite or below zero.
+pub fn has_measurable_limits(k: Kept) -> bool
+    ensures { λ r. ⌜ r ≡ limitsMeasurable (gateOf k) ⌝ }
 {
     if k.kind == 0 {
         return true;
     }
     if k.kind == 1 {
-        return floats::is_finite(k.high);
+        return floats::is_measurable(k.high);
     }
-    if floats::is_finite(k.low) {
-        return floats::is_finite(k.high);
-    }
-    false
+    floats::is_measurable(k.low) && floats::is_measurable(k.high)
 }

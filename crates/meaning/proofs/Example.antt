@@ -4,10 +4,8 @@ use mathlib.Core.Path.{_≡_, refl}
 use mathlib.Core.Bool.{true}
 use mathlib.Core.List.{List, [], _∷_, _++_}
 use mathlib.Core.Option.{some}
-use lib.Ieee.{ofBits, toBits}
 use lib.ListN.{replicate}
 use Rattle.card.specs.Card.{housesOk, downOk}
-use Rattle.sheet.specs.Sheet.{gateLegal}
 use Rattle.sheet.specs.Kept.{sheetBytes, sheetAt, isSheet, sheetLegalAt}
 use Rattle.entry.specs.Entry.{Decl}
 use Rattle.meaning.specs.Slot.{slotAt, putSlot}
@@ -54,7 +52,7 @@ unfolding lengthOf
 later-here = refl
 
 opened-here : opened (replicate 158 9) 1 1 0 0 8 2026 sheet ≡ record { answer = 0; book = freshly }
-unfolding opened downOk housesOk numbersOk lengthOf isSheet gateLegal sheetAt sheetBytes write ofBits toBits mostLimit
+unfolding opened downOk housesOk numbersOk lengthOf isSheet sheetAt sheetBytes write mostLimit
 opened-here = refl
 
 -- slot i of the one entry
@@ -75,7 +73,7 @@ unfolding putSlot slotPlace entrySlot
 sent-here = refl
 
 legal-here : legal sent ≡ true
-unfolding legal downOk housesOk numbersOk lengthOf sheetLegalAt ofBits mostLimit
+unfolding legal downOk housesOk numbersOk lengthOf sheetLegalAt mostLimit
 legal-here = refl
 
 meant-here : look sent 0 0 .send ≡ some lot

@@ -5,7 +5,6 @@ use mathlib.Core.Path.{_≡_, refl, sym, ap, _∙_}
 use mathlib.Core.Bool.{true}
 use mathlib.Core.List.{List}
 use lib.Dec.{T, ltb}
-use lib.Ieee.{ofBits}
 use borrow.Author.Tests.{lt-ltb}
 use native.Mathlib.Omega.{arith}
 use Rattle.card.specs.Card.{fitting, quorum, amplify, deliver}
@@ -32,7 +31,7 @@ use Rattle.season.proofs.Steps.{stepsOf, season-means}
 
 -- the protocol's state at the end of the run that these steps mean; with this unfolded it computes
 unfoldable pub endOf : Houses → List Step → protocol.State
-unfolding wallOf fitting quorum amplify deliver okBy plausible bytesOf sheetAt ofBits wire readOf requestOf protocol.run protocol.step
+unfolding wallOf fitting quorum amplify deliver okBy plausible bytesOf sheetAt wire readOf requestOf protocol.run protocol.step
     protocol.called protocol.consumes outcome after publish publishes receive recording takesSend takesEcho takesReady same
 endOf H l = protocol.run (wall H) (stepsOf H l) protocol.start
 

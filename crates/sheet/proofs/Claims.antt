@@ -1,5 +1,7 @@
 -- What this crate promises holds.
-use Rattle.sheet.proofs.Exactly.{plausible-exactly, no-colonies, no-kilograms}
+use Rattle.sheet.proofs.Exactly.{plausible-exactly, no-colonies, no-kilograms, below-zero}
+use Rattle.sheet.proofs.Measurable.{minus-zero, minus-zero-limit}
+use Rattle.sheet.proofs.Limits.{sheet-legal-exactly}
 use Rattle.sheet.specs.Claims.{Claims}
 use Rattle.sheet.proofs.OneForm.{sheet-of-bytes, legal-bytes, judged-bytes, judged-exactly, bytes-of-sheet, one-form}
 
@@ -9,6 +11,10 @@ claims =
       exactly = plausible-exactly;
       no-colonies = no-colonies;
       no-kilograms = no-kilograms;
+      below-zero = below-zero;
+      minus-zero = minus-zero;
+      sheet-legal-exactly = sheet-legal-exactly;
+      minus-zero-limit = minus-zero-limit;
       sheet-of-bytes = sheet-of-bytes;
       legal-bytes = legal-bytes;
       judged-bytes = judged-bytes;

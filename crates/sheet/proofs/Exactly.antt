@@ -4,13 +4,14 @@ use Prim.Native.Nat.{_*_, _≤_, _<_, zero-le}
 use native.Mathlib.Decide.{decLe}
 use native.Mathlib.Omega.{arith}
 use mathlib.Core.Path.{_≡_, refl, sym, _∙_}
-use mathlib.Core.Logic.{_↔_}
+use mathlib.Core.Logic.{_↔_, _⊎_, ⊎-elim}
 use mathlib.Core.Bool.{Bool, true, false, _&&_, true≢false, and-eq-true-iff}
 use lib.Ieee.{binary32, ofBits}
 use borrow.Author.Tests.{le-leb, lt-leb}
 use Rattle.sheet.specs.declared.Sheet.{Sheet}
 use Rattle.lot.specs.declared.Declaration.{Declaration}
-use Rattle.sheet.specs.Sheet.{readingsOf, finite, within, passes, admitted, plausible, Plausible}
+use Rattle.sheet.specs.Sheet.{readingsOf, belowZero, passes, admitted, plausible, Plausible}
+use Rattle.sheet.proofs.Measurable.{passes-exactly}
 
 and-true : (a b : Bool) → a ≡ true → a && b ≡ b
 and-true a b e = rw e
@@ -40,29 +41,27 @@ readings-decide s d colony weight = and-true _ _ (le-leb _ _ colony) ∙ and-tru
 
 module _ (s : Sheet) (d : Declaration) where
   from : Plausible s d → plausible s d ≡ true
-  unfolding admitted passes
+  unfolding admitted
   from p =
       rw (
         readings-decide s d (p .colony) (p .weight),
-        p .moisture-finite,
-        p .conductivity-finite,
-        p .moisture-within,
-        p .conductivity-within,
+        passes-exactly (s .moisture) _ .1 (p .moisture-measurable, p .moisture-within),
+        passes-exactly (s .conductivity) _ .1 (p .conductivity-measurable, p .conductivity-within),
       )
 
   read : 1 ≤ d .colonies → d .kilograms ≤ d .colonies * s .cap → admitted s (readingsOf d) ≡ true → Plausible s d
-  unfolding admitted passes
+  unfolding admitted
   read colony weight a =
       let m = ofBits binary32 (d .moisture) in
       let c = ofBits binary32 (d .conductivity) in
       let b = and-eq-true-iff (passes (s .moisture) m) (passes (s .conductivity) c) .0 a in
-      let p = and-eq-true-iff (finite m) (within (s .moisture) m) .0 (b .0) in
-      let q = and-eq-true-iff (finite c) (within (s .conductivity) c) .0 (b .1) in
+      let p = passes-exactly (s .moisture) m .0 (b .0) in
+      let q = passes-exactly (s .conductivity) c .0 (b .1) in
       record {
         colony = colony;
         weight = weight;
-        moisture-finite = p .0;
-        conductivity-finite = q .0;
+        moisture-measurable = p .0;
+        conductivity-measurable = q .0;
         moisture-within = p .1;
         conductivity-within = q .1;
       }
@@ -91,3 +90,13 @@ module _ (s : Sheet) (d : Declaration) where
   -- no kilograms is plausible, of one colony or more, where the readings are admitted
   pub no-kilograms : 1 ≤ d .colonies → d .kilograms ≡ 0 → admitted s (readingsOf d) ≡ true → plausible s d ≡ true
   no-kilograms colony none a = readings-decide s d colony (rw none zero-le) ∙ a
+
+  -- a declaration with a reading below zero isn't plausible, at whatever gates
+  pub below-zero : (belowZero (ofBits binary32 (d .moisture)) ≡ true) ⊎ (belowZero (ofBits binary32 (d .conductivity)) ≡ true)
+      → plausible s d ≡ false
+  below-zero h =
+      sym
+      (not-plausible λ p. ⊎-elim
+      (λ m. true≢false (sym m ∙ p .moisture-measurable .not-below))
+      (λ c. true≢false (sym c ∙ p .conductivity-measurable .not-below))
+      h)

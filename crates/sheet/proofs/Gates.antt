@@ -1,14 +1,33 @@
--- A gate kept in the one form of a legal gate is legal, and so is the sheet; a sheet's bytes are 22.
+-- When a kept gate is the one form of a legal gate, test by test; then the gate is legal, and so is the sheet; a sheet's bytes are 22.
 use Prim.Native.Nat.{ℕ, _+_}
-use mathlib.Core.Path.{_≡_}
-use mathlib.Core.Bool.{true, and-eq-true-iff}
+use mathlib.Core.Path.{_≡_, _∙_}
+use mathlib.Core.Bool.{true, false, and-eq-true-iff}
 use mathlib.Core.List.{List}
 use lib.Dec.{eqb}
 use lib.ListN.{length}
 use borrow.Author.Tests.{eqb-true}
-use Rattle.sheet.specs.Sheet.{gateLegal, sheetLegal}
+use Rattle.sheet.specs.Sheet.{limitsMeasurable, ordered, gateLegal, sheetLegal}
 use Rattle.sheet.specs.declared.Kept.{Kept}
 use Rattle.sheet.specs.Kept.{sheetLength, gateOf, keptForm, keptLegal, keptAt, sheetAt, sheetLegalAt, isSheet}
+use Rattle.sheet.proofs.Limits.{not-legal, limits-then-order}
+
+-- ---- a kept gate: first its form, then its limits, and then their order
+
+pub no-form : (k : Kept) → keptForm k ≡ false → keptLegal k ≡ false
+unfolding keptLegal
+no-form k f = rw f
+
+gate-decides : (k : Kept) → keptForm k ≡ true → keptLegal k ≡ gateLegal (gateOf k)
+unfolding keptLegal
+gate-decides k f = rw f
+
+pub bad-limits : (k : Kept) → keptForm k ≡ true → limitsMeasurable (gateOf k) ≡ false → keptLegal k ≡ false
+bad-limits k f l = gate-decides k f ∙ not-legal (gateOf k) l
+
+pub order-decides : (k : Kept) → keptForm k ≡ true → limitsMeasurable (gateOf k) ≡ true → keptLegal k ≡ ordered (gateOf k)
+order-decides k f l = gate-decides k f ∙ limits-then-order (gateOf k) l
+
+-- ---- and what is legal
 
 pub legal-gate : (k : Kept) → keptLegal k ≡ true → gateLegal (gateOf k) ≡ true
 unfolding keptLegal

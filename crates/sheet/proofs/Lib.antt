@@ -1,5 +1,6 @@
+pub mod Measurable
 pub mod Exactly
-pub mod Finite
+pub mod Limits
 pub mod Gates
 pub mod OneForm
 pub mod Claims

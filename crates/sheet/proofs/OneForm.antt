@@ -25,7 +25,8 @@ use Rattle.sheet.specs.Kept.{keptOf, keptBytes, laid, sheetBytes, gateOf
 use Rattle.sheet.specs.Kept.{judged, sheetLength}
 use Rattle.lot.proofs.Declared.{numbers-of-bytes}
 use Rattle.sheet.proofs.Exactly.{plausible-exactly}
-use Rattle.sheet.proofs.Finite.{no-nan, at-most-finite, low-finite, high-finite}
+use Rattle.sheet.proofs.Measurable.{no-nan}
+use Rattle.sheet.proofs.Limits.{high-measurable, both-measurable, legal-limits}
 use Rattle.sheet.proofs.Gates.{legal-gate, sheet-sized}
 
 -- ---- a gate and the form in which it is kept
@@ -84,16 +85,16 @@ module _ (k : Kept) (low : k .low < 2 ^ 32) (high : k .high < 2 ^ 32) (h : keptL
           let u = eqb-true (k .high) 0 (z .1) in
           rw e (λ i. record { kind = sym kind i; low = sym l i; high = sym u i })
       go false true e f =
-          let g = rw (e, f) at (legal-gate k h) in
+          let g = legal-limits (AtMost hi) (rw (e, f) at (legal-gate k h)) .0 in
           let kind = eqb-true (k .kind) 1 f in
           let l = eqb-true (k .low) 0 (rw (e, f) at form) in
-          let u = toBits-ofBits binary32 (k .high) high (no-nan hi (at-most-finite hi g)) in
+          let u = toBits-ofBits binary32 (k .high) high (no-nan hi (high-measurable hi g)) in
           rw (e, f) (λ i. record { kind = sym kind i; low = sym l i; high = u i })
       go false false e f =
-          let g = rw (e, f) at (legal-gate k h) in
+          let g = both-measurable lo hi (legal-limits (Between lo hi) (rw (e, f) at (legal-gate k h)) .0) in
           let kind = eqb-true (k .kind) 2 (rw (e, f) at form) in
-          let l = toBits-ofBits binary32 (k .low) low (no-nan lo (low-finite lo hi g)) in
-          let u = toBits-ofBits binary32 (k .high) high (no-nan hi (high-finite lo hi g)) in
+          let l = toBits-ofBits binary32 (k .low) low (no-nan lo (g .0)) in
+          let u = toBits-ofBits binary32 (k .high) high (no-nan hi (g .1)) in
           rw (e, f) (λ i. record { kind = sym kind i; low = l i; high = u i })
 
 -- ---- from a sheet to its bytes and back

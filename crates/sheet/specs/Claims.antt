@@ -1,14 +1,17 @@
 -- What this crate promises: when a declaration is plausible, and that a sheet has one byte form.
-use mathlib.Core.Logic.{_↔_}
+use mathlib.Core.Logic.{_↔_, _⊎_}
 use Prim.Native.Nat.{ℕ, _≤_}
 use mathlib.Core.Path.{_≡_}
 use mathlib.Core.Bool.{true, false}
 use mathlib.Core.List.{List}
+use lib.Ieee.{binary32, ofBits}
 use Rattle.words.specs.Words.{Bytes}
+use Rattle.sheet.specs.declared.Gate.{Gate}
 use Rattle.sheet.specs.declared.Sheet.{Sheet}
 use Rattle.lot.specs.declared.Declaration.{Declaration}
 use Rattle.lot.specs.Declaration.{bytesOf, declarationAt}
-use Rattle.sheet.specs.Sheet.{GateFits, sheetLegal, judgedBy, plausible, Plausible, admitted, readingsOf}
+use Rattle.sheet.specs.Sheet.{GateFits, belowZero, measurable, sheetLegal, LegalGate, judgedBy, plausible, Plausible, passes, admitted}
+use Rattle.sheet.specs.Sheet.{readingsOf}
 use Rattle.sheet.specs.Kept.{sheetBytes, sheetAt, isSheet, judged}
 
 pub record Claims : Type 0 where
@@ -19,6 +22,16 @@ pub record Claims : Type 0 where
   -- and no kilograms is, of one colony or more, where the readings are admitted.
   pub no-kilograms : (sheet : Sheet) (d : Declaration) → 1 ≤ d .colonies → d .kilograms ≡ 0 → admitted sheet (readingsOf d) ≡ true
       → plausible sheet d ≡ true
+  -- One with a reading below zero isn't, even at an open gate and inside a gate;
+  pub below-zero : (sheet : Sheet) (d : Declaration)
+      → (belowZero (ofBits binary32 (d .moisture)) ≡ true) ⊎ (belowZero (ofBits binary32 (d .conductivity)) ≡ true)
+      → plausible sheet d ≡ false
+  -- and minus zero passes wherever zero does.
+  pub minus-zero : (g : Gate) → passes g (ofBits binary32 0x8000_0000) ≡ passes g (ofBits binary32 0)
+  -- A sheet is legal exactly when no limit is NaN, infinite or below zero and no low exceeds its high;
+  pub sheet-legal-exactly : (sheet : Sheet) → (sheetLegal sheet ≡ true) ↔ (LegalGate (sheet .moisture) × LegalGate (sheet .conductivity))
+  -- a limit of minus zero is none of these.
+  pub minus-zero-limit : measurable (ofBits binary32 0x8000_0000) ≡ true
   -- Sheet limits are kept as their bits: the bytes of a sheet read as that sheet,
   pub sheet-of-bytes : (sheet : Sheet) → GateFits (sheet .moisture) → GateFits (sheet .conductivity) → sheetAt (sheetBytes sheet) 0 ≡ sheet
   -- they are a legal sheet's exactly when it is legal,

@@ -27,10 +27,12 @@ abbrev pub laid : ℕ → Kept → Kept → List ℕ
 laid cap m c = be32 cap ++ (keptBytes m ++ keptBytes c)
 
 unfoldable pub sheetBytes : Sheet → List ℕ
+unfolding toBits
 sheetBytes sheet = laid (sheet .cap) (keptOf (sheet .moisture)) (keptOf (sheet .conductivity))
 
 -- a kind is 0 open, 1 at most, 2 between
 unfoldable pub gateOf : Kept → Gate
+unfolding ofBits
 gateOf k =
     cond (eqb (k .kind) 0) Open
     (cond (eqb (k .kind) 1) (AtMost (ofBits binary32 (k .high))) (Between (ofBits binary32 (k .low)) (ofBits binary32 (k .high))))

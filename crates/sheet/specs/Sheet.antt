@@ -16,25 +16,39 @@ finite nan = false
 finite (inf sign) = false
 finite (fin sign m e) = true
 
+-- compares below zero, which minus zero does not
+abbrev pub belowZero : Float → Bool
+belowZero x = lt x (ofBits binary32 0)
+
+-- what a reading or a limit may be: not NaN, infinite or below zero
+unfoldable pub measurable : Float → Bool
+unfolding finite lt ofBits
+measurable x = finite x && not (belowZero x)
+
 -- open, at most a limit, or between a low and a high limit; limits count as inside
 unfoldable pub within : Gate → Float → Bool
+unfolding le
 within Open x = true
 within (AtMost high) x = le x high
 within (Between low high) x = le low x && le x high
 
--- no limit is NaN or infinite
-unfoldable pub limitsFinite : Gate → Bool
-unfolding finite
-limitsFinite Open = true
-limitsFinite (AtMost high) = finite high
-limitsFinite (Between low high) = finite low && finite high
+-- no limit is NaN, infinite or below zero
+unfoldable pub limitsMeasurable : Gate → Bool
+unfolding measurable
+limitsMeasurable Open = true
+limitsMeasurable (AtMost high) = measurable high
+limitsMeasurable (Between low high) = measurable low && measurable high
 
--- and no low exceeds its high
+-- no low exceeds its high
+unfoldable pub ordered : Gate → Bool
+unfolding lt
+ordered Open = true
+ordered (AtMost high) = true
+ordered (Between low high) = not (lt high low)
+
 unfoldable pub gateLegal : Gate → Bool
-unfolding finite
-gateLegal Open = true
-gateLegal (AtMost high) = finite high
-gateLegal (Between low high) = finite low && (finite high && not (lt high low))
+unfolding limitsMeasurable ordered
+gateLegal g = limitsMeasurable g && ordered g
 
 unfoldable pub sheetLegal : Sheet → Bool
 unfolding gateLegal
@@ -50,10 +64,10 @@ GateFits (Between low high) = T (fits binary32 low) × T (fits binary32 high)
 abbrev pub readingsOf : Declaration → Readings
 readingsOf d = record { moisture = ofBits binary32 (d .moisture); conductivity = ofBits binary32 (d .conductivity) }
 
--- a reading is neither NaN nor infinite, and within its gate by float comparison
+-- a reading is not NaN, infinite or below zero, and within its gate by float comparison
 unfoldable pub passes : Gate → Float → Bool
-unfolding finite within
-passes g x = finite x && within g x
+unfolding measurable within
+passes g x = measurable x && within g x
 
 unfoldable pub admitted : Sheet → Readings → Bool
 unfolding passes
@@ -69,15 +83,29 @@ unfoldable pub judgedBy : Sheet → Declaration → ℕ
 unfolding sheetLegal plausible
 judgedBy sheet d = cond (sheetLegal sheet) (cond (plausible sheet d) 0 5) 10
 
--- a declaration is plausible exactly when all of these hold (proofs/Exactly.antt)
+-- ---- the same in plain conditions (proofs/Exactly.antt)
+
+pub record Measurable (x : Float) : Type 0 where
+  -- neither NaN nor infinite
+  pub is-finite : finite x ≡ true
+  -- nor below zero
+  pub not-below : belowZero x ≡ false
+
+-- a sheet is legal exactly when both its gates are
+abbrev pub LegalGate : Gate → Type 0
+LegalGate Open = Unit
+LegalGate (AtMost high) = Measurable high
+LegalGate (Between low high) = Measurable low × Measurable high × (lt high low ≡ false)
+
+-- a declaration is plausible exactly when all of these hold
 pub record Plausible (sheet : Sheet) (d : Declaration) : Type 0 where
   -- it has at least one colony
   pub colony : 1 ≤ d .colonies
   -- kilograms is at most colonies times cap
   pub weight : d .kilograms ≤ d .colonies * sheet .cap
-  -- neither reading is NaN or infinite
-  pub moisture-finite : finite (ofBits binary32 (d .moisture)) ≡ true
-  pub conductivity-finite : finite (ofBits binary32 (d .conductivity)) ≡ true
+  -- neither reading is NaN, infinite or below zero
+  pub moisture-measurable : Measurable (ofBits binary32 (d .moisture))
+  pub conductivity-measurable : Measurable (ofBits binary32 (d .conductivity))
   -- each reading is within its gate
   pub moisture-within : within (sheet .moisture) (ofBits binary32 (d .moisture)) ≡ true
   pub conductivity-within : within (sheet .conductivity) (ofBits binary32 (d .conductivity)) ≡ true

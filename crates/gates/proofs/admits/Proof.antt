@@ -1,16 +1,16 @@
 -- `gates::admits` meets its contract.
 use Rattle.sheet.specs.Sheet.{passes, admitted}
-use Rattle.sheet.proofs.Finite.{gates-legal}
+use Rattle.sheet.proofs.Limits.{gates-limits}
 use Rattle.gates.proofs.admits.Statement.{statement}
 use Rattle.gates.proofs.admits.Tie as tie
 
 is-within-requires : tie.Need-is-within-requires
-is-within-requires c κs = (gates-legal (c .args .sheet) (c .pre .0) .0, c .pre .1)
+is-within-requires c κs = (gates-limits (c .args .sheet) (c .pre .0) .0, c .pre .1)
 
 is-within-requires-2 : tie.Need-is-within-requires-2
 is-within-requires-2 c κs =
     let start = c .before .before in
-    (gates-legal (start .args .sheet) (start .pre .0) .1, start .pre .2)
+    (gates-limits (start .args .sheet) (start .pre .0) .1, start .pre .2)
 
 returns : tie.Need-returns
 unfolding admitted passes

@@ -3,7 +3,8 @@ use native.Mathlib.Omega.{arith}
 use mathlib.Core.Path.{sym, ap, _∙_}
 use mathlib.Core.Bool.{true≢false}
 use Rattle.sheet.specs.declared.Readings.{Readings}
-use Rattle.sheet.specs.Sheet.{finite, admitted}
+use Rattle.sheet.specs.Sheet.{measurable, admitted}
+use Rattle.sheet.proofs.Measurable.{measurable-exactly}
 use Rattle.sheet.proofs.Exactly.{no-colonies, too-heavy, readings-decide, not-plausible}
 use borrow.Author.Needs.{needs}
 use Rattle.gates.proofs.is_plausible.Statement.{statement}
@@ -15,11 +16,11 @@ cast-if2 c = search needs
 most-requires : tie.Need-most-requires
 most-requires c κs = search needs
 
-is-finite-requires : tie.Need-is-finite-requires
-is-finite-requires c κs = search needs
+is-measurable-requires : tie.Need-is-measurable-requires
+is-measurable-requires c κs = search needs
 
-is-finite-requires-2 : tie.Need-is-finite-requires-2
-is-finite-requires-2 c κs = search needs
+is-measurable-requires-2 : tie.Need-is-measurable-requires-2
+is-measurable-requires-2 c κs = search needs
 
 readings-of-requires : tie.Need-readings-of-requires
 readings-of-requires c κs = search needs
@@ -30,8 +31,8 @@ admits-requires c κs =
     let moisture = conductivity .before .before in
     let r = c .readings-of .ensures in (
       moisture .before .before .before .before .before .before .pre,
-      ap (λ (x : Readings). finite (x .moisture)) r ∙ sym (moisture .is-finite .ensures) ∙ conductivity .before .if3 .taken,
-      ap (λ (x : Readings). finite (x .conductivity)) r ∙ sym (conductivity .is-finite2 .ensures) ∙ c .before .if4 .taken,
+      ap (λ (x : Readings). measurable (x .moisture)) r ∙ sym (moisture .is-measurable .ensures) ∙ conductivity .before .if3 .taken,
+      ap (λ (x : Readings). measurable (x .conductivity)) r ∙ sym (conductivity .is-measurable2 .ensures) ∙ c .before .if4 .taken,
     )
 
 -- every test passed, and the readings decide
@@ -42,12 +43,12 @@ returns c =
     c .admits .ensures ∙ ap (admitted (given .sheet)) (c .before .readings-of .ensures)
     ∙ sym (readings-decide (given .sheet) (given .d) (omega arith) (omega arith))
 
--- a reading is not finite
+-- a reading is NaN, infinite or below zero
 returns-2 : tie.Need-returns-2
-returns-2 c = not-plausible _ _ (λ p. true≢false (sym (p .conductivity-finite) ∙ sym (c .before .is-finite2 .ensures) ∙ c .if4 .left))
+returns-2 c = not-plausible _ _ (λ p. true≢false (sym (measurable-exactly _ .1 (p .conductivity-measurable)) ∙ sym (c .before .is-measurable2 .ensures) ∙ c .if4 .left))
 
 returns-3 : tie.Need-returns-3
-returns-3 c = not-plausible _ _ (λ p. true≢false (sym (p .moisture-finite) ∙ sym (c .before .is-finite .ensures) ∙ c .if3 .left))
+returns-3 c = not-plausible _ _ (λ p. true≢false (sym (measurable-exactly _ .1 (p .moisture-measurable)) ∙ sym (c .before .is-measurable .ensures) ∙ c .if3 .left))
 
 -- too many kilograms
 returns-4 : tie.Need-returns-4
@@ -63,8 +64,8 @@ is-plausible-spec =
     (tie.spec
     cast-if2
     most-requires
-    is-finite-requires
-    is-finite-requires-2
+    is-measurable-requires
+    is-measurable-requires-2
     readings-of-requires
     admits-requires
     returns

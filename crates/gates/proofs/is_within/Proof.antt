@@ -1,7 +1,7 @@
 -- `gates::is_within` meets its contract.
 use mathlib.Core.Path.{sym, ap, _∙_}
-use Rattle.sheet.specs.Sheet.{within, gateLegal}
-use Rattle.sheet.proofs.Finite.{at-most-finite, low-finite, high-finite}
+use Rattle.sheet.specs.Sheet.{within, limitsMeasurable}
+use Rattle.sheet.proofs.Limits.{high-measurable, both-measurable}
 use borrow.Author.Needs.{needs}
 use Rattle.gates.proofs.is_within.Statement.{statement}
 use Rattle.gates.proofs.is_within.Tie as tie
@@ -15,7 +15,7 @@ enum-known-g c = search needs
 is-at-most-requires : tie.Need-is-at-most-requires
 is-at-most-requires c κs =
     let start = c .before .before .before in
-    (start .pre .1, at-most-finite _ (sym (ap gateLegal (c .before .g .given .1)) ∙ start .pre .0))
+    (start .pre .1, high-measurable _ (sym (ap limitsMeasurable (c .before .g .given .1)) ∙ start .pre .0))
 
 enum-known-g-2 : tie.Need-enum-known-g-2
 enum-known-g-2 c = search needs
@@ -23,13 +23,13 @@ enum-known-g-2 c = search needs
 is-at-most-requires-2 : tie.Need-is-at-most-requires-2
 is-at-most-requires-2 c κs =
     let start = c .before .before .before in
-    (low-finite _ _ (sym (ap gateLegal (c .before .g2 .given .1)) ∙ start .pre .0), start .pre .1)
+    (both-measurable _ _ (sym (ap limitsMeasurable (c .before .g2 .given .1)) ∙ start .pre .0) .0, start .pre .1)
 
 is-at-most-requires-3 : tie.Need-is-at-most-requires-3
 is-at-most-requires-3 c κs =
     let t = c .before .before .before in
     let start = t .before .before in
-    (start .pre .1, high-finite _ _ (sym (ap gateLegal (t .g2 .given .1)) ∙ start .pre .0))
+    (start .pre .1, both-measurable _ _ (sym (ap limitsMeasurable (t .g2 .given .1)) ∙ start .pre .0) .1)
 
 returns : tie.Need-returns
 unfolding within
