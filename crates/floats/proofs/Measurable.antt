@@ -10,7 +10,7 @@ use lib.Ieee.{Float, binary32, ofBits, toBits, fits, below, lt, le}
 use lib.Ieee.Bits.{ofBits-toBits}
 use borrow.Author.Tests.{lt-ltb, le-ltb, le-leb, lt-leb, ltb-true, ltb-false}
 use Rattle.sheet.specs.Sheet.{finite, belowZero, measurable, Measurable}
-use Rattle.sheet.proofs.Measurable.{measurable-exactly, minus-zero-limit}
+use Rattle.sheet.proofs.Measurable.{measurable-exactly, minus-zero-measurable}
 use Rattle.floats.proofs.Finite.{finite-bits}
 use Rattle.floats.proofs.Order.{same-ltb, not-ltb, unitsOf, units, units-mono, units-back, sized, lt-sized, le-is}
 
@@ -39,7 +39,7 @@ in-range b l =
     measurable-exactly (ofBits binary32 b) .1 (record { is-finite = f; not-below = below-bits b f ∙ rw s refl })
 
 pub at-minus-zero : (b : ℕ) → b ≡ 0x8000_0000 → measurable (ofBits binary32 b) ≡ true
-at-minus-zero b e = rw e minus-zero-limit
+at-minus-zero b e = rw e minus-zero-measurable
 
 pub out-of-range : (b : ℕ) → b < 2 ^ 32 → 0x7f80_0000 ≤ b → (b ≡ 0x8000_0000 → ⊥) → measurable (ofBits binary32 b) ≡ false
 out-of-range b small past other = go (measurable (ofBits binary32 b)) refl

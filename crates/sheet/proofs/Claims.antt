@@ -1,6 +1,6 @@
 -- What this crate promises holds.
 use Rattle.sheet.proofs.Exactly.{plausible-exactly, no-colonies, no-kilograms, below-zero}
-use Rattle.sheet.proofs.Measurable.{minus-zero, minus-zero-limit}
+use Rattle.sheet.proofs.Measurable.{below-zero-exactly, minus-zero, minus-zero-limit}
 use Rattle.sheet.proofs.Limits.{sheet-legal-exactly}
 use Rattle.sheet.specs.Claims.{Claims}
 use Rattle.sheet.proofs.OneForm.{sheet-of-bytes, legal-bytes, judged-bytes, judged-exactly, bytes-of-sheet, one-form}
@@ -11,6 +11,7 @@ claims =
       exactly = plausible-exactly;
       no-colonies = no-colonies;
       no-kilograms = no-kilograms;
+      below-zero-exactly = below-zero-exactly;
       below-zero = below-zero;
       minus-zero = minus-zero;
       sheet-legal-exactly = sheet-legal-exactly;

@@ -40,15 +40,6 @@ readings-decide s d colony weight = and-true _ _ (le-leb _ _ colony) ∙ and-tru
 -- ---- the conditions
 
 module _ (s : Sheet) (d : Declaration) where
-  from : Plausible s d → plausible s d ≡ true
-  unfolding admitted
-  from p =
-      rw (
-        readings-decide s d (p .colony) (p .weight),
-        passes-exactly (s .moisture) _ .1 (p .moisture-measurable, p .moisture-within),
-        passes-exactly (s .conductivity) _ .1 (p .conductivity-measurable, p .conductivity-within),
-      )
-
   read : 1 ≤ d .colonies → d .kilograms ≤ d .colonies * s .cap → admitted s (readingsOf d) ≡ true → Plausible s d
   unfolding admitted
   read colony weight a =
@@ -65,6 +56,15 @@ module _ (s : Sheet) (d : Declaration) where
         moisture-within = p .1;
         conductivity-within = q .1;
       }
+
+  from : Plausible s d → plausible s d ≡ true
+  unfolding admitted
+  from p =
+      rw (
+        readings-decide s d (p .colony) (p .weight),
+        passes-exactly (s .moisture) _ .1 (p .moisture-measurable, p .moisture-within),
+        passes-exactly (s .conductivity) _ .1 (p .conductivity-measurable, p .conductivity-within),
+      )
 
   to : plausible s d ≡ true → Plausible s d
   to h =

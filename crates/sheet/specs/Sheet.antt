@@ -16,9 +16,16 @@ finite nan = false
 finite (inf sign) = false
 finite (fin sign m e) = true
 
+-- zero and minus zero, by their bits
+abbrev pub plusZero : Float
+plusZero = ofBits binary32 0
+
+abbrev pub minusZero : Float
+minusZero = ofBits binary32 0x8000_0000
+
 -- compares below zero, which minus zero does not
 abbrev pub belowZero : Float → Bool
-belowZero x = lt x (ofBits binary32 0)
+belowZero x = lt x plusZero
 
 -- what a reading or a limit may be: not NaN, infinite or below zero
 unfoldable pub measurable : Float → Bool
