@@ -1,7 +1,7 @@
-/* Each call with each of its answers, two answers at once where the order decides, the walk over what was sent, no colonies in each call
- * and in a book of an earlier version, null pointers with length 0, the message of document 01, and the header's helpers, in two float
- * modes: says what is not so, and ends with status 1 then. It tries that header and archive agree; tests over all inputs stand
- * elsewhere. */
+/* Each call with each of its answers, two answers at once where the order decides, the walk over what was sent, no colonies and readings
+ * below zero in each call and in a book of an earlier version, limits below zero in a sheet and in a book, null pointers with length 0,
+ * the message of document 01, and the header's helpers, in two float modes: says what is not so, and ends with status 1 then. It tries
+ * that header and archive agree; tests over all inputs stand elsewhere. */
 #include "grassmunch.h"
 
 #include <stdio.h>
@@ -28,10 +28,12 @@ static const uint8_t request_2027[GM_REQUEST_BYTES] = {1, 0, 1, GM_REQUEST, 2, 0
 
 static uint8_t book[BOOK], before[BOOK];
 static int wrong;
+/* What is tried just now, where several things are tried alike. */
+static const char *of = "";
 
 static void so(bool truth, const char *what) {
     if (!truth) {
-        printf("not so: %s\n", what);
+        printf("not so: %s%s%s\n", what, *of ? ": " : "", of);
         wrong = 1;
     }
 }
@@ -63,6 +65,8 @@ static uint8_t open_as(uint32_t n, uint32_t own, uint32_t f, uint32_t d) {
     return gm_open(book, BOOK, n, 1, own, f, d, 2026, sheet, sizeof sheet);
 }
 
+static uint8_t open_with(const uint8_t *by) { return gm_open(book, BOOK, HOUSES, 1, 0, DOWN, LIMIT, 2026, by, GM_SHEET_BYTES); }
+
 static gm_outcome receive(uint32_t house, uint8_t kind, uint32_t season, uint8_t sender, const uint8_t *declaration) {
     gm_written message = gm_write(kind, season, sender, 0, declaration);
     return gm_receive(book, BOOK, house, message.message, sizeof message.message);
@@ -87,8 +91,11 @@ static void opening(void) {
        "opening 11");
 }
 
-static void no_legal_book(void) {
-    so(refused(gm_publish(book, BOOK, 1, heavy), GM_NO_LEGAL_BOOK), "publishing 1");
+/* Every call that takes a book answers 1, before any other answer, and leaves it. */
+static void every_call_1(void) {
+    memcpy(before, book, BOOK);
+    so(refused(gm_publish(book, BOOK, 0, lot77), GM_NO_LEGAL_BOOK), "publishing 1");
+    so(refused(gm_publish(book, BOOK, 1, heavy), GM_NO_LEGAL_BOOK), "publishing 1 before 4");
     so(refused(receive(0, GM_SEND, 2026, 0, lot77), GM_NO_LEGAL_BOOK), "receiving 1");
     so(refused(hear_request(0), GM_NO_LEGAL_BOOK), "a request 1");
     so(refused(gm_receive(book, BOOK, 4, request, 10), GM_NO_LEGAL_BOOK), "a request 1 before 2");
@@ -97,7 +104,13 @@ static void no_legal_book(void) {
     so(not_sent(gm_sent(book, BOOK, GM_SEND, 0, 0), GM_NO_LEGAL_BOOK), "sent 1");
     so(not_sent(gm_sent(book, BOOK, 0, 4, 1), GM_NO_LEGAL_BOOK), "sent 1 before 2");
     so(not_sent(gm_first_sent(book, BOOK).sent, GM_NO_LEGAL_BOOK), "a walk 1");
-    so(gm_waiting(book, BOOK).answer == GM_NO_LEGAL_BOOK, "waiting 1");
+    gm_waiting_answer next = gm_waiting(book, BOOK);
+    so(next.answer == GM_NO_LEGAL_BOOK && !next.waits && next.number == 0 && next.sender == 0, "waiting 1");
+    so(untouched(), "answer 1 leaves the bytes");
+}
+
+static void no_legal_book(void) {
+    every_call_1();
     so(open_as(HOUSES, 0, DOWN, LIMIT) == GM_ACCEPTED && !untouched(), "opening 0");
     so(book[29] == DOWN && book[30] == LIMIT && is_zero(book + 31, HOUSES), "f and d in the book, and nobody helped");
     so(not_sent(gm_first_sent(book, BOOK).sent, GM_NOT_IN_BOOK), "a fresh house sent nothing");
@@ -256,34 +269,176 @@ static void with_one_down(void) {
     book[31 + 3] = 0;
 }
 
-/* A declaration with no colonies is answered 5, whatever its weight, where 5 stands in each call's order. One colony with no kilograms is
- * plausible. */
+/* Plausible by this sheet: 0 from judging, and on a fresh book from publishing and receiving. */
+static void plausible(const uint8_t *by, const uint8_t *declaration) {
+    so(gm_judge(by, GM_SHEET_BYTES, declaration) == GM_ACCEPTED, "judging 0");
+    so(open_with(by) == GM_ACCEPTED && memcmp(book + 7, by, GM_SHEET_BYTES) == 0, "opening 0, and the sheet's bytes are kept");
+    so(gm_publish(book, BOOK, 0, declaration).gives, "publishing 0");
+    for (uint8_t kind = GM_SEND; kind <= GM_READY; kind++) {
+        so(receive(3, kind, 2026, 3, declaration).answer == GM_ACCEPTED, "receiving 0");
+    }
+}
+
+/* Not plausible by this sheet: 5 where it stands in each call's order, on a fresh book and on one that has `other`, which is plausible. */
+static void not_plausible(const uint8_t *by, const uint8_t *declaration, const uint8_t *other) {
+    so(gm_judge(by, GM_SHEET_BYTES, declaration) == GM_NOT_PLAUSIBLE, "judging 5");
+    so(gm_judge(by, GM_SHEET_BYTES - 1, declaration) == GM_SHEET_NOT_LEGAL, "judging 10 before 5");
+    so(open_with(by) == GM_ACCEPTED, "a fresh book");
+    memcpy(before, book, BOOK);
+    so(refused(gm_publish(book, BOOK, 1, declaration), GM_NOT_IN_BOOK), "publishing 4 before 5");
+    so(refused(gm_publish(book, BOOK, 0, declaration), GM_NOT_PLAUSIBLE), "publishing 5");
+    for (uint8_t kind = GM_SEND; kind <= GM_READY; kind++) {
+        so(refused(receive(4, kind, 2026, 3, declaration), GM_NOT_IN_BOOK), "receiving 4 before 5");
+        so(refused(receive(3, kind, 2026, 3, declaration), GM_NOT_PLAUSIBLE), "receiving 5");
+    }
+    so(refused(receive(1, GM_SEND, 2026, 3, declaration), GM_NOT_PLAUSIBLE), "receiving 5 before 6");
+    plausible(by, other);
+    memcpy(before, book, BOOK);
+    so(refused(gm_publish(book, BOOK, 0, declaration), GM_NOT_PLAUSIBLE), "publishing 5 before 8");
+    for (uint8_t kind = GM_SEND; kind <= GM_READY; kind++) {
+        so(refused(receive(3, kind, 2026, 3, declaration), GM_NOT_PLAUSIBLE), "receiving 5 before 13");
+    }
+}
+
+/* A declaration with no colonies is not plausible, whatever its weight; one colony with no kilograms is. */
 static void no_colonies(void) {
-    so(gm_judge(sheet, sizeof sheet, nothing) == GM_NOT_PLAUSIBLE, "judging 5: 0 colonies, 0 kilograms");
-    so(gm_judge(sheet, sizeof sheet, no_bees) == GM_NOT_PLAUSIBLE, "judging 5: 0 colonies, 1 kilogram");
-    so(gm_judge(sheet, sizeof sheet, no_honey) == GM_ACCEPTED, "judging 0: 1 colony, 0 kilograms");
-    so(gm_judge(sheet, sizeof sheet - 1, nothing) == GM_SHEET_NOT_LEGAL, "judging 10 before 5: no colonies");
-    so(open_as(HOUSES, 0, DOWN, LIMIT) == GM_ACCEPTED, "a fresh book, for no colonies");
-    memcpy(before, book, BOOK);
-    static const uint8_t *const without[] = {nothing, no_bees};
-    for (size_t i = 0; i < sizeof without / sizeof *without; i++) {
-        so(refused(gm_publish(book, BOOK, 1, without[i]), GM_NOT_IN_BOOK), "publishing 4 before 5: no colonies");
-        so(refused(gm_publish(book, BOOK, 0, without[i]), GM_NOT_PLAUSIBLE), "publishing 5: no colonies");
-        for (uint8_t kind = GM_SEND; kind <= GM_READY; kind++) {
-            so(refused(receive(4, kind, 2026, 3, without[i]), GM_NOT_IN_BOOK), "receiving 4 before 5: no colonies");
-            so(refused(receive(3, kind, 2026, 3, without[i]), GM_NOT_PLAUSIBLE), "receiving 5: no colonies");
+    of = "0 colonies, 0 kilograms";
+    not_plausible(sheet, nothing, no_honey);
+    of = "0 colonies, 1 kilogram";
+    not_plausible(sheet, no_bees, no_honey);
+    of = "";
+}
+
+/* Floats by their bits, so that no compiler and no float mode comes between. */
+static const uint32_t below[] = {0xC0400000, 0x80000001, 0xFF7FFFFF, 0xFF800000};
+static const char *const below_names[] = {"minus 3", "the smallest below zero", "the furthest below zero", "minus infinity"};
+static const uint32_t zeros[] = {0x00000000, 0x80000000};
+static const uint32_t above = 0x00000001, twenty = 0x41A00000, sign = 0x80000000;
+enum { BELOW = sizeof below / sizeof *below, ZEROS = sizeof zeros / sizeof *zeros };
+/* Moisture and conductivity: the first byte of its gate in a sheet, and of the reading in a declaration. */
+enum { READINGS = 2 };
+static const size_t gate_at[READINGS] = {4, 13}, reading_at[READINGS] = {12, 16};
+
+/* Cap 20, with one gate of these bits; the other is open. */
+static const uint8_t *sheet_with(size_t reading, uint8_t kind, uint32_t low, uint32_t high) {
+    static uint8_t made[GM_SHEET_BYTES];
+    gm_sheet_to_bytes(made, 20, gm_gate_open(), gm_gate_open());
+    made[gate_at[reading]] = kind;
+    gm_put_word(made + gate_at[reading] + 1, low);
+    gm_put_word(made + gate_at[reading] + 5, high);
+    return made;
+}
+
+/* Lot 77 with one reading of these bits. */
+static const uint8_t *lot_with(uint8_t *made, size_t reading, uint32_t bits) {
+    memcpy(made, lot77, GM_DECLARATION_BYTES);
+    gm_put_word(made + reading_at[reading], bits);
+    return made;
+}
+
+/* A reading below zero is not plausible, even at an open gate, and where a limit of its gate is above it. Each reading alone. */
+static void readings_below_zero(void) {
+    uint8_t lot[GM_DECLARATION_BYTES];
+    for (size_t reading = 0; reading < READINGS; reading++) {
+        for (size_t i = 0; i < BELOW; i++) {
+            of = below_names[i];
+            lot_with(lot, reading, below[i]);
+            not_plausible(sheet_with(reading, GM_GATE_OPEN, 0, 0), lot, lot77);
+            not_plausible(sheet_with(reading, GM_GATE_AT_MOST, 0, twenty), lot, lot77);
+            not_plausible(sheet_with(reading, GM_GATE_BETWEEN, sign, twenty), lot, lot77);
         }
-        so(refused(receive(1, GM_SEND, 2026, 3, without[i]), GM_NOT_PLAUSIBLE), "receiving 5 before 6: no colonies");
     }
-    so(gm_publish(book, BOOK, 0, no_honey).gives, "publishing 0: 1 colony, 0 kilograms");
-    for (uint8_t kind = GM_SEND; kind <= GM_READY; kind++) {
-        so(receive(3, kind, 2026, 3, no_honey).answer == GM_ACCEPTED, "receiving 0: 1 colony, 0 kilograms");
+    of = "";
+}
+
+/* This gate, whose limits are zeros, lets both zeros in, and neither the smallest above them nor the smallest below. */
+static void zeros_alone(size_t reading, uint8_t kind, uint32_t low, uint32_t high) {
+    uint8_t lot[GM_DECLARATION_BYTES], other[GM_DECLARATION_BYTES];
+    const uint8_t *by = sheet_with(reading, kind, low, high);
+    for (size_t i = 0; i < ZEROS; i++) {
+        plausible(by, lot_with(other, reading, zeros[i]));
+        not_plausible(by, lot_with(lot, reading, above), other);
+        not_plausible(by, lot_with(lot, reading, above | sign), other);
     }
+}
+
+/* Minus zero is not below zero: as a reading it passes wherever zero does, and as a limit it is legal. */
+static void both_zeros(void) {
+    uint8_t lot[GM_DECLARATION_BYTES];
+    of = "both zeros";
+    for (size_t reading = 0; reading < READINGS; reading++) {
+        for (size_t i = 0; i < ZEROS; i++) {
+            lot_with(lot, reading, zeros[i]);
+            plausible(sheet_with(reading, GM_GATE_OPEN, 0, 0), lot);
+            plausible(sheet_with(reading, GM_GATE_AT_MOST, 0, twenty), lot);
+            zeros_alone(reading, GM_GATE_AT_MOST, 0, zeros[i]);
+            for (size_t high = 0; high < ZEROS; high++) {
+                plausible(sheet_with(reading, GM_GATE_BETWEEN, zeros[high], twenty), lot);
+                zeros_alone(reading, GM_GATE_BETWEEN, zeros[i], zeros[high]);
+            }
+        }
+    }
+    of = "";
+}
+
+/* A sheet that is not legal: 10 from judging and opening, where it stands in their order; and 1 from every call on a book that holds it. */
+static void not_legal(const uint8_t *by) {
+    so(gm_judge(by, GM_SHEET_BYTES, lot77) == GM_SHEET_NOT_LEGAL, "judging 10");
+    so(gm_judge(by, GM_SHEET_BYTES, heavy) == GM_SHEET_NOT_LEGAL, "judging 10 before 5");
     memcpy(before, book, BOOK);
-    so(refused(gm_publish(book, BOOK, 0, nothing), GM_NOT_PLAUSIBLE), "publishing 5 before 8: no colonies");
-    for (uint8_t kind = GM_SEND; kind <= GM_READY; kind++) {
-        so(refused(receive(3, kind, 2026, 3, nothing), GM_NOT_PLAUSIBLE), "receiving 5 before 13: no colonies");
+    so(open_with(by) == GM_SHEET_NOT_LEGAL && untouched(), "opening 10");
+    so(gm_open(book, BOOK, HOUSES, 1, HOUSES, DOWN, LIMIT, 2026, by, GM_SHEET_BYTES) == GM_NOT_ALLOWED && untouched(),
+       "opening 9 before 10");
+    so(gm_open(book, BOOK - 1, HOUSES, 1, 0, DOWN, LIMIT, 2026, by, GM_SHEET_BYTES) == GM_SHEET_NOT_LEGAL && untouched(),
+       "opening 10 before 11");
+    plausible(sheet, lot77);
+    memcpy(book + 7, by, GM_SHEET_BYTES);
+    every_call_1();
+}
+
+/* Opens a book, and then sets the sign bit of the low limit, of the high one or of both: whether it is still a legal book. */
+static void signs_set(size_t reading, uint8_t kind, uint32_t limit, bool low, bool high, bool legal) {
+    uint8_t *gate = book + 7 + gate_at[reading];
+    so(open_with(sheet_with(reading, kind, kind == GM_GATE_BETWEEN ? limit : 0, limit)) == GM_ACCEPTED, "opening 0");
+    gate[1] |= low ? 0x80 : 0;
+    gate[5] |= high ? 0x80 : 0;
+    if (legal) {
+        so(gm_waiting(book, BOOK).answer == GM_ACCEPTED && helped(hear_request(3)), "a legal book");
+    } else {
+        every_call_1();
     }
+}
+
+/* A limit below zero, in each place and for each reading: the sheet is not legal, nor is a book that holds it. One of minus zero is; but
+ * where the kind does not use the limit it is zeros, and no other form. */
+static void limits_below_zero(void) {
+    for (size_t reading = 0; reading < READINGS; reading++) {
+        for (size_t i = 0; i < BELOW; i++) {
+            of = below_names[i];
+            not_legal(sheet_with(reading, GM_GATE_AT_MOST, 0, below[i]));
+            not_legal(sheet_with(reading, GM_GATE_BETWEEN, below[i], twenty));
+            not_legal(sheet_with(reading, GM_GATE_BETWEEN, below[i], sign));
+            not_legal(sheet_with(reading, GM_GATE_BETWEEN, below[i], below[i]));
+        }
+        const uint32_t limits[] = {above, twenty};
+        for (size_t i = 0; i < sizeof limits / sizeof *limits; i++) {
+            of = "a limit's sign bit is set";
+            signs_set(reading, GM_GATE_AT_MOST, limits[i], false, true, false);
+            signs_set(reading, GM_GATE_BETWEEN, limits[i], true, false, false);
+            signs_set(reading, GM_GATE_BETWEEN, limits[i], true, true, false);
+        }
+        of = "a limit of zero becomes minus zero";
+        signs_set(reading, GM_GATE_AT_MOST, 0, false, true, true);
+        signs_set(reading, GM_GATE_BETWEEN, 0, true, false, true);
+        signs_set(reading, GM_GATE_BETWEEN, 0, false, true, true);
+        signs_set(reading, GM_GATE_BETWEEN, 0, true, true, true);
+        of = "a limit that is not used is minus zero";
+        not_legal(sheet_with(reading, GM_GATE_OPEN, sign, 0));
+        not_legal(sheet_with(reading, GM_GATE_OPEN, 0, sign));
+        not_legal(sheet_with(reading, GM_GATE_AT_MOST, sign, twenty));
+        signs_set(reading, GM_GATE_AT_MOST, twenty, true, false, false);
+    }
+    of = "";
 }
 
 /* Fills a slot by hand: docs/BOOK.md, "A slot". */
@@ -293,38 +448,54 @@ static void fill(size_t slot, const uint8_t *declaration) {
     memcpy(at + 1, declaration, GM_DECLARATION_BYTES);
 }
 
-/* A book as the calls of 3.0.0 could leave it, all of it of no colonies. House 0 published at number 0; of sender 3 it recorded the SEND,
- * the ECHO of house 1 and the READYs of houses 1 and 2, and it sent its own READY, which delivered there when it came. Nothing that is
- * recorded is judged: the book is legal, waits, returns, tells again what was sent, and helps. What comes again is 5, before 7; and so is
- * what comes first, so that it is never delivered. */
-static void book_of_before(void) {
+/* A book as the calls of an earlier version could leave it, all of it of a declaration that is not plausible now. House 0 published at
+ * number 0; of sender 3 it recorded the SEND, the ECHO of house 1 and the READYs of houses 1 and 2, and it sent its own READY, which
+ * delivered there when it came. Nothing that is recorded is judged: the book is legal, waits, returns, tells again what was sent, and
+ * helps. What comes again is 5, before 7; and so is what comes first, so that it is never delivered. `other` is not plausible either. */
+static void book_of_before(const uint8_t *recorded, const uint8_t *other) {
     enum { ENTRY = 1 + 3 * (2 * HOUSES + 3) };
     static const size_t slots[] = {0, ENTRY, ENTRY + 1 + 1, ENTRY + 1 + HOUSES + 1, ENTRY + 1 + HOUSES + 2, ENTRY + 1 + 2 * HOUSES};
     so(open_as(HOUSES, 0, DOWN, LIMIT) == GM_ACCEPTED, "a fresh book, to be filled by hand");
     for (size_t i = 0; i < sizeof slots / sizeof *slots; i++) {
-        fill(slots[i], nothing);
+        fill(slots[i], recorded);
     }
     memcpy(before, book, BOOK);
     gm_waiting_answer next = gm_waiting(book, BOOK);
-    so(next.answer == GM_ACCEPTED, "no colonies recorded: legal");
-    so(next.waits && next.number == 0 && next.sender == 3, "no colonies recorded: the entry waits");
-    so(gm_return(book, BOOK).answer == GM_ACCEPTED, "no colonies recorded: a return 0");
-    walk_of(nothing);
-    so(refused(receive(0, GM_SEND, 2026, 0, nothing), GM_NOT_PLAUSIBLE), "receiving 5: the SEND that the walk gave, no colonies");
-    so(refused(receive(0, GM_ECHO, 2026, 3, nothing), GM_NOT_PLAUSIBLE), "receiving 5: the ECHO that the walk gave, no colonies");
-    so(refused(receive(0, GM_READY, 2026, 3, nothing), GM_NOT_PLAUSIBLE), "receiving 5: the READY that the walk gave, no colonies");
-    so(refused(receive(3, GM_SEND, 2026, 3, nothing), GM_NOT_PLAUSIBLE), "receiving 5 before 7: a SEND, no colonies");
-    so(refused(receive(1, GM_ECHO, 2026, 3, nothing), GM_NOT_PLAUSIBLE), "receiving 5 before 7: an ECHO, no colonies");
-    so(refused(receive(2, GM_READY, 2026, 3, nothing), GM_NOT_PLAUSIBLE), "receiving 5 before 7: a READY, no colonies");
-    so(refused(receive(1, GM_ECHO, 2026, 3, no_bees), GM_NOT_PLAUSIBLE), "receiving 5 before 13: an ECHO, no colonies recorded");
-    so(refused(receive(1, GM_ECHO, 2026, 3, lot77), GM_CONFLICT), "receiving 13: an ECHO, no colonies recorded");
-    so(refused(gm_publish(book, BOOK, 0, nothing), GM_NOT_PLAUSIBLE), "publishing 5 before 8: no colonies recorded");
-    so(refused(gm_publish(book, BOOK, 0, lot77), GM_ALREADY_PUBLISHED), "publishing 8: no colonies recorded");
-    fill(ENTRY + 2 + 2 * HOUSES, nothing);
+    so(next.answer == GM_ACCEPTED, "recorded: legal");
+    so(next.waits && next.number == 0 && next.sender == 3, "recorded: the entry waits");
+    so(gm_return(book, BOOK).answer == GM_ACCEPTED, "recorded: a return 0");
+    walk_of(recorded);
+    so(refused(receive(0, GM_SEND, 2026, 0, recorded), GM_NOT_PLAUSIBLE), "recorded: receiving 5, the SEND that the walk gave");
+    so(refused(receive(0, GM_ECHO, 2026, 3, recorded), GM_NOT_PLAUSIBLE), "recorded: receiving 5, the ECHO that the walk gave");
+    so(refused(receive(0, GM_READY, 2026, 3, recorded), GM_NOT_PLAUSIBLE), "recorded: receiving 5, the READY that the walk gave");
+    so(refused(receive(3, GM_SEND, 2026, 3, recorded), GM_NOT_PLAUSIBLE), "recorded: receiving 5 before 7, a SEND");
+    so(refused(receive(1, GM_ECHO, 2026, 3, recorded), GM_NOT_PLAUSIBLE), "recorded: receiving 5 before 7, an ECHO");
+    so(refused(receive(2, GM_READY, 2026, 3, recorded), GM_NOT_PLAUSIBLE), "recorded: receiving 5 before 7, a READY");
+    so(refused(receive(1, GM_SEND, 2026, 3, recorded), GM_NOT_PLAUSIBLE), "recorded: receiving 5 before 6");
+    so(refused(receive(1, GM_ECHO, 2026, 3, other), GM_NOT_PLAUSIBLE), "recorded: receiving 5 before 13, an ECHO");
+    so(refused(receive(1, GM_ECHO, 2026, 3, lot77), GM_CONFLICT), "recorded: receiving 13, an ECHO");
+    so(refused(gm_publish(book, BOOK, 0, recorded), GM_NOT_PLAUSIBLE), "recorded: publishing 5 before 8");
+    so(refused(gm_publish(book, BOOK, 0, lot77), GM_ALREADY_PUBLISHED), "recorded: publishing 8");
+    fill(ENTRY + 2 + 2 * HOUSES, recorded);
     next = gm_waiting(book, BOOK);
-    so(next.answer == GM_ACCEPTED && !next.waits, "no colonies delivered: legal, and none waits");
-    so(receive(2, GM_SEND, 2026, 2, lot77).gives, "no colonies recorded: another entry goes on");
-    so(helped(hear_request(3)), "no colonies recorded: a request 0");
+    so(next.answer == GM_ACCEPTED && !next.waits, "delivered: legal, and none waits");
+    so(receive(2, GM_SEND, 2026, 2, lot77).gives, "recorded: another entry goes on");
+    so(helped(hear_request(3)), "recorded: a request 0");
+}
+
+/* No colonies with no kilograms passed up to 3.0.0, and finite readings below zero up to 4.0.0. Minus infinity never did, and may stand in
+ * a legal book all the same. */
+static void books_of_before(void) {
+    uint8_t lot[GM_DECLARATION_BYTES];
+    of = "no colonies";
+    book_of_before(nothing, no_bees);
+    for (size_t reading = 0; reading < READINGS; reading++) {
+        for (size_t i = 0; i < BELOW; i++) {
+            of = below_names[i];
+            book_of_before(lot_with(lot, reading, below[i]), nothing);
+        }
+    }
+    of = "";
 }
 
 static void judging_writing_reading(void) {
@@ -402,6 +573,10 @@ static void sheets(void) {
     so(gm_judge(made, sizeof made, lot77) == GM_ACCEPTED, "a made sheet is legal");
     gm_sheet_to_bytes(made, 20, gm_gate_between(2.0F, 1.0F), gm_gate_open());
     so(gm_judge(made, sizeof made, lot77) == GM_SHEET_NOT_LEGAL, "a low limit above its high one is made, and not legal");
+    static const uint8_t under[GM_SHEET_BYTES] = {0, 0, 0, 20, GM_GATE_AT_MOST, 0, 0, 0, 0, 0xC0, 0x40, 0, 0, GM_GATE_OPEN};
+    gm_sheet_to_bytes(made, 20, gm_gate_at_most(-3.0F), gm_gate_open());
+    so(memcmp(made, under, sizeof made) == 0, "a sheet: at most minus 3");
+    so(gm_judge(made, sizeof made, lot77) == GM_SHEET_NOT_LEGAL, "a limit below zero is made, and not legal");
 }
 
 static void sentences(void) {
@@ -436,7 +611,10 @@ static void all(void) {
     walking();
     with_one_down();
     no_colonies();
-    book_of_before();
+    readings_below_zero();
+    both_zeros();
+    limits_below_zero();
+    books_of_before();
     judging_writing_reading();
     null_with_length_0();
 }

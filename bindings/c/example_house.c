@@ -18,8 +18,9 @@
 enum { HOUSES = 4, NUMBERS = 2, DOWN = 0, LIMIT = 2, SEASON = 2026, PUBLISHER = 2, NUMBER = 1, LOSES_POWER = 1, LIAR = 3 };
 enum { COPIES = 128, LOTS = 2 };
 
-/* Made by `declare` at the start: the lot that is published, one that weighs too much, one with no colonies, and the two of the liar. */
-static uint8_t lot77[GM_DECLARATION_BYTES], heavy[GM_DECLARATION_BYTES], no_bees[GM_DECLARATION_BYTES];
+/* Made by `declare` at the start: the lot that is published, one that weighs too much, one with no colonies, one with a reading below
+ * zero, and the two of the liar. */
+static uint8_t lot77[GM_DECLARATION_BYTES], heavy[GM_DECLARATION_BYTES], no_bees[GM_DECLARATION_BYTES], minus_3[GM_DECLARATION_BYTES];
 static uint8_t lot90[GM_DECLARATION_BYTES], twin[GM_DECLARATION_BYTES];
 
 struct house {
@@ -59,11 +60,11 @@ static const char *kind_of(const uint8_t *bytes, size_t len) {
     }
 }
 
-static void declare(uint8_t *to, uint32_t lot, uint32_t colonies, uint32_t kilograms) {
+static void declare(uint8_t *to, uint32_t lot, uint32_t colonies, uint32_t kilograms, float moisture) {
     gm_declaration_to_bytes(to, &(gm_declaration){.lot = lot,
                                                   .colonies = colonies,
                                                   .kilograms = kilograms,
-                                                  .moisture = 17.5F,
+                                                  .moisture = moisture,
                                                   .conductivity = 0.5F});
 }
 
@@ -382,18 +383,33 @@ static bool refuse(void) {
            publish(&houses[PUBLISHER], NUMBER, lot77) && publish(&houses[PUBLISHER], 0, heavy);
 }
 
-/* No bees, no honey: with no colonies a lot is not plausible, whatever its weight. Nothing was published, and the number may be used. */
-static bool ask_for_the_colonies(void) {
+/* A lot that is not plausible: nothing is published, and the number may be used. */
+static bool is_not_published(const uint8_t *declaration) {
     struct house *house = &houses[PUBLISHER];
-    printf("a beekeeper declares lot 78 with no colonies and no kilograms\n");
-    if (!publish(house, 0, no_bees)) {
+    if (!publish(house, 0, declaration)) {
         return false;
     }
     gm_sent_answer none = gm_sent(house->book, house->len, GM_SEND, PUBLISHER, 0);
-    if (none.answer != GM_ACCEPTED || none.gives) {
+    return none.answer == GM_ACCEPTED && !none.gives;
+}
+
+/* No bees, no honey: with no colonies a lot is not plausible, whatever its weight. */
+static bool ask_for_the_colonies(void) {
+    printf("a beekeeper declares lot 78 with no colonies and no kilograms\n");
+    if (!is_not_published(no_bees)) {
         return false;
     }
     printf("house %d asks the beekeeper for the colonies; its number 0 is still free\n", PUBLISHER);
+    return true;
+}
+
+/* A reading below zero is not plausible, even at an open gate; here the gate is at most 20.0, and would let it in. */
+static bool ask_for_the_reading(void) {
+    printf("a refractometer sends minus 3 as the moisture of lot 79\n");
+    if (!is_not_published(minus_3)) {
+        return false;
+    }
+    printf("house %d asks the laboratory to look at the refractometer and to read again; its number 0 is still free\n", PUBLISHER);
     return true;
 }
 
@@ -439,14 +455,15 @@ static bool repeat_and_conflict(void) {
 }
 
 static bool run(void) {
-    declare(lot77, 77, 40, 800);
-    declare(heavy, 77, 40, 801);
-    declare(no_bees, 78, 0, 0);
-    declare(lot90, 90, 30, 600);
-    declare(twin, 90, 30, 500);
+    declare(lot77, 77, 40, 800, 17.5F);
+    declare(heavy, 77, 40, 801, 17.5F);
+    declare(no_bees, 78, 0, 0, 17.5F);
+    declare(minus_3, 79, 40, 800, -3.0F);
+    declare(lot90, 90, 30, 600, 17.5F);
+    declare(twin, 90, 30, 500, 17.5F);
     return open_all() && publish(&houses[PUBLISHER], NUMBER, lot77) && bring_all() && come_back(&houses[LOSES_POWER]) &&
-           bring_all() && repeat_the_request() && refuse() && ask_for_the_colonies() && lie() && repeat_and_conflict() &&
-           !gm_waiting(houses[LOSES_POWER].book, houses[LOSES_POWER].len).waits;
+           bring_all() && repeat_the_request() && refuse() && ask_for_the_colonies() && ask_for_the_reading() && lie() &&
+           repeat_and_conflict() && !gm_waiting(houses[LOSES_POWER].book, houses[LOSES_POWER].len).waits;
 }
 
 int main(int count, char **words) {

@@ -19,9 +19,9 @@
 #include <string.h>
 
 /* The version: the first number changes where the bytes of a book or a message change, or a call. A season is finished with the first
- * number that it was opened with, or with one that goes with it: 3 goes with 2, and 4 with neither (CHANGELOG.md). */
-#define GM_VERSION "4.0.0"
-#define GM_VERSION_MAJOR 4
+ * number that it was opened with, or with one that goes with it: 3 goes with 2, and 4 and 5 with no other (CHANGELOG.md). */
+#define GM_VERSION "5.0.0"
+#define GM_VERSION_MAJOR 5
 #define GM_VERSION_MINOR 0
 #define GM_VERSION_PATCH 0
 
@@ -58,7 +58,11 @@ enum gm_kind { GM_SEND = 1, GM_ECHO = 2, GM_READY = 3, GM_REQUEST = 9 };
 
 /* A gate's kind byte. "A gate is one of three kinds: open, at most a limit, or between a low and a high limit."
  * A sheet is 22 bytes, big-endian: the cap (4); then for moisture and for conductivity a kind (1), a low limit (4) and a high
- * limit (4) as the bits of a binary32. At most has its limit as the high one; a limit that the kind does not use is zero. */
+ * limit (4) as the bits of a binary32. At most has its limit as the high one; a limit that the kind does not use is zeros, and minus
+ * zero there is no sheet's form.
+ * "Limits are binary32, none below zero, and count as inside; below zero is what compares below zero, so minus zero isn't." "A sheet is
+ * legal when no limit is NaN, infinite or below zero and no low exceeds its high." Judging and opening answer 10 to any other, and a
+ * book that holds one is no legal book: answer 1 from every call that takes it. */
 enum gm_gate { GM_GATE_OPEN = 0, GM_GATE_AT_MOST = 1, GM_GATE_BETWEEN = 2 };
 
 typedef struct {
@@ -138,9 +142,10 @@ gm_waiting_answer gm_waiting(const uint8_t *book, size_t len);
 
 /* "Judging takes a sheet and a declaration and answers 10, then 5, else 0." Publishing and receiving judge alike, by the book's sheet:
  * "A declaration is plausible exactly when it has at least one colony, kilograms is at most colonies times cap (the exact product),
- * neither reading is NaN or infinite, and each reading is within its gate by float comparison. So a declaration with no colonies isn't
- * plausible, whatever its weight." No other call judges a declaration, and none judges what is recorded: a book of a version before 4
- * that has a declaration with no colonies is legal. */
+ * neither reading is NaN, infinite or below zero, and each reading is within its gate by float comparison. So a declaration with no
+ * colonies isn't plausible, whatever its weight." One with a reading below zero isn't either, even at an open gate; minus zero passes
+ * wherever zero does. No other call judges a declaration, and none judges what is recorded: a book of an earlier version that has a
+ * declaration with no colonies, or with a reading below zero, is legal where its sheet is. */
 uint8_t gm_judge(const uint8_t *sheet, size_t sheet_len, const uint8_t declaration[20]);
 
 /* "The writer takes kind, season, sender, number and declaration and hands back the 36 bytes, with no lent buffer; any sender and
@@ -153,14 +158,15 @@ gm_read_answer gm_read(const uint8_t *message, size_t message_len);
 /* ---- helpers, over the C library's memcpy and the calls above alone
  *
  * A float is taken by its bits: nothing here adds, compares or rounds one, so that the bytes are the same in every float mode. A NaN's
- * bits stay as they are. Whether a declaration is plausible and a sheet legal, the calls say. */
+ * bits stay as they are. Whether a declaration is plausible and a sheet legal, the calls say: a reading or a limit below zero is made
+ * into bytes as any other, and then answered 5 or 10. */
 
 /* The five things of a declaration: moisture in percent, conductivity in mS/cm. */
 typedef struct {
     uint32_t lot;
     uint32_t colonies; /* at least one, else it is not plausible */
     uint32_t kilograms;
-    float moisture;
+    float moisture; /* this and the next: not NaN, infinite or below zero, else it is not plausible */
     float conductivity;
 } gm_declaration;
 
@@ -212,7 +218,7 @@ static inline void gm_declaration_from_bytes(gm_declaration *to, const uint8_t f
     gm_get_float(&to->conductivity, from + 16);
 }
 
-/* Between a low and a high limit; both count as inside. */
+/* Between a low and a high limit; both count as inside. With a limit below zero the sheet is not legal: answer 10. */
 static inline gm_gate_bytes gm_gate_between(float low, float high) {
     gm_gate_bytes gate;
     gate.bytes[0] = GM_GATE_BETWEEN;
@@ -221,14 +227,14 @@ static inline gm_gate_bytes gm_gate_between(float low, float high) {
     return gate;
 }
 
-/* At most a limit, which counts as inside. */
+/* At most a limit, which counts as inside. With a limit below zero the sheet is not legal: answer 10. */
 static inline gm_gate_bytes gm_gate_at_most(float limit) {
     gm_gate_bytes gate = gm_gate_between(0, limit);
     gate.bytes[0] = GM_GATE_AT_MOST;
     return gate;
 }
 
-/* Any reading that is neither NaN nor infinite. */
+/* Any reading that is not NaN, infinite or below zero. */
 static inline gm_gate_bytes gm_gate_open(void) {
     gm_gate_bytes gate = gm_gate_between(0, 0);
     gate.bytes[0] = GM_GATE_OPEN;

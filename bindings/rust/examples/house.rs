@@ -347,18 +347,33 @@ impl Valley {
         Ok(())
     }
 
-    /// No bees, no honey: with no colonies a lot is not plausible, whatever its weight. Nothing was published, and the number may be
-    /// used.
-    fn ask_for_the_colonies(&mut self) -> Fallible<()> {
-        println!("a beekeeper declares lot 78 with no colonies and no kilograms");
-        self.publish(PUBLISHER, 0, &Declaration::new(78, 0, 0, 17.5, 0.5))?;
+    /// A lot that is not plausible: nothing is published, and the number may be used.
+    fn is_not_published(&mut self, declaration: &Declaration) -> Fallible<()> {
+        self.publish(PUBLISHER, 0, declaration)?;
         let (number, sender) = (0, PUBLISHER as u8);
         let entry = Entry { number, sender };
         if self.up(PUBLISHER)?.sent(Kind::Send, entry)?.is_some() {
-            return Err("a lot with no colonies was published".into());
+            return Err("a lot that is not plausible was published".into());
         }
+        Ok(())
+    }
+
+    /// No bees, no honey: with no colonies a lot is not plausible, whatever its weight.
+    fn ask_for_the_colonies(&mut self) -> Fallible<()> {
+        println!("a beekeeper declares lot 78 with no colonies and no kilograms");
+        self.is_not_published(&Declaration::new(78, 0, 0, 17.5, 0.5))?;
         println!(
             "house {PUBLISHER} asks the beekeeper for the colonies; its number 0 is still free"
+        );
+        Ok(())
+    }
+
+    /// A reading below zero is not plausible, even at an open gate; here the gate is at most 20.0, and would let it in.
+    fn ask_for_the_reading(&mut self) -> Fallible<()> {
+        println!("a refractometer sends minus 3 as the moisture of lot 79");
+        self.is_not_published(&Declaration::new(79, 40, 800, -3.0, 0.5))?;
+        println!(
+            "house {PUBLISHER} asks the laboratory to look at the refractometer and to read again; its number 0 is still free"
         );
         Ok(())
     }
@@ -448,6 +463,7 @@ fn main() -> Fallible<()> {
     valley.publish(PUBLISHER, NUMBER, &lot77)?;
     valley.publish(PUBLISHER, 0, &Declaration::new(77, 40, 801, 17.5, 0.5))?;
     valley.ask_for_the_colonies()?;
+    valley.ask_for_the_reading()?;
     valley.lie()?;
     valley.repeat_and_conflict()
 }

@@ -143,12 +143,14 @@ impl Book {
     /// assert_eq!((book.houses(), book.numbers(), book.own(), book.season()), (4, 1, 3, 2026));
     /// assert_eq!((book.down(), book.limit(), book.helped()), (1, 2, &[0; 4][..]));
     ///
-    /// // no house 4, no t for n = 2f, no d above 8; and a limit that is NaN
+    /// // no house 4, no t for n = 2f, no d above 8; and a limit that is NaN, or below zero
     /// assert_eq!(Book::open(&opening, 4), Err(Refusal::NotAllowed));
     /// assert_eq!(Book::open(&Opening { f: 2, ..opening }, 3), Err(Refusal::NotAllowed));
     /// assert_eq!(Book::open(&Opening { d: 9, ..opening }, 3), Err(Refusal::NotAllowed));
-    /// let sheet = Sheet { moisture: Gate::AtMost(f32::NAN), ..sheet };
-    /// assert_eq!(Book::open(&Opening { sheet, ..opening }, 3), Err(Refusal::SheetNotLegal));
+    /// for limit in [f32::NAN, -3.0] {
+    ///     let sheet = Sheet { moisture: Gate::AtMost(limit), ..sheet };
+    ///     assert_eq!(Book::open(&Opening { sheet, ..opening }, 3), Err(Refusal::SheetNotLegal));
+    /// }
     /// # Ok::<(), Refusal>(())
     /// ```
     pub fn open(opening: &Opening, own: u32) -> Result<Book, Refusal> {
@@ -173,25 +175,39 @@ impl Book {
     /// assert_eq!(Book::from_bytes(vec![0; 158]), Err(Refusal::NoLegalBook));
     /// ```
     ///
-    /// Nothing that is recorded is judged. A book of a version before 4 that has a declaration with no colonies is read, waits, and tells
-    /// again what was sent; but what comes of that declaration is refused, also where it stands already:
+    /// Nothing that is recorded is judged. A book of an earlier version that has a declaration with no colonies, or with a reading below
+    /// zero, is read, waits, and tells again what was sent; but what comes of that declaration is refused, also where it stands already:
     ///
     /// ```
     /// use grassmunch::{Book, Declaration, Entry, Gate, Opening, Refusal, Sheet};
     /// let sheet = Sheet { cap: 20, moisture: Gate::Open, conductivity: Gate::Open };
+    /// let opening = Opening { n: 1, s: 1, f: 0, d: 1, season: 2026, sheet };
+    /// for before in [Declaration::new(77, 0, 0, 17.5, 0.5), Declaration::new(77, 40, 800, -3.0, 0.5)] {
+    ///     let mut bytes = Book::open(&opening, 0)?.into_bytes();
+    ///     for slot in [0, 1, 2] {
+    ///         let at = 32 + 21 * slot; // docs/BOOK.md, "A whole book": published, the SEND, the ECHO of house 0
+    ///         bytes[at] = 1;
+    ///         bytes[at + 1..at + 21].copy_from_slice(before.as_bytes());
+    ///     }
+    ///     let mut book = Book::from_bytes(bytes)?;
+    ///     assert_eq!(book.waiting(), Ok(Some(Entry { number: 0, sender: 0 })));
+    ///     let sent: Vec<_> = book.all_sent().collect();
+    ///     assert_eq!(sent.len(), 2); // its SEND and its ECHO
+    ///     for message in sent {
+    ///         assert_eq!(book.receive(0, &message).err(), Some(Refusal::NotPlausible));
+    ///     }
+    /// }
+    /// # Ok::<(), Refusal>(())
+    /// ```
+    ///
+    /// The sheet is judged. A book of an earlier version whose sheet has a limit below zero is no legal book:
+    ///
+    /// ```
+    /// use grassmunch::{Book, Gate, Opening, Refusal, Sheet};
+    /// let sheet = Sheet { cap: 20, moisture: Gate::AtMost(3.0), conductivity: Gate::Open };
     /// let mut bytes = Book::open(&Opening { n: 1, s: 1, f: 0, d: 1, season: 2026, sheet }, 0)?.into_bytes();
-    /// for slot in [0, 1, 2] {
-    ///     let at = 32 + 21 * slot; // docs/BOOK.md, "A whole book": published, the SEND, the ECHO of house 0
-    ///     bytes[at] = 1;
-    ///     bytes[at + 1..at + 21].copy_from_slice(Declaration::new(77, 0, 0, 17.5, 0.5).as_bytes());
-    /// }
-    /// let mut book = Book::from_bytes(bytes)?;
-    /// assert_eq!(book.waiting(), Ok(Some(Entry { number: 0, sender: 0 })));
-    /// let sent: Vec<_> = book.all_sent().collect();
-    /// assert_eq!(sent.len(), 2); // its SEND and its ECHO
-    /// for message in sent {
-    ///     assert_eq!(book.receive(0, &message).err(), Some(Refusal::NotPlausible));
-    /// }
+    /// bytes[16] |= 0x80; // docs/BOOK.md, "The header": at most minus 3
+    /// assert_eq!(Book::from_bytes(bytes), Err(Refusal::NoLegalBook));
     /// # Ok::<(), Refusal>(())
     /// ```
     pub fn from_bytes(bytes: Vec<u8>) -> Result<Book, Refusal> {
@@ -256,8 +272,9 @@ impl Book {
     /// let sheet = Sheet { cap: 20, moisture: Gate::Open, conductivity: Gate::Open };
     /// let mut book = Book::open(&Opening { n: 4, s: 1, f: 0, d: 1, season: 2026, sheet }, 0)?;
     ///
-    /// // with no colonies nothing is published, and the number is still free for the lot with them
+    /// // with no colonies, or a reading below zero, nothing is published, and the number is still free for the lot as it is
     /// assert_eq!(book.publish(0, &Declaration::new(77, 0, 0, 17.5, 0.5)).err(), Some(Refusal::NotPlausible));
+    /// assert_eq!(book.publish(0, &Declaration::new(77, 40, 800, -3.0, 0.5)).err(), Some(Refusal::NotPlausible));
     /// let stored = |_: &Book, _: Option<&Declaration>| Ok::<(), Refusal>(());
     /// assert!(book.publish(0, &Declaration::new(77, 40, 800, 17.5, 0.5))?.store(stored)?.message.is_some());
     /// assert_eq!(book.publish(0, &Declaration::new(77, 40, 800, 17.5, 0.5)).err(), Some(Refusal::AlreadyPublished));

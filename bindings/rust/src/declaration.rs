@@ -60,12 +60,12 @@ impl Declaration {
         self.word(2)
     }
 
-    /// Moisture in percent.
+    /// Moisture in percent: not NaN, infinite or below zero, else it is not plausible. Minus zero passes.
     pub fn moisture(&self) -> f32 {
         f32::from_bits(self.word(3))
     }
 
-    /// Conductivity in mS/cm.
+    /// Conductivity in mS/cm: as moisture.
     pub fn conductivity(&self) -> f32 {
         f32::from_bits(self.word(4))
     }

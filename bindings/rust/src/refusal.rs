@@ -13,7 +13,7 @@ use std::fmt;
 #[derive(Clone, Copy, Debug, PartialEq, Eq, Hash)]
 #[non_exhaustive]
 pub enum Refusal {
-    /// 1: the lent bytes are no legal book.
+    /// 1: the lent bytes are no legal book. Its sheet is part of it: a book with a limit below zero is none.
     NoLegalBook,
     /// 2: malformed message.
     Malformed,
@@ -21,7 +21,8 @@ pub enum Refusal {
     OtherSeason,
     /// 4: house number, sender or entry number not in the book.
     NotInBook,
-    /// 5: not plausible, by the sheet's test ([`Sheet::judge`](crate::Sheet::judge)). A declaration with no colonies never is.
+    /// 5: not plausible, by the sheet's test ([`Sheet::judge`](crate::Sheet::judge)). A declaration with no colonies never is, and none
+    /// with a reading below zero.
     NotPlausible,
     /// 6: SEND not from the entry's sender.
     NotFromSender,
@@ -31,7 +32,7 @@ pub enum Refusal {
     AlreadyPublished,
     /// 9: n, S, own number, f or d not allowed.
     NotAllowed,
-    /// 10: sheet not legal.
+    /// 10: sheet not legal ([`Sheet`](crate::Sheet)). One with a limit below zero never is.
     SheetNotLegal,
     /// 11: buffer length is not the book's length. A [`Book`](crate::Book) has its length, so no call here gives it.
     WrongLength,

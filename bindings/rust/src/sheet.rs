@@ -3,10 +3,12 @@
 use crate::declaration::put_word;
 use crate::{Declaration, Refusal, ffi};
 
-/// "A gate is one of three kinds: open, at most a limit, or between a low and a high limit." Limits count as inside.
+/// "A gate is one of three kinds: open, at most a limit, or between a low and a high limit." "Limits are binary32, none below zero, and
+/// count as inside; below zero is what compares below zero, so minus zero isn't." Any limit may stand here: opening and judging answer
+/// 10 to one below zero.
 #[derive(Clone, Copy, Debug, PartialEq)]
 pub enum Gate {
-    /// Any reading that is neither NaN nor infinite.
+    /// Any reading that is not NaN, infinite or below zero.
     Open,
     /// At most a limit.
     AtMost(f32),
@@ -48,7 +50,8 @@ impl Gate {
     }
 }
 
-/// A cap in kilograms per colony, and a gate for each reading. Whether it is legal, opening and judging say.
+/// A cap in kilograms per colony, and a gate for each reading. Whether it is legal, opening and judging say: "A sheet is legal when no
+/// limit is NaN, infinite or below zero and no low exceeds its high."
 ///
 /// ```
 /// use grassmunch::{Gate, Sheet};
@@ -89,10 +92,19 @@ impl Sheet {
     /// let open = Sheet { moisture: Gate::Open, conductivity: Gate::Open, ..sheet };
     /// assert_eq!(Sheet::from_bytes(&open.to_bytes()), Ok(open));
     ///
-    /// // a limit that is not finite, one that its kind does not use, a kind that is none, and 21 bytes
-    /// let nan = Sheet { moisture: Gate::AtMost(f32::NAN), ..sheet };
-    /// assert_eq!(Sheet::from_bytes(&nan.to_bytes()), Err(Refusal::SheetNotLegal));
-    /// for (place, byte) in [(5, 1), (4, 0), (4, 3)] {
+    /// // a limit of minus zero is legal, and keeps its bits
+    /// let minus_zero = Sheet { moisture: Gate::AtMost(-0.0), ..sheet };
+    /// assert_eq!(Sheet::from_bytes(&minus_zero.to_bytes()).map(|read| read.to_bytes()), Ok(minus_zero.to_bytes()));
+    ///
+    /// // a limit that is not finite, limits below zero
+    /// let below = Gate::Between { low: -3.0, high: 20.0 };
+    /// for moisture in [Gate::AtMost(f32::NAN), Gate::AtMost(-3.0), below] {
+    ///     let illegal = Sheet { moisture, ..sheet };
+    ///     assert_eq!(Sheet::from_bytes(&illegal.to_bytes()), Err(Refusal::SheetNotLegal));
+    /// }
+    ///
+    /// // a limit that its kind does not use, minus zero too; a kind that is none; and 21 bytes
+    /// for (place, byte) in [(5, 1), (5, 0x80), (4, 0), (4, 3)] {
     ///     let mut bytes = sheet.to_bytes();
     ///     bytes[place] = byte;
     ///     assert_eq!(Sheet::from_bytes(&bytes), Err(Refusal::SheetNotLegal));
@@ -115,8 +127,9 @@ impl Sheet {
     /// "Judging takes a sheet and a declaration and answers 10, then 5, else 0." Publishing and receiving judge alike, by the book's sheet.
     ///
     /// "A declaration is plausible exactly when it has at least one colony, kilograms is at most colonies times cap (the exact product),
-    /// neither reading is NaN or infinite, and each reading is within its gate by float comparison. So a declaration with no colonies
-    /// isn't plausible, whatever its weight."
+    /// neither reading is NaN, infinite or below zero, and each reading is within its gate by float comparison. So a declaration with no
+    /// colonies isn't plausible, whatever its weight." One with a reading below zero isn't either, even at an open gate; minus zero passes
+    /// wherever zero does.
     ///
     /// ```
     /// use grassmunch::{Declaration, Gate, Refusal, Sheet};
@@ -129,8 +142,15 @@ impl Sheet {
     /// assert_eq!(sheet.judge(&Declaration::new(77, 0, 1, 17.5, 0.5)), Err(Refusal::NotPlausible));
     /// assert_eq!(sheet.judge(&Declaration::new(77, 1, 0, 17.5, 0.5)), Ok(()));
     ///
+    /// // a refractometer sent minus 3; minus zero passes
+    /// assert_eq!(sheet.judge(&Declaration::new(77, 40, 800, -3.0, 0.5)), Err(Refusal::NotPlausible));
+    /// assert_eq!(sheet.judge(&Declaration::new(77, 40, 800, 17.5, -3.0)), Err(Refusal::NotPlausible));
+    /// assert_eq!(sheet.judge(&Declaration::new(77, 40, 800, -0.0, 0.5)), Ok(()));
+    ///
     /// let crossed = Sheet { moisture: Gate::Between { low: 2.0, high: 1.0 }, ..sheet };
     /// assert_eq!(crossed.judge(&Declaration::new(77, 40, 801, 17.5, 0.5)), Err(Refusal::SheetNotLegal));
+    /// let below = Sheet { moisture: Gate::AtMost(-3.0), ..sheet };
+    /// assert_eq!(below.judge(&Declaration::new(77, 40, 800, -3.0, 0.5)), Err(Refusal::SheetNotLegal));
     /// ```
     pub fn judge(&self, declaration: &Declaration) -> Result<(), Refusal> {
         Refusal::of(ffi::judge(&self.to_bytes(), declaration.as_bytes()))
