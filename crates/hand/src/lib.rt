@@ -30,6 +30,8 @@ const KILOGRAMS: usize = 119; // w
 
 pub const MOISTURE: usize = 109; // m
 
+const CONDUCTIVITY: usize = 81; // Q
+
 const ANSWER: usize = 97; // a
 
 const READS: usize = 117; // u
@@ -50,6 +52,11 @@ fn bits_of(reading: u32) -> u32 {
         5 => 0x7fc0_0000,
         6 => 0x41a0_0000,
         7 => 1,
+        8 => 0xc040_0000,
+        9 => 0x8000_0001,
+        10 => 0xff80_0000,
+        11 => 0x3f00_0000,
+        12 => 0xc18c_0000,
         _ => 0x7f80_0000,
     }
 }
@@ -63,18 +70,22 @@ pub fn reading_of(bits: u32) -> u32 {
         0x7fc0_0000 => 5,
         0x41a0_0000 => 6,
         1 => 7,
+        0xc040_0000 => 8,
+        0x8000_0001 => 9,
+        0xff80_0000 => 10,
+        0x3f00_0000 => 11,
+        0xc18c_0000 => 12,
         _ => 0,
     }
 }
 
-// The declaration, with conductivity 0.5.
 pub fn declaration_of(r: Numbers) -> Declaration {
     Declaration {
         lot: r[LOT],
         colonies: r[COLONIES],
         kilograms: r[KILOGRAMS],
         moisture: bits_of(r[MOISTURE]),
-        conductivity: 0x3f00_0000,
+        conductivity: bits_of(r[CONDUCTIVITY]),
     }
 }
 
@@ -120,6 +131,7 @@ fn read_lot(r: Numbers, declaration: [u8; 20]) -> Numbers {
     r[COLONIES] = d.colonies;
     r[KILOGRAMS] = d.kilograms;
     r[MOISTURE] = reading_of(d.moisture);
+    r[CONDUCTIVITY] = reading_of(d.conductivity);
     r
 }
 

@@ -44,7 +44,8 @@ const LENGTH: u32 = 3;
 
 // ---- the sheet
 
-// A gate, by its number: open, at most 20.0, at most 0.0, between 21.0 and 14.0, which is not legal.
+// A gate, by its number: open, at most 20.0, at most 0.0; between 21.0 and 14.0, which is not legal; at most -0.0, between -0.0 and +0.0,
+// between +0.0 and -0.0; at most -3.0, between -3.0 and 20.0, at most 20.0 with a low of -0.0, which are not legal.
 fn gate_of(gate: u32) -> Kept {
     match gate {
         1 => Kept {
@@ -61,6 +62,36 @@ fn gate_of(gate: u32) -> Kept {
             kind: 2,
             low: 0x41a8_0000,
             high: 0x4160_0000,
+        },
+        4 => Kept {
+            kind: 1,
+            low: 0,
+            high: 0x8000_0000,
+        },
+        5 => Kept {
+            kind: 2,
+            low: 0x8000_0000,
+            high: 0,
+        },
+        6 => Kept {
+            kind: 2,
+            low: 0,
+            high: 0x8000_0000,
+        },
+        7 => Kept {
+            kind: 1,
+            low: 0,
+            high: 0xc040_0000,
+        },
+        8 => Kept {
+            kind: 2,
+            low: 0xc040_0000,
+            high: 0x41a0_0000,
+        },
+        9 => Kept {
+            kind: 1,
+            low: 0x8000_0000,
+            high: 0x41a0_0000,
         },
         _ => Kept {
             kind: 0,

@@ -50,6 +50,8 @@ const HAS_DELIVERED: usize = 89; // Y
 
 const SOME_WRONG: usize = 73; // I
 
+const BECOMES: usize = 114; // r
+
 // The steps, by their numbers in the script.
 const BEGIN: u32 = 20;
 
@@ -191,10 +193,9 @@ pub fn take(desk: &mut [u8], r: Numbers) -> Taken {
 
 // ---- down and back
 
-// The first byte of the book of house 0, n, becomes 17.
-// Byte x of the book becomes zero.
+// Byte x of the book of house 0 becomes another.
 fn spoil(s: &[u8], desk: &mut [u8], r: Numbers) {
-    put(desk, 0, r[FREE], 0);
+    put(desk, 0, r[FREE], r[BECOMES]);
     told(s, r);
 }
 
