@@ -9,7 +9,7 @@ use lib.Pow.{pow-pos}
 use lib.Ieee.{Float, binary32, ofBits, toBits, fits, below, lt, le}
 use lib.Ieee.Bits.{ofBits-toBits}
 use borrow.Author.Tests.{lt-ltb, le-ltb, le-leb, lt-leb, ltb-true, ltb-false}
-use Rattle.sheet.specs.Sheet.{finite, belowZero, measurable, Measurable}
+use Rattle.sheet.specs.Sheet.{finite, plusZero, belowZero, measurable, Measurable}
 use Rattle.sheet.proofs.Measurable.{measurable-exactly, minus-zero-measurable}
 use Rattle.floats.proofs.Finite.{finite-bits}
 use Rattle.floats.proofs.Order.{same-ltb, not-ltb, unitsOf, units, units-mono, units-back, sized, lt-sized, le-is}
@@ -26,7 +26,7 @@ under true i =
 below-bits : (b : ℕ) → finite (ofBits binary32 b) ≡ true → belowZero (ofBits binary32 b) ≡ (leb 0x8000_0000 b && ltb 0 (b % 0x8000_0000))
 unfolding unitsOf
 below-bits b h =
-    lt-sized (ofBits binary32 b) (ofBits binary32 0) (leb 0x8000_0000 b) false (units (b % 0x8000_0000)) 0 (2 ^ 149) (pow-pos 149) (sized b h)
+    lt-sized (ofBits binary32 b) plusZero (leb 0x8000_0000 b) false (units (b % 0x8000_0000)) 0 (2 ^ 149) (pow-pos 149) (sized b h)
     (sized 0 (finite-bits 0))
     ∙ under (leb 0x8000_0000 b) (b % 0x8000_0000)
 

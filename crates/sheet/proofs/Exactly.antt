@@ -10,8 +10,8 @@ use lib.Ieee.{binary32, ofBits}
 use borrow.Author.Tests.{le-leb, lt-leb}
 use Rattle.sheet.specs.declared.Sheet.{Sheet}
 use Rattle.lot.specs.declared.Declaration.{Declaration}
-use Rattle.sheet.specs.Sheet.{readingsOf, belowZero, passes, admitted, plausible, Plausible}
-use Rattle.sheet.proofs.Measurable.{passes-exactly}
+use Rattle.sheet.specs.Sheet.{readingsOf, belowZero, measurable, passes, admitted, plausible, Plausible}
+use Rattle.sheet.proofs.Measurable.{measurable-exactly, passes-exactly}
 
 and-true : (a b : Bool) → a ≡ true → a && b ≡ b
 and-true a b e = rw e
@@ -86,6 +86,13 @@ module _ (s : Sheet) (d : Declaration) where
       go : (b : Bool) → plausible s d ≡ b → false ≡ plausible s d
       go true e = absurd (f (to e))
       go false e = sym e
+
+  -- where a reading is NaN, infinite or below zero
+  pub moisture-fails : measurable (ofBits binary32 (d .moisture)) ≡ false → false ≡ plausible s d
+  moisture-fails f = not-plausible λ p. true≢false (sym (measurable-exactly _ .1 (p .moisture-measurable)) ∙ f)
+
+  pub conductivity-fails : measurable (ofBits binary32 (d .conductivity)) ≡ false → false ≡ plausible s d
+  conductivity-fails f = not-plausible λ p. true≢false (sym (measurable-exactly _ .1 (p .conductivity-measurable)) ∙ f)
 
   -- no kilograms is plausible, of one colony or more, where the readings are admitted
   pub no-kilograms : 1 ≤ d .colonies → d .kilograms ≡ 0 → admitted s (readingsOf d) ≡ true → plausible s d ≡ true

@@ -19,7 +19,8 @@ use Rattle.sheet.specs.Sheet.{finite, plusZero, minusZero, belowZero, me
 pub measurable-exactly : (x : Float) → (measurable x ≡ true) ↔ Measurable x
 unfolding measurable
 measurable-exactly x = (
-  λ h. let b = and-eq-true-iff (finite x) (not (belowZero x)) .0 h in record { is-finite = b .0; not-below = not-true (belowZero x) (b .1) },
+  λ h. let b = and-eq-true-iff (finite x) (not (belowZero x)) .0 h in
+      record { is-finite = b .0; not-below = not-true (belowZero x) (b .1) },
   λ m. rw (m .is-finite, m .not-below),
 )
 

@@ -1,11 +1,9 @@
 -- `gates::is_plausible` meets its contract.
 use native.Mathlib.Omega.{arith}
 use mathlib.Core.Path.{sym, ap, _∙_}
-use mathlib.Core.Bool.{true≢false}
 use Rattle.sheet.specs.declared.Readings.{Readings}
 use Rattle.sheet.specs.Sheet.{measurable, admitted}
-use Rattle.sheet.proofs.Measurable.{measurable-exactly}
-use Rattle.sheet.proofs.Exactly.{no-colonies, too-heavy, readings-decide, not-plausible}
+use Rattle.sheet.proofs.Exactly.{no-colonies, too-heavy, readings-decide, moisture-fails, conductivity-fails}
 use borrow.Author.Needs.{needs}
 use Rattle.gates.proofs.is_plausible.Statement.{statement}
 use Rattle.gates.proofs.is_plausible.Tie as tie
@@ -45,10 +43,10 @@ returns c =
 
 -- a reading is NaN, infinite or below zero
 returns-2 : tie.Need-returns-2
-returns-2 c = not-plausible _ _ (λ p. true≢false (sym (measurable-exactly _ .1 (p .conductivity-measurable)) ∙ sym (c .before .is-measurable2 .ensures) ∙ c .if4 .left))
+returns-2 c = conductivity-fails _ _ (sym (c .before .is-measurable2 .ensures) ∙ c .if4 .left)
 
 returns-3 : tie.Need-returns-3
-returns-3 c = not-plausible _ _ (λ p. true≢false (sym (measurable-exactly _ .1 (p .moisture-measurable)) ∙ sym (c .before .is-measurable .ensures) ∙ c .if3 .left))
+returns-3 c = moisture-fails _ _ (sym (c .before .is-measurable .ensures) ∙ c .if3 .left)
 
 -- too many kilograms
 returns-4 : tie.Need-returns-4

@@ -31,7 +31,9 @@ returns-2 : tie.Need-returns-2
 returns-2 c =
     let limits = c .before in
     let form = limits .before .before in
-    sym (bad-limits _ (sym (form .is-form .ensures) ∙ limits .before .if1 .taken) (sym (limits .has-measurable-limits .ensures) ∙ c .if2 .left))
+    sym
+    (bad-limits _ (sym (form .is-form .ensures) ∙ limits .before .if1 .taken)
+    (sym (limits .has-measurable-limits .ensures) ∙ c .if2 .left))
 
 returns-3 : tie.Need-returns-3
 returns-3 c = sym (no-form _ (sym (c .before .is-form .ensures) ∙ c .if1 .left))
