@@ -44,60 +44,23 @@ const LENGTH: u32 = 3;
 
 // ---- the sheet
 
-// A gate, by its number: open, at most 20.0, at most 0.0; between 21.0 and 14.0, which is not legal; at most -0.0, between -0.0 and +0.0,
-// between +0.0 and -0.0; at most -3.0, between -3.0 and 20.0, at most 20.0 with a low of -0.0, which are not legal.
+fn kept(kind: u8, low: u32, high: u32) -> Kept {
+    Kept { kind, low, high }
+}
+
+// A gate, by its number in the script. 3, 7, 8 and 9 are not legal.
 fn gate_of(gate: u32) -> Kept {
     match gate {
-        1 => Kept {
-            kind: 1,
-            low: 0,
-            high: 0x41a0_0000,
-        },
-        2 => Kept {
-            kind: 1,
-            low: 0,
-            high: 0,
-        },
-        3 => Kept {
-            kind: 2,
-            low: 0x41a8_0000,
-            high: 0x4160_0000,
-        },
-        4 => Kept {
-            kind: 1,
-            low: 0,
-            high: 0x8000_0000,
-        },
-        5 => Kept {
-            kind: 2,
-            low: 0x8000_0000,
-            high: 0,
-        },
-        6 => Kept {
-            kind: 2,
-            low: 0,
-            high: 0x8000_0000,
-        },
-        7 => Kept {
-            kind: 1,
-            low: 0,
-            high: 0xc040_0000,
-        },
-        8 => Kept {
-            kind: 2,
-            low: 0xc040_0000,
-            high: 0x41a0_0000,
-        },
-        9 => Kept {
-            kind: 1,
-            low: 0x8000_0000,
-            high: 0x41a0_0000,
-        },
-        _ => Kept {
-            kind: 0,
-            low: 0,
-            high: 0,
-        },
+        1 => kept(1, 0, 0x41a0_0000),
+        2 => kept(1, 0, 0),
+        3 => kept(2, 0x41a8_0000, 0x4160_0000),
+        4 => kept(1, 0, 0x8000_0000),
+        5 => kept(2, 0x8000_0000, 0),
+        6 => kept(2, 0, 0x8000_0000),
+        7 => kept(1, 0, 0xc040_0000),
+        8 => kept(2, 0xc040_0000, 0x41a0_0000),
+        9 => kept(1, 0x8000_0000, 0x41a0_0000),
+        _ => kept(0, 0, 0),
     }
 }
 
