@@ -282,7 +282,7 @@ const STANDING: Check = ("where they stand already", |library| {
 const ANY_BOOK: Check = ("no colonies on any legal book", |library| {
     colonies::any_book(library, 2026, 8);
 });
-const ROWS: Check = ("rows 4 to 8 and 13 to 15", |library| {
+const ROWS: Check = ("rows 4 to 8 and 13 to 17", |library| {
     rows::judged(library);
 });
 const RECEIVING: Check = ("pairs of errors of receiving", |library| {

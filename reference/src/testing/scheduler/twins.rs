@@ -181,7 +181,7 @@ fn sheets() -> [[u8; SHEET]; 3] {
     [
         open_sheet(),
         sheet(20, Gate::AtMost(20.0), Gate::Between(0.0, 2.0)),
-        sheet(u32::MAX, Gate::Between(-1.0, 17.5), Gate::AtMost(0.5)),
+        sheet(u32::MAX, Gate::Between(-0.0, 17.5), Gate::AtMost(0.5)),
     ]
 }
 
