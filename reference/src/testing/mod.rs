@@ -17,6 +17,7 @@ pub mod returns;
 pub mod rows;
 pub mod scheduler;
 pub mod season;
+mod standing;
 pub mod trips;
 pub mod vouchers;
 pub mod wrong;
