@@ -21,7 +21,14 @@ pub struct Readings {
     pub conductivity: f32,
 }
 
-/// What a reading has to be within. "Limits are binary32 and count as inside."
+/// What a reading and a limit may be: not "NaN, infinite or below zero". "Below zero is what compares below
+/// zero, so minus zero isn't."
+fn is_measurable(number: f32) -> bool {
+    let below_zero = number < 0.0;
+    number.is_finite() && !below_zero
+}
+
+/// What a reading has to be within. "Limits are binary32, none below zero, and count as inside."
 #[derive(Clone, Copy, Debug, PartialEq)]
 pub enum Gate {
     /// Any reading.
@@ -46,18 +53,19 @@ impl Gate {
         gate.is_legal().then_some(gate)
     }
 
-    /// "No limit is NaN or infinite and no low exceeds its high."
+    /// "No limit is NaN, infinite or below zero and no low exceeds its high."
     fn is_legal(self) -> bool {
         match self {
             Gate::Open => true,
-            Gate::AtMost(high) => high.is_finite(),
-            Gate::Between(low, high) => low.is_finite() && high.is_finite() && low <= high,
+            Gate::AtMost(high) => is_measurable(high),
+            Gate::Between(low, high) => is_measurable(low) && is_measurable(high) && low <= high,
         }
     }
 
-    /// The reading is "neither NaN nor infinite" and "within its gate by float comparison".
+    /// The reading is not "NaN, infinite or below zero", even at an open gate, and is "within its gate by float
+    /// comparison".
     fn admits(self, reading: f32) -> bool {
-        reading.is_finite()
+        is_measurable(reading)
             && match self {
                 Gate::Open => true,
                 Gate::AtMost(high) => reading <= high,
@@ -93,8 +101,8 @@ impl Sheet {
     }
 
     /// "It has at least one colony, kilograms is at most colonies times cap (the exact product), neither
-    /// reading is NaN or infinite, and each reading is within its gate by float comparison." So one with no
-    /// colonies isn't plausible, whatever its weight.
+    /// reading is NaN, infinite or below zero, and each reading is within its gate by float comparison." So one
+    /// with no colonies isn't plausible, whatever its weight.
     pub fn is_plausible(&self, declaration: &Declaration) -> bool {
         let colonies = u64::from(word(declaration, 4));
         let kilograms = u64::from(word(declaration, 8));

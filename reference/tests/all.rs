@@ -1,6 +1,7 @@
 //! The tests of this version of the book: what the checks of `reference::testing` say of it, and whether they see a slip.
 
 mod attacks;
+mod below;
 mod calls;
 mod colonies;
 mod common;

@@ -1,10 +1,11 @@
 //! No colonies: libraries with a slip each, to see that the checks of single calls see it, and the claims of a
 //! season where a season can tell.
 
+use crate::common::otherwise::{emptied, judged, receive_as, standing, By};
 use crate::common::{self, all_caught, all_differ, all_let_pass, all_shown, Caught, Slips};
 use reference::testing::claims::Fault;
 use reference::testing::forms::{
-    has_colonies, held, place_of, published_at, put, slot_at, slots_from, with_colonies,
+    has_colonies, held, place_of, published_at, slot_at, with_colonies,
 };
 use reference::testing::{colonies, pairs, refusals, rows};
 use reference::{Declaration, Kind, Message, Outcome, Reference, Returned, SentAnswer, Waiting};
@@ -22,14 +23,6 @@ fn where_they_stand_already() {
 #[test]
 fn on_any_legal_book() {
     colonies::any_book(&mut Reference, 2026, 40);
-}
-
-/// The call that judges a declaration.
-#[derive(Clone, Copy, Debug, PartialEq)]
-enum By {
-    Judging,
-    Publishing,
-    Receiving(Kind),
 }
 
 /// What a library gets wrong about no colonies. That they pass is said of what has no kilograms either, as it was
@@ -78,52 +71,8 @@ enum Slip {
 #[derive(Clone, Copy)]
 struct Slipping(Slip);
 
-/// Where in the book what has no colonies stands, and what it is.
-fn bare(book: &[u8]) -> Vec<(usize, Declaration)> {
-    let n = book.first().copied().unwrap_or_default();
-    let slots = (slots_from(n)..book.len().saturating_sub(20)).step_by(21);
-    let full = slots.filter_map(|at| Some((at, held(book, at)?)));
-    full.filter(|(_, v)| !has_colonies(v)).collect()
-}
-
-/// Makes a call as if nothing stood where what has no colonies stands.
-fn emptied<T>(book: &mut [u8], call: impl FnOnce(&mut [u8]) -> T) -> T {
-    let bare = bare(book);
-    for (at, _) in &bare {
-        put(book, *at, None);
-    }
-    let outcome = call(book);
-    for (at, v) in &bare {
-        if held(book, *at).is_none() {
-            put(book, *at, Some(v));
-        }
-    }
-    outcome
-}
-
-/// Makes a call as if this had colonies: it takes the place of a declaration that has.
-fn in_place_of(
-    book: &mut [u8],
-    v: &Declaration,
-    call: impl FnOnce(&mut [u8], &Declaration) -> Outcome,
-) -> Outcome {
-    let some = with_colonies(v, 0xBEE5_BEE5);
-    let rename = |book: &mut [u8], old: &Declaration, new: &Declaration| {
-        for at in (slots_from(book[0])..book.len()).step_by(21) {
-            if held(book, at) == Some(*old) {
-                put(book, at, Some(new));
-            }
-        }
-    };
-    rename(book, v, &some);
-    let mut outcome = call(book, &some);
-    rename(book, &some, v);
-    if let Some(message) = &mut outcome.message {
-        message[16..].copy_from_slice(v);
-    }
-    outcome.delivery = outcome.delivery.map(|_| *v);
-    outcome
-}
+/// What has no colonies.
+const BARE: fn(&Declaration) -> bool = |v| !has_colonies(v);
 
 impl Slipping {
     /// Whether this library takes the declaration for a plausible one.
@@ -148,7 +97,7 @@ impl Slipping {
         }
     }
 
-    /// A call on a book that judges this declaration, once more where this library judges it otherwise.
+    /// A call on a book that judges this declaration.
     fn judged(
         &self,
         by: By,
@@ -156,27 +105,15 @@ impl Slipping {
         v: &Declaration,
         call: impl Fn(&mut [u8], &Declaration) -> Outcome,
     ) -> Outcome {
-        let before = book.to_vec();
-        let mut outcome = call(book, v);
-        if (1..5).contains(&outcome.answer) {
-            return outcome;
-        }
-        match (self.takes(by, &before[7..29], v), outcome.answer) {
-            (true, 5) => outcome = in_place_of(book, v, call),
-            (false, answer) if answer != 5 => {
-                book.copy_from_slice(&before);
-                outcome = REFUSED;
-            }
-            _ => (),
-        }
-        outcome
+        let some = with_colonies(v, 0xBEE5_BEE5);
+        judged(book, [v, &some], |sheet| self.takes(by, sheet, v), call)
     }
 
     /// The call, on the book as this library sees it.
     fn on_book<T>(&self, book: &mut [u8], call: impl FnOnce(&mut [u8]) -> T) -> T {
         match self.0 {
-            Slip::NotLegal if !bare(book).is_empty() => call(&mut []),
-            Slip::TakenForEmpty => emptied(book, call),
+            Slip::NotLegal if !standing(book, BARE).is_empty() => call(&mut []),
+            Slip::TakenForEmpty => emptied(book, BARE, call),
             _ => call(book),
         }
     }
@@ -201,14 +138,6 @@ impl Slipping {
     }
 }
 
-/// Answer 5.
-const REFUSED: Outcome = Outcome {
-    answer: 5,
-    message: None,
-    delivery: None,
-    helps: false,
-};
-
 impl Slips for Slipping {
     fn judge(&mut self, sheet: &[u8], v: &Declaration) -> u8 {
         match reference::judge(sheet, v) {
@@ -232,14 +161,7 @@ impl Slips for Slipping {
         let Some(message) = Message::from_bytes(bytes) else {
             return self.on_book(book, |book| reference::receive(book, house, bytes));
         };
-        let receive = |book: &mut [u8], v: &Declaration| {
-            let declaration = *v;
-            let message = Message {
-                declaration,
-                ..message
-            };
-            reference::receive(book, house, &message.to_bytes())
-        };
+        let receive = |book: &mut [u8], v: &Declaration| receive_as(book, house, &message, v);
         let (by, v) = (By::Receiving(message.kind), message.declaration);
         let mut outcome = self.on_book(book, |book| self.judged(by, book, &v, receive));
         if !has_colonies(&v) {
@@ -265,7 +187,7 @@ impl Slips for Slipping {
     fn waiting(&mut self, book: &[u8]) -> Waiting {
         let mut book = book.to_vec();
         match self.0 {
-            Slip::NotAwaited => emptied(&mut book, |book| reference::waiting(book)),
+            Slip::NotAwaited => emptied(&mut book, BARE, |book| reference::waiting(book)),
             _ => self.on_book(&mut book, |book| reference::waiting(book)),
         }
     }
@@ -282,7 +204,7 @@ const STANDING: Check = ("where they stand already", |library| {
 const ANY_BOOK: Check = ("no colonies on any legal book", |library| {
     colonies::any_book(library, 2026, 8);
 });
-const ROWS: Check = ("rows 4 to 8 and 13 to 15", |library| {
+const ROWS: Check = ("rows 4 to 8 and 13 to 17", |library| {
     rows::judged(library);
 });
 const RECEIVING: Check = ("pairs of errors of receiving", |library| {

@@ -58,7 +58,7 @@ fn ready_with_another_f() {
 }
 
 #[test]
-fn rows_4_to_8_and_13_to_15() {
+fn rows_4_to_8_and_13_to_17() {
     rows::judged(&mut Reference);
 }
 

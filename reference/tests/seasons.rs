@@ -4,14 +4,14 @@
 use crate::common::{all_shown, Slips};
 use reference::testing::both::Both;
 use reference::testing::claims::Fault;
-use reference::testing::scheduler::{self, carrier, colonies, directed};
+use reference::testing::scheduler::{self, carrier, directed, implausible};
 use reference::testing::season::moments::{Moment, Tally};
 use reference::{Counts, Declaration, Message, Outcome, Reference, Returned, SentAnswer};
 use std::collections::HashSet;
 
 /// In the seasons of one test copies are brought again so often at least, wrong houses say the same again and
-/// another thing, and no colonies are told of and published.
-const OFTEN: [(Moment, usize); 10] = [
+/// another thing, and no colonies, readings below zero and minus zero are told of and published.
+const OFTEN: [(Moment, usize); 17] = [
     (Moment::BroughtAgain, 20_000),
     (Moment::BroughtOften, 10_000),
     (Moment::BroughtLate, 10_000),
@@ -22,6 +22,13 @@ const OFTEN: [(Moment, usize); 10] = [
     (Moment::NoColoniesAgain, 800),
     (Moment::NoColoniesPublished, 200),
     (Moment::PublishedAfterNone, 80),
+    (Moment::BelowZero, 800),
+    (Moment::BelowZeroAgain, 500),
+    (Moment::MinusZero, 300),
+    (Moment::BelowZeroPublished, 100),
+    (Moment::PublishedAfterBelow, 40),
+    (Moment::MinusZeroPublished, 80),
+    (Moment::MinusZeroDelivered, 500),
 ];
 
 /// Panics where it was less often.
@@ -85,8 +92,14 @@ fn a_liar_and_a_nervous_carrier_step_by_step() {
 
 #[test]
 fn no_colonies_told_and_published() {
-    colonies::told(&mut Reference);
-    colonies::published(&mut Reference);
+    implausible::told(&mut Reference, implausible::no_colonies());
+    implausible::published(&mut Reference, implausible::no_colonies());
+}
+
+#[test]
+fn readings_below_zero_told_and_published() {
+    implausible::told(&mut Reference, implausible::below_zero());
+    implausible::published(&mut Reference, implausible::below_zero());
 }
 
 #[test]

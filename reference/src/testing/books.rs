@@ -8,7 +8,7 @@ use super::random::Random;
 use crate::Library;
 
 /// All calls that take a book say that this is none, and leave it.
-fn illegal(library: &mut impl Library, book: &[u8], why: &str) {
+pub(super) fn illegal(library: &mut impl Library, book: &[u8], why: &str) {
     let declaration = honey(77, 40, 800);
     let mut lent = book.to_vec();
     let publish = library.publish(&mut lent, 0, &declaration);
@@ -40,7 +40,7 @@ fn illegal(library: &mut impl Library, book: &[u8], why: &str) {
 }
 
 /// All calls that take a book take this one, whatever they answer.
-fn legal(library: &mut impl Library, book: &[u8], why: &str) {
+pub(super) fn legal(library: &mut impl Library, book: &[u8], why: &str) {
     let declaration = honey(77, 40, 800);
     let send = message(1, SEASON, 0, 0, &declaration);
     let answers = [
@@ -88,8 +88,12 @@ pub fn illegal_books(library: &mut impl Library) {
         (11, 3, "an unknown gate"),
         (11, 255, "an unknown gate"),
         (12, 1, "a low limit at an open gate"),
+        (12, 0x80, "minus zero as a low limit at an open gate"),
+        (16, 0x80, "minus zero as a high limit at an open gate"),
         (19, 1, "a high limit at an open gate"),
         (20, 3, "an unknown gate"),
+        (21, 0x80, "minus zero as a low limit at an open gate"),
+        (25, 0x80, "minus zero as a high limit at an open gate"),
         (28, 1, "a high limit at an open gate"),
         (29, 2, "2f = n"),
         (29, 5, "f = 5"),

@@ -1,6 +1,7 @@
-//! The claims of document 01 and of requests 2026-03, 2026-04 and 2026-10 over a season, held to what was seen of
-//! it from outside.
+//! The claims of document 01 and of requests 2026-03, 2026-04, 2026-09 and 2026-10 over a season, held to what was
+//! seen of it from outside.
 
+use super::forms::has_minus_zero;
 use super::season::moments::{Moment, Tally};
 use super::season::Season;
 use crate::{Declaration, Library};
@@ -78,6 +79,8 @@ pub(super) struct Seen {
     pub published: Option<Declaration>,
     /// Before that its sender tried to publish one with no colonies.
     pub refused_bare: bool,
+    /// And one with a reading below zero.
+    pub refused_below: bool,
     /// For each house, whether it accepted a SEND.
     pub heard: Vec<bool>,
     /// For each house, what it delivered first.
@@ -298,6 +301,9 @@ impl<L: Library> Season<'_, L> {
             }
         }
         tally.add_times(Moment::WrongDelivered, self.deliveries_of_wrong());
+        let delivered = self.seen.iter().flat_map(|seen| &seen.delivered);
+        let minus_zero = delivered.flatten().filter(|v| has_minus_zero(v));
+        tally.add_times(Moment::MinusZeroDelivered, minus_zero.count());
         tally
     }
 }

@@ -36,6 +36,33 @@ pub const EDGE_READINGS: [u32; 22] = [
     0x7FA0_0000,
 ];
 
+/// Bits of minus zero, which is not below zero.
+pub const MINUS_ZERO: u32 = 0x8000_0000;
+
+/// Bits of numbers below zero: the smallest, the edges of the subnormal and the normal numbers, document 01's
+/// minus 3, the largest, and minus infinity.
+pub const BELOW_ZERO: [u32; 8] = [
+    0x8000_0001,
+    0x807F_FFFF,
+    0x8080_0000,
+    0xBF00_0000,
+    0xBF80_0000,
+    0xC040_0000,
+    0xFF7F_FFFF,
+    0xFF80_0000,
+];
+
+/// Whether a reading or a limit compares below zero, by its bits alone: the sign is set, and the rest is neither
+/// zeros nor a NaN's.
+pub fn is_below_zero(bits: u32) -> bool {
+    (0x8000_0001..=0xFF80_0000).contains(&bits)
+}
+
+/// Whether it is not "NaN, infinite or below zero", by its bits alone.
+pub fn is_measurable(bits: u32) -> bool {
+    bits <= 0x7F7F_FFFF || bits == MINUS_ZERO
+}
+
 /// The declaration with these five fields, the readings as bits.
 pub fn declaration(lot: u32, colonies: u32, kilograms: u32, readings: [u32; 2]) -> Declaration {
     let mut bytes = [0; 20];
@@ -66,6 +93,30 @@ pub fn with_colonies(v: &Declaration, colonies: u32) -> Declaration {
     let mut other = *v;
     other[4..8].copy_from_slice(&colonies.to_be_bytes());
     other
+}
+
+/// The bits of its readings.
+pub fn readings_of(v: &Declaration) -> [u32; 2] {
+    [12, 16].map(|at| u32::from_be_bytes([v[at], v[at + 1], v[at + 2], v[at + 3]]))
+}
+
+/// The same with these readings.
+pub fn with_readings(v: &Declaration, readings: [u32; 2]) -> Declaration {
+    let mut other = *v;
+    for (place, bits) in other[12..].chunks_exact_mut(4).zip(readings) {
+        place.copy_from_slice(&bits.to_be_bytes());
+    }
+    other
+}
+
+/// Whether it has a reading below zero, by its bytes alone.
+pub fn has_below_zero(v: &Declaration) -> bool {
+    readings_of(v).into_iter().any(is_below_zero)
+}
+
+/// Whether it has a reading of minus zero, by its bytes alone.
+pub fn has_minus_zero(v: &Declaration) -> bool {
+    readings_of(v).contains(&MINUS_ZERO)
 }
 
 /// Pairs of plausible declarations that are easily taken for one, or for none: the sign of a zero apart, in each
@@ -199,13 +250,53 @@ pub fn random_number(random: &mut Random, bound: u8) -> u32 {
     }
 }
 
-/// Bits of a reading: an edge, a usual one, or any.
+/// Bits of a reading: an edge, a usual one, one near zero or below it, or any.
 pub fn random_reading(random: &mut Random) -> u32 {
-    match random.below(4) {
-        0 => random.pick(&EDGE_READINGS),
-        1 => random.word(),
+    match random.below(8) {
+        0 | 1 => random.pick(&EDGE_READINGS),
+        2 => random.word(),
+        3 => random_near_zero(random),
         _ => (random.below(60) as f32 / 2.0).to_bits(),
     }
+}
+
+/// Bits of a reading or a limit on both sides of the answer: a zero of either sign, the smallest above, or below
+/// zero.
+pub fn random_near_zero(random: &mut Random) -> u32 {
+    let below = random_below_zero(random);
+    random.pick(&[0, 1, MINUS_ZERO, MINUS_ZERO, below, below])
+}
+
+/// Bits of a number below zero.
+pub fn random_below_zero(random: &mut Random) -> u32 {
+    let any = 0x8000_0001 + random.below(0x7F80_0000) as u32;
+    let edge = random.pick(&BELOW_ZERO);
+    random.pick(&[BELOW_ZERO[0], edge, edge, any])
+}
+
+/// A gate's kind, low and high with a limit near zero in any place, where a limit is used or not; that limit; and
+/// whether such a gate is legal, by the bits alone.
+pub fn random_gate_near_zero(random: &mut Random) -> ((u8, u32, u32), u32, bool) {
+    let (limit, far) = (random_near_zero(random), f32::MAX.to_bits());
+    let used = [(1, 0, limit), (2, limit, far), (2, MINUS_ZERO, limit)];
+    let unused = [(0, limit, 0), (0, 0, limit), (1, limit, far)];
+    match random.chance(3, 4) {
+        true => (random.pick(&used), limit, is_measurable(limit)),
+        false => (random.pick(&unused), limit, limit == 0),
+    }
+}
+
+/// The same with a reading below zero, or both: at times as it was but for its sign.
+pub fn random_below(random: &mut Random, v: &Declaration) -> Declaration {
+    let mut readings = readings_of(v);
+    let (first, both) = (random.below(2), random.chance(1, 4));
+    for place in [first, 1 - first].into_iter().take(1 + usize::from(both)) {
+        let turned = readings[place] | 0x8000_0000;
+        let below = random_below_zero(random);
+        let turns = is_below_zero(turned) && random.chance(1, 2);
+        readings[place] = if turns { turned } else { below };
+    }
+    with_readings(v, readings)
 }
 
 /// Any declaration, more often than not plausible by an open sheet.
@@ -224,8 +315,8 @@ pub fn random_declaration(random: &mut Random) -> Declaration {
     declaration(lot, colonies, kilograms, readings)
 }
 
-/// A few declarations, so that houses vouch for the same: plausible ones that differ in one bit, twins, one with
-/// no colonies, and one of any kind.
+/// A few declarations, so that houses vouch for the same: plausible ones that differ in one bit, twins, readings of
+/// minus zero, one with no colonies, one with a reading below zero, and one of any kind.
 pub fn random_pool(random: &mut Random) -> Vec<Declaration> {
     let mut odd = honey(1, 40, 40);
     odd[random.below(4)] ^= 1 << random.below(8);
@@ -235,7 +326,9 @@ pub fn random_pool(random: &mut Random) -> Vec<Declaration> {
         odd,
         one,
         other,
+        declaration(1, 40, 40, [MINUS_ZERO; 2]),
         random.pick(&[[0; 20], honey(1, 0, 0), honey(1, 0, 1), honey(1, 0, 40)]),
+        random_below(random, &one),
         random_declaration(random),
     ]
 }
@@ -244,10 +337,14 @@ pub fn random_pool(random: &mut Random) -> Vec<Declaration> {
 pub fn random_sheet(random: &mut Random) -> [u8; SHEET] {
     let cap = random.pick(&[0, 1, 20, 20, 20, u32::MAX]);
     let gates = [0, 1].map(|_| {
-        let limits = [0, 1].map(|_| f32::from_bits(random_reading(random)));
-        match (random.below(4), limits.map(f32::is_finite)) {
-            (0, [true, _]) => Gate::AtMost(limits[0]),
-            (1, [true, true]) if limits[0] <= limits[1] => Gate::Between(limits[0], limits[1]),
+        let limits = [0, 1].map(|_| match random_reading(random) {
+            below if is_below_zero(below) => below ^ 0x8000_0000,
+            other => other,
+        });
+        let [low, high] = limits.map(f32::from_bits);
+        match (random.below(4), limits.map(is_measurable)) {
+            (0, [_, true]) => Gate::AtMost(high),
+            (1, [true, true]) if low <= high => Gate::Between(low, high),
             _ => Gate::Open,
         }
     });

@@ -1,6 +1,7 @@
 //! Checks of any library that has the ten calls: each takes the library, panics with a plain sentence
 //! where an answer is not document 01's, and prints its seed when it does.
 
+pub mod below;
 pub mod books;
 pub mod both;
 pub mod claims;
@@ -17,6 +18,7 @@ pub mod returns;
 pub mod rows;
 pub mod scheduler;
 pub mod season;
+mod standing;
 pub mod trips;
 pub mod vouchers;
 pub mod wrong;

@@ -1,8 +1,11 @@
 //! Openings of all kinds, and the length of a book.
 
-use super::forms::{fresh, open_sheet, random_down, random_number, random_sheet, SEASON};
+use super::forms::{
+    fresh, is_below_zero, open_sheet, random_down, random_gate_near_zero, random_number,
+    random_sheet, sheet, sheet_of_bits, MINUS_ZERO, OPEN, SEASON,
+};
 use super::random::Random;
-use crate::Library;
+use crate::{Gate, Library};
 
 /// "A length that depends on n and S only, at most 49,152 bytes at 16 and 4"; or answer 9.
 pub fn lengths(library: &mut impl Library) {
@@ -65,6 +68,7 @@ fn opens(library: &mut impl Library, [n, s, own, f, d]: [u32; 5], allowed: bool)
     let good = open_sheet();
     let mut bad = good;
     bad[4] = 3;
+    let below = sheet(20, OPEN, Gate::AtMost(-3.0));
     let length = match library.length(n, s) {
         (0, length) => length,
         _ => 1_000,
@@ -75,6 +79,8 @@ fn opens(library: &mut impl Library, [n, s, own, f, d]: [u32; 5], allowed: bool)
         (good, length + 1, 11),
         (bad, length, 10),
         (bad, length + 1, 10),
+        (below, length, 10),
+        (below, length - 1, 10),
     ] {
         let mut book = vec![0xEE; buffer];
         let answer = library.open(&mut book, n, s, own, f, d, SEASON, &sheet);
@@ -101,11 +107,12 @@ fn any_down(random: &mut Random, n: u32) -> u32 {
     }
 }
 
-/// Openings of all kinds: what is refused leaves the buffer, what is accepted writes all of it.
+/// Openings of all kinds: what is refused leaves the buffer, what is accepted writes all of it. Limits below zero
+/// are refused by 10, and limits of minus zero are accepted, often enough.
 pub fn openings(library: &mut impl Library, seed: u64, openings: usize) {
     let mut random = Random::new(seed);
     let mut answers = [0usize; 12];
-    let mut with_f = 0;
+    let (mut with_f, mut below_zero, mut minus_zero) = (0, 0, 0);
     for _ in 0..openings {
         let n = random_number(&mut random, 16).wrapping_add(1);
         let s = random_number(&mut random, 4).wrapping_add(1);
@@ -117,10 +124,18 @@ pub fn openings(library: &mut impl Library, seed: u64, openings: usize) {
         };
         let season = random.word();
         let mut sheet = random_sheet(&mut random).to_vec();
+        let (gate, limit, _) = random_gate_near_zero(&mut random);
+        let mut is_near_zero = false;
         match random.below(8) {
             0 => sheet = random.bytes(22),
             1 => sheet.truncate(random.below(22)),
             2 => sheet[random.below(2) * 9 + 4] = random.byte(),
+            3 | 4 => {
+                let mut gates = [(0, 0, 0); 2];
+                gates[random.below(2)] = gate;
+                sheet = sheet_of_bits(20, gates).to_vec();
+                is_near_zero = true;
+            }
             _ => (),
         }
         let (_, length) = library.length(n, s);
@@ -140,10 +155,14 @@ pub fn openings(library: &mut impl Library, seed: u64, openings: usize) {
             let fresh = fresh(numbers, season, &sheet);
             assert!(book == fresh, "opening writes the whole buffer");
             with_f += usize::from(f > 0);
+            minus_zero += usize::from(is_near_zero && limit == MINUS_ZERO);
         } else {
             assert!(book == before, "opening is refused by {answer} and writes");
+            below_zero += usize::from(is_near_zero && is_below_zero(limit) && answer == 10);
         }
     }
     let seen = [0, 9, 10, 11].iter().all(|&answer| answers[answer] > 0);
     assert!(seen && with_f > 0, "too few openings to tell: {answers:?}");
+    let enough = below_zero >= openings / 200 && minus_zero >= openings / 400;
+    assert!(enough, "limits near zero: {below_zero} and {minus_zero}");
 }

@@ -2,9 +2,11 @@
 //! once.
 
 use super::forms::{
-    fresh, honey, message, open_sheet, put, request_of, sheet, slots_from, OPEN, SEASON,
+    declaration, fresh, honey, message, open_sheet, put, request_of, sheet, sheet_of_bits,
+    slots_from, OPEN, SEASON,
 };
-use crate::{Declaration, Gate, Library, Outcome};
+use super::readings::USUAL;
+use crate::{Declaration, Gate, Library, Outcome, SHEET};
 
 /// A receiving with errors to be. As it starts it is accepted.
 struct Receiving {
@@ -17,6 +19,7 @@ struct Receiving {
     number: u8,
     colonies: u32,
     kilograms: u32,
+    readings: [u32; 2],
     /// The lot of what the book heard. The rest of it is as the message has it.
     heard: u32,
 }
@@ -26,7 +29,7 @@ type Error<T> = (u8, &'static str, fn(&mut T));
 
 /// The errors of receiving, of each number the SEND's first. Where two touch the same field, they make both
 /// errors in this order.
-const RECEIVING: [Error<Receiving>; 21] = [
+const RECEIVING: [Error<Receiving>; 25] = [
     (7, "SEND again", |r| (r.kind, r.house) = (1, 2)),
     (7, "ECHO again", |r| (r.kind, r.house) = (2, 0)),
     (7, "READY again", |r| (r.kind, r.house) = (3, 3)),
@@ -48,6 +51,12 @@ const RECEIVING: [Error<Receiving>; 21] = [
     (5, "no colonies, no kilograms", |r| {
         (r.colonies, r.kilograms) = (0, 0);
     }),
+    (5, "moisture minus 3", |r| r.readings[0] = 0xC040_0000),
+    (5, "moisture below zero", |r| r.readings[0] = 0x8000_0001),
+    (5, "conductivity below zero", |r| {
+        r.readings[1] = 0x8000_0001;
+    }),
+    (5, "minus infinity", |r| r.readings = [0xFF80_0000; 2]),
     (4, "house", |r| r.house = 4),
     (4, "house, beyond a byte", |r| r.house = 257),
     (4, "house, the largest", |r| r.house = u32::MAX),
@@ -108,24 +117,19 @@ fn received(library: &mut impl Library, errors: &[&Error<Receiving>]) -> u8 {
         number: 0,
         colonies: 40,
         kilograms: 800,
+        readings: USUAL,
         heard: 77,
     };
     for (_, _, error) in errors {
         error(&mut call);
     }
-    let mut lent = book(&honey(call.heard, call.colonies, call.kilograms));
+    let told = |lot| declaration(lot, call.colonies, call.kilograms, call.readings);
+    let mut lent = book(&told(call.heard));
     if call.damaged {
         lent[slots_from(4)] = 2;
     }
     let before = lent.clone();
-    let declaration = honey(77, call.colonies, call.kilograms);
-    let bytes = message(
-        call.kind,
-        call.season,
-        call.sender,
-        call.number,
-        &declaration,
-    );
+    let bytes = message(call.kind, call.season, call.sender, call.number, &told(77));
     let length = if call.cut { 35 } else { 36 };
     let outcome = library.receive(&mut lent, call.house, &bytes[..length]);
     assert!(
@@ -264,14 +268,39 @@ pub fn nobody_to_help(library: &mut impl Library) {
     }
 }
 
-/// Colonies and kilograms that are not plausible by a cap of 20.
-const IMPLAUSIBLE: [[u32; 2]; 4] = [[40, 801], [0, 0], [0, 1], [0, 800]];
+/// Declarations that are not plausible by a cap of 20 and open gates: by their weight, or by a reading below zero.
+fn implausible() -> Vec<Declaration> {
+    let weights = [[40, 801], [0, 0], [0, 1], [0, 800]];
+    let weights = weights.map(|[colonies, kilograms]| honey(77, colonies, kilograms));
+    let below = [0x8000_0001, 0xC040_0000, 0xFF80_0000];
+    let below = below
+        .into_iter()
+        .flat_map(|bits| [[bits, USUAL[1]], [USUAL[0], bits]]);
+    let below = below.map(|readings| declaration(77, 40, 800, readings));
+    weights.into_iter().chain(below).collect()
+}
+
+/// Sheets that are not legal: by the kind of a gate, or by a limit that is infinite or below zero.
+fn bad_sheets() -> Vec<[u8; SHEET]> {
+    let below = f32::from_bits(0x8000_0001);
+    let gates = [
+        Gate::AtMost(f32::INFINITY),
+        Gate::AtMost(f32::NEG_INFINITY),
+        Gate::AtMost(below),
+        Gate::AtMost(-3.0),
+        Gate::Between(below, 20.0),
+        Gate::Between(-3.0, below),
+    ];
+    let mut all = vec![sheet_of_bits(20, [(3, 0, 0), (0, 0, 0)])];
+    all.extend(gates.map(|gate| sheet(20, gate, OPEN)));
+    all.extend(gates.map(|gate| sheet(20, OPEN, gate)));
+    all
+}
 
 /// Publishing: 1, 4, 5, 8.
 pub fn publishing(library: &mut impl Library) {
     let good = honey(77, 40, 800);
-    for [colonies, kilograms] in IMPLAUSIBLE {
-        let bad = honey(77, colonies, kilograms);
+    for bad in implausible() {
         for stands in [good, bad] {
             publishes(library, &stands, [good, bad]);
         }
@@ -314,11 +343,15 @@ fn publishes(library: &mut impl Library, stands: &Declaration, [good, bad]: [Dec
 
 /// Opening: 9, 10, 11.
 pub fn opening(library: &mut impl Library) {
-    let good = open_sheet();
-    let mut bad = good;
-    bad[4] = 3;
+    for bad in bad_sheets() {
+        opening_with(library, &open_sheet(), &bad);
+    }
+}
+
+/// With a legal sheet and another.
+fn opening_with(library: &mut impl Library, good: &[u8; SHEET], bad: &[u8; SHEET]) {
     let numbers = [4, 2, 1, 1, 3];
-    let length = fresh(numbers, SEASON, &good).len();
+    let length = fresh(numbers, SEASON, good).len();
     let numbers = numbers.map(u32::from);
     let with = |place: usize, number: u32| {
         let mut numbers = numbers;
@@ -345,12 +378,12 @@ pub fn opening(library: &mut impl Library) {
     ];
     let others = [
         ("no error", &good[..], length, 0),
-        ("10", &bad, length, 10),
+        ("10", bad, length, 10),
         ("10 by length", &good[..21], length, 10),
-        ("11, one less", &good, length - 1, 11),
-        ("11, one more", &good, length + 1, 11),
-        ("11, none", &good, 0, 11),
-        ("10+11", &bad, length - 1, 10),
+        ("11, one less", good, length - 1, 11),
+        ("11, one more", good, length + 1, 11),
+        ("11, none", good, 0, 11),
+        ("10+11", bad, length - 1, 10),
     ];
     for (name, sheet, buffer, answer) in others {
         opens(library, numbers, sheet, buffer, answer, name);
@@ -379,16 +412,18 @@ fn opens(
 
 /// Judging: 10, then 5.
 pub fn judging(library: &mut impl Library) {
-    let good = open_sheet();
-    let bad = sheet(20, OPEN, Gate::AtMost(f32::INFINITY));
-    let mut judges = |sheet, [colonies, kilograms]: [u32; 2], answer| {
-        let judged = library.judge(sheet, &honey(77, colonies, kilograms));
-        assert_eq!(judged, answer, "judging {colonies} with {kilograms}");
+    let mut judges = |sheet: &[u8; SHEET], v: &Declaration, answer| {
+        let judged = library.judge(sheet, v);
+        assert_eq!(judged, answer, "judging {v:02X?} by {sheet:02X?}");
     };
-    judges(&good, [40, 800], 0);
-    judges(&bad, [40, 800], 10);
-    for weight in IMPLAUSIBLE {
-        judges(&good, weight, 5);
-        judges(&bad, weight, 10);
+    judges(&open_sheet(), &honey(77, 40, 800), 0);
+    for v in implausible() {
+        judges(&open_sheet(), &v, 5);
+    }
+    for sheet in bad_sheets() {
+        judges(&sheet, &honey(77, 40, 800), 10);
+        for v in implausible() {
+            judges(&sheet, &v, 10);
+        }
     }
 }

@@ -1,13 +1,15 @@
 //! Judging at the edges: kilograms as exact numbers, readings and limits as floats.
 
+use super::books::{illegal, legal};
 use super::forms::{
-    declaration, fresh, fresh_book, honey, message, open_sheet, sheet, twins, EDGE_READINGS, OPEN,
-    SEASON,
+    declaration, fresh, fresh_book, honey, is_measurable, message, open_sheet, sheet,
+    sheet_of_bits, twins, EDGE_READINGS, MINUS_ZERO, OPEN, SEASON,
 };
 use super::pairs::clean;
 use crate::{Gate, Kind, Library};
 
-const USUAL: [u32; 2] = [0x418C_0000, 0x3F00_0000];
+/// Document 01's readings.
+pub(super) const USUAL: [u32; 2] = [0x418C_0000, 0x3F00_0000];
 
 /// "Kilograms is at most colonies times cap (the exact product)."
 pub fn products(library: &mut impl Library) {
@@ -55,7 +57,7 @@ pub(super) fn weighed(library: &mut impl Library, weight: [u32; 3], answer: u8) 
 
 /// Judges, publishes and receives, a SEND, an ECHO and a READY: alike, but that a sheet that is not legal makes
 /// no legal book. What is refused changes and carries nothing.
-fn everywhere(
+pub(super) fn everywhere(
     library: &mut impl Library,
     sheet: &[u8; 22],
     v: &[u8; 20],
@@ -80,8 +82,8 @@ fn everywhere(
 /// Every edge reading at open gates, in both places: judged, published and received alike.
 pub fn at_open_gates(library: &mut impl Library) {
     for bits in EDGE_READINGS {
-        let finite = bits & 0x7F80_0000 != 0x7F80_0000;
-        let answer = if finite { 0 } else { 5 };
+        let passes = is_measurable(bits);
+        let answer = if passes { 0 } else { 5 };
         for readings in [[bits, USUAL[1]], [USUAL[0], bits]] {
             let v = declaration(1, 1, 1, readings);
             assert_eq!(
@@ -91,14 +93,14 @@ pub fn at_open_gates(library: &mut impl Library) {
             );
             let mut book = fresh_book(4, 1, 0, SEASON, &open_sheet());
             let published = library.publish(&mut book, 0, &v);
-            let expected = finite.then(|| message(1, SEASON, 0, 0, &v));
+            let expected = passes.then(|| message(1, SEASON, 0, 0, &v));
             assert_eq!(
                 (published.answer, published.message),
                 (answer, expected),
                 "reading {bits:08X}"
             );
             let received = library.receive(&mut book, 3, &message(1, SEASON, 3, 0, &v));
-            let expected = finite.then(|| message(2, SEASON, 3, 0, &v));
+            let expected = passes.then(|| message(2, SEASON, 3, 0, &v));
             assert_eq!(
                 (received.answer, received.message),
                 (answer, expected),
@@ -123,42 +125,53 @@ const ASCENDING: [&[u32]; 11] = [
     &[0x7F7F_FFFF],
 ];
 
+/// The rank of the two zeros: what comes before it is below zero.
+const ZERO: usize = 5;
+
 /// The finite edge readings with their rank.
 fn ranked() -> impl Iterator<Item = (usize, u32)> {
     let ranks = ASCENDING.iter().enumerate();
     ranks.flat_map(|(rank, bits)| bits.iter().map(move |&bits| (rank, bits)))
 }
 
-/// "Each reading is within its gate by float comparison", limits inside: all edges as reading and limits.
+/// "Each reading is within its gate by float comparison", limits inside: all edges as reading and limits. A limit
+/// below zero makes no legal sheet, and a reading below zero is not plausible, inside or not.
 pub fn at_limits(library: &mut impl Library) {
     for (high_rank, high) in ranked() {
         for (rank, bits) in ranked() {
             let gate = Gate::AtMost(f32::from_bits(high));
-            judged_at(library, gate, bits, if rank <= high_rank { 0 } else { 5 });
+            let within = rank >= ZERO && rank <= high_rank;
+            judged_at(library, gate, bits, due(high_rank >= ZERO, within));
         }
         for (low_rank, low) in ranked() {
             for (rank, bits) in ranked() {
                 let gate = Gate::Between(f32::from_bits(low), f32::from_bits(high));
+                let legal = low_rank >= ZERO && low_rank <= high_rank;
                 let within = low_rank <= rank && rank <= high_rank;
-                let expected = match (low_rank <= high_rank, within) {
-                    (false, _) => 10,
-                    (true, false) => 5,
-                    (true, true) => 0,
-                };
-                judged_at(library, gate, bits, expected);
+                judged_at(library, gate, bits, due(legal, within));
             }
         }
         for bits in EDGE_READINGS
             .into_iter()
             .filter(|bits| !f32::from_bits(*bits).is_finite())
         {
-            judged_at(library, Gate::AtMost(f32::from_bits(high)), bits, 5);
+            let gate = Gate::AtMost(f32::from_bits(high));
+            judged_at(library, gate, bits, due(high_rank >= ZERO, false));
         }
     }
 }
 
+/// The answer of judging: "10, then 5, else 0".
+fn due(legal: bool, within: bool) -> u8 {
+    match (legal, within) {
+        (false, _) => 10,
+        (true, false) => 5,
+        (true, true) => 0,
+    }
+}
+
 /// A reading at this gate, as moisture and as conductivity.
-fn judged_at(library: &mut impl Library, gate: Gate, bits: u32, expected: u8) {
+pub(super) fn judged_at(library: &mut impl Library, gate: Gate, bits: u32, expected: u8) {
     let which = format!("{bits:08X} at {gate:?}");
     let moisture = declaration(1, 1, 1, [bits, USUAL[1]]);
     everywhere(library, &sheet(20, gate, OPEN), &moisture, expected, &which);
@@ -172,17 +185,18 @@ fn judged_at(library: &mut impl Library, gate: Gate, bits: u32, expected: u8) {
     );
 }
 
-/// "A sheet is legal when no limit is NaN or infinite and no low exceeds its high", and its bytes are in
-/// their one form: judged and opened alike.
+/// "A sheet is legal when no limit is NaN, infinite or below zero and no low exceeds its high", and its bytes are
+/// in their one form: judged, opened and in a book alike.
 pub fn sheets(library: &mut impl Library) {
     let mut cases = vec![];
     for bits in EDGE_READINGS {
-        let finite = bits & 0x7F80_0000 != 0x7F80_0000;
-        let limit = f32::from_bits(bits);
-        cases.push((Gate::AtMost(limit), finite));
-        cases.push((Gate::Between(limit, limit), finite));
-        cases.push((Gate::Between(limit, f32::MAX), finite));
-        cases.push((Gate::Between(f32::MIN, limit), finite));
+        let (limit, legal) = (f32::from_bits(bits), is_measurable(bits));
+        cases.push((Gate::AtMost(limit), legal));
+        cases.push((Gate::Between(limit, limit), legal));
+        cases.push((Gate::Between(limit, f32::MAX), legal));
+        cases.push((Gate::Between(0.0, limit), legal));
+        cases.push((Gate::Between(-0.0, limit), legal));
+        cases.push((Gate::Between(f32::MIN, limit), false));
     }
     for (gate, legal) in cases {
         for sheet in [sheet(20, gate, OPEN), sheet(20, OPEN, gate)] {
@@ -201,28 +215,47 @@ pub fn sheets(library: &mut impl Library) {
             sheet_is(library, &form(kind, 0, 1), kind == 1 || kind == 2);
             sheet_is(library, &form(kind, 1, 0), false);
         }
-        let mut minus_zero = form(1, 0, 0);
-        minus_zero[at + 1] = 0x80;
-        sheet_is(library, &minus_zero, false);
+    }
+    for gate in [
+        (0, MINUS_ZERO, 0),
+        (0, 0, MINUS_ZERO),
+        (0, MINUS_ZERO, MINUS_ZERO),
+        (1, MINUS_ZERO, 0),
+        (1, MINUS_ZERO, MINUS_ZERO),
+    ] {
+        for gates in [[gate, (0, 0, 0)], [(0, 0, 0), gate]] {
+            sheet_is(library, &sheet_of_bits(20, gates), false);
+        }
     }
     for length in (0..64).filter(|&length| length != 22) {
         sheet_is(library, &vec![0; length], false);
     }
 }
 
-/// Whether both judging and opening take these bytes for a legal sheet.
-fn sheet_is(library: &mut impl Library, bytes: &[u8], legal: bool) {
+/// Whether judging, opening and all calls that take a book take these bytes for a legal sheet.
+pub(super) fn sheet_is(library: &mut impl Library, bytes: &[u8], is_legal: bool) {
     let judged = library.judge(bytes, &declaration(0, 1, 0, USUAL));
-    assert_eq!(judged != 10, legal, "judging by the sheet {bytes:?}");
+    assert_eq!(judged != 10, is_legal, "judging by the sheet {bytes:02X?}");
     let mut book = fresh_book(1, 1, 0, SEASON, &open_sheet());
     let opened = library.open(&mut book, 1, 1, 0, 0, 0, SEASON, bytes);
     assert_eq!(
         opened,
-        if legal { 0 } else { 10 },
-        "opening with the sheet {bytes:?}"
+        if is_legal { 0 } else { 10 },
+        "opening with the sheet {bytes:02X?}"
     );
-    if legal {
+    if is_legal {
         assert!(book[7..29] == *bytes, "sheet limits are kept as their bits");
+    }
+    let Ok(sheet) = bytes.try_into() else {
+        return;
+    };
+    let (book, why) = (
+        fresh_book(1, 1, 0, SEASON, sheet),
+        format!("the sheet {bytes:02X?}"),
+    );
+    match is_legal {
+        true => legal(library, &book, &why),
+        false => illegal(library, &book, &why),
     }
 }
 

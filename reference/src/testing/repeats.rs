@@ -4,7 +4,7 @@
 
 use super::forms::{
     declaration, fresh, honey, message, open_sheet, place_of, put, random_book, random_declaration,
-    random_pool, sheet, slot_at, slots_from, twins, EDGE_READINGS, OPEN, SEASON,
+    random_pool, sheet, slot_at, slots_from, twins, with_readings, EDGE_READINGS, OPEN, SEASON,
 };
 use super::random::Random;
 use crate::{Declaration, Gate, Kind, Library, Outcome, DECLARATION};
@@ -94,8 +94,8 @@ pub(super) fn some_of(n: u8) -> Vec<u8> {
 }
 
 /// Every n, each kind, the first, a middle and the last house, and each of the 20 bytes: one bit of it is
-/// another, and all its bits are, in what comes and in what stands. By a sheet to which all of that is
-/// plausible, and by one to which some is not.
+/// another, all but the first are, and all are, in what comes and in what stands. By a sheet to which all of
+/// that is plausible but a reading below zero, and by one to which less is.
 pub fn every_byte(library: &mut impl Library) {
     let (one, strict) = (honey(77, 40, 800), open_sheet());
     let lenient = sheet(u32::MAX, OPEN, OPEN);
@@ -107,7 +107,7 @@ pub fn every_byte(library: &mut impl Library) {
             .into_iter()
             .flat_map(|house| (0..DECLARATION).map(move |byte| (house, byte)))
         {
-            for change in [0x80 >> ((usize::from(n) + byte) % 8), 0xFF] {
+            for change in [0x80 >> ((usize::from(n) + byte) % 8), 0x7F, 0xFF] {
                 let mut other = one;
                 other[byte] ^= change;
                 for (stands, comes) in [(one, other), (other, one), (other, other)] {
@@ -168,6 +168,9 @@ pub fn every_pair(library: &mut impl Library) {
     }
 }
 
+/// The way by which the sign of a reading is another, often of a zero.
+const SIGN: usize = 3;
+
 /// How what comes may be near to what stands.
 const WAYS: [&str; 8] = [
     "the same",
@@ -189,7 +192,7 @@ fn near(random: &mut Random, one: &Declaration, pool: &[Declaration], way: usize
         0 => (),
         1 => other[byte] ^= 1 << random.below(8),
         2 => other[byte] ^= 1 + random.below(255) as u8,
-        3 => other[12 + 4 * (byte % 2)] ^= 0x80,
+        SIGN => other[12 + 4 * (byte % 2)] ^= 0x80,
         4 => other[cut..].copy_from_slice(&pick[cut..]),
         5 => other[..cut].copy_from_slice(&pick[..cut]),
         6 => other = pick,
@@ -200,11 +203,14 @@ fn near(random: &mut Random, one: &Declaration, pool: &[Declaration], way: usize
 
 /// A message for any slot of this book, near by this way to what stands there.
 fn random_case(random: &mut Random, book: &[u8], pool: &[Declaration], way: usize) -> Case {
-    let one = match random.below(8) {
+    let mut one = match random.below(12) {
         0 => random.bytes(20).try_into().expect("20 bytes"),
         1 => random.pick(&easily_mistaken()),
         _ => random.pick(pool),
     };
+    if way == SIGN && random.chance(1, 2) {
+        one = with_readings(&one, [0; 2]);
+    }
     let mut both = [one, near(random, &one, pool, way)];
     random.shuffle(&mut both);
     let [stands, comes] = both;
@@ -231,8 +237,8 @@ pub fn any_book(library: &mut impl Library, seed: u64, books: usize) {
     for _ in 0..books {
         let pool = random_pool(&mut random);
         let mut book = random_book(&mut random, &pool);
-        if random.chance(1, 2) {
-            let lenient = sheet(u32::MAX, Gate::Between(f32::MIN, f32::MAX), OPEN);
+        if random.chance(3, 4) {
+            let lenient = sheet(u32::MAX, Gate::Between(-0.0, f32::MAX), OPEN);
             book[7..29].copy_from_slice(&lenient);
         }
         for (way, again) in again.iter_mut().enumerate() {

@@ -1,4 +1,4 @@
-//! Document 01's rows 1 to 15 and its run cases, and the counts for all n and f.
+//! Document 01's rows 1 to 17 and its run cases, and the counts for all n and f.
 
 use super::forms::{
     declaration, fresh, fresh_book, honey, message, open_sheet, sheet, OPEN, SEASON,
@@ -118,12 +118,15 @@ pub fn another_f(library: &mut impl Library) {
     assert_eq!(outcomes, [t_is_1, t_is_0], "READYs at n = 4, f = 0 and 1");
 }
 
-/// Rows 4 to 8 and 13 to 15: judging.
+/// Rows 4 to 8 and 13 to 17: judging. Run too: the smallest number below zero, minus infinity, and the gate
+/// between minus zero and zero.
 pub fn judged(library: &mut impl Library) {
     let moist = |moisture: f32| {
         let readings = [moisture, 0.5].map(f32::to_bits);
         declaration(77, 40, 800, readings)
     };
+    let zeros = sheet(20, Gate::Between(-0.0, 0.0), OPEN);
+    let least = [0x8000_0001, 0x0000_0001].map(f32::from_bits);
     let rows = [
         (4, open_sheet(), honey(77, 40, 800), 0),
         (5, open_sheet(), honey(77, 40, 801), 5),
@@ -133,9 +136,23 @@ pub fn judged(library: &mut impl Library) {
         (13, open_sheet(), honey(77, 0, 0), 5),
         (14, open_sheet(), honey(77, 0, 1), 5),
         (15, open_sheet(), honey(77, 1, 0), 0),
+        (16, open_sheet(), moist(-3.0), 5),
+        (17, open_sheet(), moist(-0.0), 0),
     ];
     for (row, sheet, declaration, answer) in rows {
         assert_eq!(library.judge(&sheet, &declaration), answer, "row {row}");
+    }
+    let runs = [
+        (open_sheet(), least[0], 5),
+        (open_sheet(), f32::NEG_INFINITY, 5),
+        (zeros, least[0], 5),
+        (zeros, -0.0, 0),
+        (zeros, 0.0, 0),
+        (zeros, least[1], 5),
+    ];
+    for (sheet, moisture, answer) in runs {
+        let judged = library.judge(&sheet, &moist(moisture));
+        assert_eq!(judged, answer, "moisture {moisture:e} by {sheet:02X?}");
     }
 }
 

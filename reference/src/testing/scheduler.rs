@@ -2,17 +2,17 @@
 
 pub mod attacks;
 pub mod carrier;
-pub mod colonies;
 pub mod directed;
+pub mod implausible;
 pub mod twins;
 mod weather;
 
-use super::forms::random_declaration;
+use super::forms::{open_sheet, random_declaration, sheet};
 use super::random::Random;
 use super::season::moments::Tally;
 use super::season::{Rules, Season};
-use super::wrong::{bare, plausible, Wrong};
-use crate::{Declaration, Library};
+use super::wrong::{bare, below, minus_zero, plausible, Wrong};
+use crate::{Declaration, Gate, Library, SHEET};
 use carrier::Carrier;
 use weather::{pick_some, Aim, Weather};
 
@@ -72,14 +72,17 @@ impl Order {
 /// A house, a number, and what it will publish there.
 type Publication = (usize, u32, Declaration);
 
-/// What the honest houses will publish: most of their numbers, some twice, with an implausible one or with one of
-/// no colonies.
+/// What the honest houses will publish: most of their numbers, at times a reading of minus zero; and some twice,
+/// with an implausible one, with one of no colonies or with a reading below zero.
 fn publications(random: &mut Random, rules: &Rules, pool: &[Declaration]) -> Vec<Publication> {
     let mut all = vec![];
     for house in rules.honest() {
         for number in 0..u32::from(rules.s) {
             if random.chance(3, 4) {
-                all.push((house, number, random.pick(pool)));
+                let first = random.pick(pool);
+                let zero = minus_zero(random, pool);
+                let v = if random.chance(1, 8) { zero } else { first };
+                all.push((house, number, v));
             }
             if random.chance(1, 8) {
                 let number = random.pick(&[number, number, u32::from(rules.s), 256]);
@@ -88,6 +91,9 @@ fn publications(random: &mut Random, rules: &Rules, pool: &[Declaration]) -> Vec
             }
             if random.chance(1, 4) {
                 all.push((house, number, bare(random, pool)));
+            }
+            if random.chance(1, 4) {
+                all.push((house, number, below(random, pool)));
             }
         }
     }
@@ -284,7 +290,8 @@ fn run_plan<'l, L: Library>(library: &'l mut L, random: &mut Random, plan: Plan)
 /// How often a house may return and be helped, mostly seldom.
 const LIMITS: [u8; 16] = [0, 0, 0, 0, 0, 1, 1, 1, 2, 2, 3, 4, 5, 6, 7, 8];
 
-/// A season of n houses, with any f that fits n and any d, often t wrong houses, and at times more.
+/// A season of n houses, with any f that fits n and any d, often t wrong houses, and at times more; by one of
+/// several sheets.
 fn random_rules(random: &mut Random, n: u8, s: u8) -> Rules {
     let fits = usize::from(((n - 1) / 2).min(crate::MOST_DOWN)) + 1;
     let f = random.below(fits).min(random.below(fits)) as u8;
@@ -297,7 +304,20 @@ fn random_rules(random: &mut Random, n: u8, s: u8) -> Rules {
         _ => t,
     };
     let wrong = some_houses(random, n, wrong);
-    Rules::new(n, s, &wrong).with(f, d)
+    let sheet = random.pick(&sheets());
+    Rules {
+        sheet,
+        ..Rules::new(n, s, &wrong).with(f, d)
+    }
+}
+
+/// Sheets by which all that is told in a season is plausible, but for no colonies and readings below zero.
+fn sheets() -> [[u8; SHEET]; 3] {
+    [
+        open_sheet(),
+        sheet(20, Gate::AtMost(20.0), Gate::Between(0.0, 2.0)),
+        sheet(u32::MAX, Gate::Between(-0.0, 17.5), Gate::AtMost(0.5)),
+    ]
 }
 
 /// Some `count` of the n houses.
@@ -339,7 +359,10 @@ pub fn hostile(library: &mut impl Library, seed: u64, n: u8, s: u8) -> Tally {
         wrongs.retain(|wrong| *wrong < usize::from(n));
         for wrong in wrongs {
             let houses = some_houses(&mut random, n, wrong);
-            let rules = Rules::new(n, s, &houses).with(f, d);
+            let rules = Rules {
+                sheet: random.pick(&sheets()),
+                ..Rules::new(n, s, &houses).with(f, d)
+            };
             let weather = Weather::within(&mut random, &rules);
             let mut season = run_in(library, &mut random, rules, weather);
             season.check();

@@ -7,7 +7,7 @@ mod rules;
 mod sending;
 
 use super::claims::{Fault, Finding, Seen};
-use super::forms::{has_colonies, SEASON};
+use super::forms::{has_colonies, has_minus_zero, SEASON};
 use crate::{request, Declaration, Form, Kind, Library, Message, Outcome};
 use moments::{Moment, Tally};
 use std::collections::VecDeque;
@@ -203,12 +203,21 @@ impl<'l, L: Library> Season<'l, L> {
                 self.seen[entry].refused_bare |= first;
                 self.tally.add(Moment::NoColoniesPublished);
             }
+            if answer == 5 && self.rules.is_only_below_zero(declaration) {
+                self.seen[entry].refused_below |= first;
+                self.tally.add(Moment::BelowZeroPublished);
+            }
             return answer;
         }
         self.hold(plausible, Fault::ImplausibleAccepted, place);
         self.hold(first, Fault::PublishedTwice, place);
-        if self.seen[entry].refused_bare {
-            self.tally.add(Moment::PublishedAfterNone);
+        let moments = [
+            (self.seen[entry].refused_bare, Moment::PublishedAfterNone),
+            (self.seen[entry].refused_below, Moment::PublishedAfterBelow),
+            (has_minus_zero(declaration), Moment::MinusZeroPublished),
+        ];
+        for (is, moment) in moments {
+            self.tally.add_times(moment, usize::from(is));
         }
         self.seen[entry].published.get_or_insert(*declaration);
         let send = Message {
@@ -453,7 +462,12 @@ impl<'l, L: Library> Season<'l, L> {
     fn compared(&mut self, house: usize, from: u32, message: Option<Message>, answer: u8) {
         let place = || format!("answer {answer} at house {house} to house {from}");
         let stands = message.and_then(|message| self.accepted(house, from, &message));
-        let bare = message.is_some_and(|message| !has_colonies(&message.declaration));
+        let told = |is: &dyn Fn(&Declaration) -> bool| {
+            usize::from(message.is_some_and(|message| is(&message.declaration)))
+        };
+        let bare = told(&|v| !has_colonies(v));
+        let below = told(&|v| self.rules.is_only_below_zero(v));
+        let minus_zero = told(&has_minus_zero);
         let message = message.filter(|message| self.rules.is_plausible(&message.declaration));
         let again = message.zip(stands);
         let same = again.map(|(message, stands)| message.declaration == stands);
@@ -466,10 +480,13 @@ impl<'l, L: Library> Season<'l, L> {
         );
         self.hold(answer != 13 || wrong, Fault::HonestCalledLiar, place);
         match answer {
-            5 if wrong && bare => {
+            0 if wrong => self.tally.add_times(Moment::MinusZero, minus_zero),
+            5 if wrong => {
                 let again = usize::from(stands.is_some());
-                self.tally.add(Moment::NoColonies);
-                self.tally.add_times(Moment::NoColoniesAgain, again);
+                self.tally.add_times(Moment::NoColonies, bare);
+                self.tally.add_times(Moment::NoColoniesAgain, bare * again);
+                self.tally.add_times(Moment::BelowZero, below);
+                self.tally.add_times(Moment::BelowZeroAgain, below * again);
             }
             7 if wrong => self.tally.add(Moment::WrongRepeat),
             13 if wrong => self.tally.add(Moment::Conflict),

@@ -2,7 +2,8 @@
 //! every number of vouchers and every state of the two marks. What stands there need not be plausible.
 
 use super::forms::{
-    fresh, message, open_sheet, place_of, put, redraw_helped, slot_at, twins, with_colonies, SEASON,
+    fresh, message, open_sheet, place_of, put, random_below, redraw_helped, slot_at, twins,
+    with_colonies, SEASON,
 };
 use super::random::Random;
 use super::rows::all_counts;
@@ -112,7 +113,8 @@ impl Case {
     /// The message comes: the answer, all that it carries and every byte of the book are as they have to be.
     fn check(&self, library: &mut impl Library, random: &mut Random, counts: &Counts) {
         let [v, twin] = random.pick(&twins());
-        let other = random.pick(&[twin, twin, with_colonies(&v, 0), [0; 20]]);
+        let below = random_below(random, &v);
+        let other = random.pick(&[twin, twin, with_colonies(&v, 0), below, [0; 20]]);
         let slots = self.slots(random);
         let due = self.due(counts);
         let hold = |book: &mut [u8], slot: usize, holds: Holds| {

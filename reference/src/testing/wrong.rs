@@ -1,8 +1,11 @@
 //! Wrong houses that work together: they see every copy, plan what each honest house is to believe,
 //! equivocate, vouch for it, go back on it, replay, lie about the kind, stay silent towards some, ask for
-//! help again and again, tell of no colonies, and send noise.
+//! help again and again, tell of no colonies and of readings below zero, and send noise.
 
-use super::forms::{honey, message, random_declaration, twins, with_colonies, SEASON};
+use super::forms::{
+    honey, message, random_below, random_declaration, readings_of, twins, with_colonies,
+    with_readings, MINUS_ZERO, SEASON,
+};
 use super::random::Random;
 use super::season::{Rules, Sent};
 use crate::{request, Declaration, MESSAGE};
@@ -22,6 +25,20 @@ pub fn bare(random: &mut Random, of: &[Declaration]) -> Declaration {
         v[8..12].copy_from_slice(&[0, 0, 0, random.below(2) as u8]);
     }
     v
+}
+
+/// One of these with a reading below zero, or both.
+pub fn below(random: &mut Random, of: &[Declaration]) -> Declaration {
+    let v = random.pick(of);
+    random_below(random, &v)
+}
+
+/// One of these with a reading of minus zero.
+pub fn minus_zero(random: &mut Random, of: &[Declaration]) -> Declaration {
+    let v = random.pick(of);
+    let mut readings = readings_of(&v);
+    readings[random.below(2)] = MINUS_ZERO;
+    with_readings(&v, readings)
 }
 
 /// Bytes for an honest house, and the number that they come under.
@@ -57,6 +74,8 @@ pub struct Wrong {
     turns: usize,
     /// How many more there are, in sixteen, that tell of no colonies.
     bare: usize,
+    /// How many more there are, in sixteen, that tell of readings below zero, or of minus zero.
+    below: usize,
     /// The messages that were accepted.
     accepted: Vec<Lie>,
 }
@@ -102,6 +121,7 @@ impl Wrong {
             asks: random.pick(&[0, 1, 1, 4, 14]),
             turns: random.pick(&[0, 2, 4, 8]),
             bare: random.pick(&[0, 1, 4, 8]),
+            below: random.pick(&[0, 1, 4, 8]),
             accepted: vec![],
         }
     }
@@ -114,7 +134,7 @@ impl Wrong {
             usize::from(self.rules.d),
         ];
         let some = self.rules.entries() * (1 + random.below(6 * n));
-        let some = some + some * (self.turns + self.bare) / 16;
+        let some = some + some * (self.turns + self.bare + self.below) / 16;
         match self.asks {
             14 => some + (8 * h * n * d).min(MOST_REQUESTS),
             _ => some,
@@ -131,16 +151,26 @@ impl Wrong {
     /// The next lie, or none where a wrong house withholds.
     pub fn lie(&self, random: &mut Random, copies: &[Sent]) -> Option<Lie> {
         let mut lie = self.any_lie(random, copies)?;
-        if random.chance(self.bare, 16 + self.bare) {
-            if let Some(said) = lie.bytes.get_mut(16..MESSAGE) {
-                let v = said.try_into().expect("20 bytes");
-                said.copy_from_slice(&bare(random, &[v]));
+        let others = [
+            (
+                self.bare,
+                bare as fn(&mut Random, &[Declaration]) -> Declaration,
+            ),
+            (self.below, below),
+            (self.below / 2, minus_zero),
+        ];
+        for (more, other) in others {
+            if random.chance(more, 16 + more) {
+                if let Some(said) = lie.bytes.get_mut(16..MESSAGE) {
+                    let v = said.try_into().expect("20 bytes");
+                    said.copy_from_slice(&other(random, &[v]));
+                }
             }
         }
         Some(lie)
     }
 
-    /// The same with the colonies that it tells of.
+    /// The same with the colonies and the readings that it tells of.
     fn any_lie(&self, random: &mut Random, copies: &[Sent]) -> Option<Lie> {
         let to = random.pick(&self.honest);
         if self.wrong.is_empty() {

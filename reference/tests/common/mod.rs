@@ -1,6 +1,8 @@
 //! The reference with a slip: each call is the reference's own, unless the slip has another. And what it
 //! takes to see that a check sees it.
 
+pub mod otherwise;
+
 use reference::testing::both::Both;
 use reference::testing::claims::Fault;
 use reference::testing::random::Random;

@@ -4,11 +4,11 @@ use crate::linked::Linked;
 use crate::{drawn, edges, entries};
 use reference::testing::both::Both;
 use reference::testing::scheduler::twins::{self, Count};
-use reference::testing::scheduler::{attacks, carrier, colonies as seasons, directed};
+use reference::testing::scheduler::{attacks, carrier, directed, implausible};
 use reference::testing::season::moments::{Moment, Tally};
 use reference::testing::season::Rules;
 use reference::testing::{
-    books, colonies, openings, pairs, readings, refusals, repeats, requests, returns, rows,
+    below, books, colonies, openings, pairs, readings, refusals, repeats, requests, returns, rows,
     scheduler, trips, vouchers,
 };
 use reference::Reference;
@@ -21,7 +21,7 @@ pub type Pair = Both<Linked, Reference>;
 pub type Check = (&'static str, fn(&mut Pair, u64, usize));
 
 /// Checks that are the same at any size, the quickest first; the seed is for noise.
-pub const COUNTED: [Check; 29] = [
+pub const COUNTED: [Check; 33] = [
     ("the rows and run cases of document 01", |pair, _, _| {
         rows::card(pair);
         rows::judged(pair);
@@ -107,8 +107,23 @@ pub const COUNTED: [Check; 29] = [
         colonies::standing(pair);
     }),
     ("no colonies, told and published", |pair, _, _| {
-        seasons::told(pair);
-        seasons::published(pair);
+        implausible::told(pair, implausible::no_colonies());
+        implausible::published(pair, implausible::no_colonies());
+    }),
+    ("readings of every size, below zero or not", |pair, _, _| {
+        below::readings(pair);
+        below::pairs(pair);
+    }),
+    ("limits of every size, below zero or not", |pair, _, _| {
+        below::limits(pair);
+    }),
+    (
+        "readings below zero, where they stand already",
+        |pair, _, _| below::standing(pair),
+    ),
+    ("readings below zero, told and published", |pair, _, _| {
+        implausible::told(pair, implausible::below_zero());
+        implausible::published(pair, implausible::below_zero());
     }),
     ("each byte of what stands and what comes", |pair, _, _| {
         repeats::every_byte(pair);
@@ -132,7 +147,7 @@ pub const COUNTED: [Check; 29] = [
 ];
 
 /// Checks that draw their cases: more with a larger size.
-pub const DRAWN: [Check; 19] = [
+pub const DRAWN: [Check; 21] = [
     ("calls on any legal book", |pair, seed, scale| {
         refusals::calls(pair, seed, 200 * scale);
     }),
@@ -144,6 +159,15 @@ pub const DRAWN: [Check; 19] = [
     ),
     ("no colonies on any legal book", |pair, seed, scale| {
         colonies::any_book(pair, seed, 8 * scale);
+    }),
+    (
+        "readings below zero on any legal book",
+        |pair, seed, scale| {
+            below::any_book(pair, seed, 8 * scale);
+        },
+    ),
+    ("limits below zero in any book", |pair, seed, scale| {
+        below::any_sheet(pair, seed, 8 * scale);
     }),
     ("requests until helped enough", |pair, seed, scale| {
         for round in 0..scale.div_ceil(4) as u64 {
@@ -242,8 +266,8 @@ pub const DRAWN: [Check; 19] = [
 const ENOUGH_FOR_ALL: usize = 8;
 
 /// And copies are brought again so often at least, whatever the seed, wrong houses say the same again and
-/// another thing, and no colonies are told of and published.
-const OFTEN: [(Moment, usize); 10] = [
+/// another thing, and no colonies, readings below zero and minus zero are told of and published.
+const OFTEN: [(Moment, usize); 17] = [
     (Moment::BroughtAgain, 10_000),
     (Moment::BroughtOften, 4_000),
     (Moment::BroughtLate, 4_000),
@@ -254,6 +278,13 @@ const OFTEN: [(Moment, usize); 10] = [
     (Moment::NoColoniesAgain, 200),
     (Moment::NoColoniesPublished, 150),
     (Moment::PublishedAfterNone, 40),
+    (Moment::BelowZero, 200),
+    (Moment::BelowZeroAgain, 100),
+    (Moment::MinusZero, 100),
+    (Moment::BelowZeroPublished, 60),
+    (Moment::PublishedAfterBelow, 15),
+    (Moment::MinusZeroPublished, 60),
+    (Moment::MinusZeroDelivered, 200),
 ];
 
 /// And where seasons are run with a nervous carrier and with none.
@@ -271,12 +302,19 @@ const ENOUGH_TO_DISAGREE: usize = 400;
 
 /// What comes about in hostile seasons, whatever the seed: so often at least for each size from four houses on,
 /// counted over all sizes together, since a single one may be drawn without it.
-const HOSTILE: [(Moment, usize); 5] = [
+const HOSTILE: [(Moment, usize); 12] = [
     (Moment::WrongAndCrash, 1),
     (Moment::NoColonies, 50),
     (Moment::NoColoniesAgain, 20),
     (Moment::NoColoniesPublished, 5),
     (Moment::PublishedAfterNone, 2),
+    (Moment::BelowZero, 25),
+    (Moment::BelowZeroAgain, 10),
+    (Moment::MinusZero, 10),
+    (Moment::BelowZeroPublished, 3),
+    (Moment::PublishedAfterBelow, 1),
+    (Moment::MinusZeroPublished, 4),
+    (Moment::MinusZeroDelivered, 20),
 ];
 
 /// Seasons with as many wrong houses as are tolerated, one less, none and one more, of so many houses.

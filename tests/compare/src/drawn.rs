@@ -3,11 +3,13 @@
 
 use reference::testing::colonies::random_weight;
 use reference::testing::forms::{
-    declaration, fresh_book, message, random_book, random_pool, random_reading, request_of,
-    sheet_of_bits, slots_from, SEASON,
+    declaration, fresh_book, has_minus_zero, is_below_zero, is_measurable, message, random_book,
+    random_near_zero, random_pool, random_reading, request_of, sheet_of_bits, slots_from,
+    MINUS_ZERO, SEASON,
 };
 use reference::testing::random::Random;
-use reference::Library;
+use reference::testing::season::Rules;
+use reference::{Declaration, Library, SHEET};
 
 /// A cap, colonies and kilograms: few colonies or none; or a product near the kilograms, near 2^32 or near 2^64.
 fn near_product(random: &mut Random) -> [u32; 3] {
@@ -39,17 +41,26 @@ fn near_product(random: &mut Random) -> [u32; 3] {
 
 /// A gate's kind, low and high, the limits near this reading; at times in no legal form.
 fn near_gate(random: &mut Random, reading: u32) -> (u8, u32, u32) {
-    let mut limit = || match random.below(4) {
-        0 => random_reading(random),
-        1 => reading ^ 0x8000_0000,
-        _ => reading.wrapping_add(random.below(5) as u32).wrapping_sub(2),
+    let (unsigned, wide) = (reading & 0x7FFF_FFFF, f32::MAX.to_bits());
+    let mut limit = || {
+        let near = random.pick(&[reading, unsigned, unsigned, unsigned]);
+        let limit = match random.below(8) {
+            0 | 1 => random_reading(random),
+            2 => reading ^ 0x8000_0000,
+            3 => random.pick(&[0, MINUS_ZERO]),
+            _ => near.wrapping_add(random.below(5) as u32).wrapping_sub(2),
+        };
+        match is_measurable(limit) || random.chance(1, 2) {
+            true => limit,
+            false => random.pick(&[0, MINUS_ZERO, wide, wide]),
+        }
     };
     let (low, high) = (limit(), limit());
     match random.below(16) {
-        0..=2 => (0, 0, 0),
-        3..=6 => (1, 0, high),
-        7..=14 if f32::from_bits(low) > f32::from_bits(high) => (2, high, low),
-        7..=14 => (2, low, high),
+        0..=4 => (0, 0, 0),
+        5..=9 => (1, 0, high),
+        10..=14 if f32::from_bits(low) > f32::from_bits(high) => (2, high, low),
+        10..=14 => (2, low, high),
         _ => (random.below(4) as u8, low, high),
     }
 }
@@ -57,10 +68,11 @@ fn near_gate(random: &mut Random, reading: u32) -> (u8, u32, u32) {
 /// A reading near an edge: of the subnormals, of the zeros, of the infinities; or a NaN; or any.
 fn edge(random: &mut Random) -> u32 {
     let near = [0, 0x0080_0000, 0x3F80_0000, 0x7F80_0000, 0x7FC0_0000];
-    let sign = (random.below(2) as u32) << 31;
-    match random.below(3) {
-        0 => random_reading(random),
-        1 => random.word() & 0x00FF_FFFF | sign,
+    let sign = u32::from(random.chance(1, 6)) << 31;
+    match random.below(6) {
+        0 | 1 => random_reading(random),
+        2 | 3 => random.word() & 0x00FF_FFFF | sign,
+        4 => random_near_zero(random),
         _ => {
             let place = random.pick(&near) + 2;
             (place + random.below(5) as u32).wrapping_sub(4) ^ sign
@@ -68,11 +80,43 @@ fn edge(random: &mut Random) -> u32 {
     }
 }
 
+/// What is to come about at zero when judging at edges.
+const AT_ZERO: [&str; 4] = [
+    "5 to a reading below zero, with nothing else in the way",
+    "0 to a reading of minus zero",
+    "10 to a limit below zero, which would be legal with no sign",
+    "0 by a limit of minus zero",
+];
+
+/// Which of these came about.
+fn at_zero(
+    sheet: &[u8; SHEET],
+    gates: [(u8, u32, u32); 2],
+    v: &Declaration,
+    judged: u8,
+) -> [bool; AT_ZERO.len()] {
+    let rules = Rules {
+        sheet: *sheet,
+        ..Rules::new(1, 1, &[])
+    };
+    let unsigned = |bits: u32| bits & 0x7FFF_FFFF;
+    let with_none = gates.map(|(kind, low, high)| (kind, unsigned(low), unsigned(high)));
+    let would_be_legal = reference::judge(&sheet_of_bits(0, with_none), v) != 10;
+    let limits = gates.map(|(_, low, high)| [low, high]).concat();
+    [
+        judged == 5 && rules.is_only_below_zero(v),
+        judged == 0 && has_minus_zero(v),
+        judged == 10 && limits.iter().any(|bits| is_below_zero(*bits)) && would_be_legal,
+        judged == 0 && limits.contains(&MINUS_ZERO),
+    ]
+}
+
 /// Judges at edges; and in some rounds publishes and receives what was judged.
 pub fn judging(library: &mut impl Library, seed: u64, rounds: usize) {
     let mut random = Random::new(seed);
     let mut answers = [0usize; 12];
     let mut few = [[0usize; 12]; 3];
+    let mut zeros = [0usize; AT_ZERO.len()];
     for _ in 0..rounds {
         let [cap, colonies, kilograms] = near_product(&mut random);
         let readings = [0, 1].map(|_| edge(&mut random));
@@ -81,6 +125,10 @@ pub fn judging(library: &mut impl Library, seed: u64, rounds: usize) {
         let v = declaration(random.word(), colonies, kilograms, readings);
         let judged = library.judge(&sheet, &v);
         answers[usize::from(judged)] += 1;
+        let came = at_zero(&sheet, gates, &v, judged);
+        for (count, came) in zeros.iter_mut().zip(came) {
+            *count += usize::from(came);
+        }
         if let Some(few) = few.get_mut(colonies as usize) {
             few[usize::from(judged)] += 1;
         }
@@ -108,6 +156,9 @@ pub fn judging(library: &mut impl Library, seed: u64, rounds: usize) {
     let enough =
         |(colonies, answer, least): &(usize, usize, usize)| few[*colonies][*answer] >= *least;
     assert!(least.iter().all(enough), "few colonies too seldom: {few:?}");
+    let rare = AT_ZERO.iter().zip(zeros);
+    let rare: Vec<_> = rare.filter(|(_, count)| *count < rounds / 200).collect();
+    assert!(rare.is_empty(), "too seldom at zero: {rare:?}");
 }
 
 /// A legal book with one bit flipped, cut, lengthened, or with two pieces exchanged.

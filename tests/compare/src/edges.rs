@@ -2,14 +2,14 @@
 
 use reference::testing::forms::{
     declaration, fresh, fresh_book, honey, message, open_sheet, request_of, sheet, slots_from,
-    OPEN, SEASON,
+    with_readings, OPEN, SEASON,
 };
 use reference::testing::random::Random;
 use reference::{Gate, Library};
 
 /// All 64 sizes: opened with each own number and some f, in buffers that fit and that do not; then the last
-/// entry, from the publication to the delivery, with all of it again, another in its place and one with no
-/// colonies; and the last asker.
+/// entry, from the publication to the delivery, with all of it again, another in its place, one with no colonies
+/// and one with a reading below zero; and the last asker.
 pub fn sizes(library: &mut impl Library) {
     for (n, s) in (1..=16).flat_map(|n| (1..=4).map(move |s| (n, s))) {
         let (answer, length) = library.length(n, s);
@@ -44,12 +44,23 @@ fn last_asker(library: &mut impl Library, book: &mut [u8], n: u32, d: u32) {
 /// The entry of the last sender and number in that sender's own book.
 fn last_entry(library: &mut impl Library, book: &mut [u8], n: u32, s: u32) {
     let (v, other, bare) = (honey(77, 40, 800), honey(77, 40, 799), honey(77, 0, 0));
+    let below = with_readings(&v, [17.5f32.to_bits(), 0x8000_0001]);
     let bytes_of = |kind, v| message(kind, SEASON, n as u8 - 1, s as u8 - 1, v);
     let bytes = |kind| bytes_of(kind, &v);
-    let refused = [1, 2, 3].map(|kind| library.receive(book, n - 1, &bytes_of(kind, &bare)).answer);
-    assert_eq!(refused, [5; 3], "no colonies at {n} and {s}");
-    let published = [bare, v, v, bare].map(|v| library.publish(book, s - 1, &v).answer);
-    assert_eq!(published, [5, 0, 8, 5], "publishing twice at {n} and {s}");
+    for (v, kind) in [&bare, &below]
+        .iter()
+        .flat_map(|v| [(v, 1), (v, 2), (v, 3)])
+    {
+        let refused = library.receive(book, n - 1, &bytes_of(kind, v)).answer;
+        assert_eq!(refused, 5, "kind {kind} of {v:02X?} at {n} and {s}");
+    }
+    let published = [bare, below, v, v, bare, below];
+    let published = published.map(|v| library.publish(book, s - 1, &v).answer);
+    assert_eq!(
+        published,
+        [5, 5, 0, 8, 5, 5],
+        "publishing twice at {n} and {s}"
+    );
     let sends = [0, 1].map(|_| library.receive(book, n - 1, &bytes(1)).answer);
     assert_eq!(sends, [0, 7], "a SEND twice at {n} and {s}");
     let mut deliveries = 0;
@@ -66,9 +77,9 @@ fn last_entry(library: &mut impl Library, book: &mut [u8], n: u32, s: u32) {
     for kind in 1..=3 {
         let sent = library.sent(book, kind, n - 1, s - 1).message;
         assert_eq!(sent, Some(bytes(kind)), "sent again at {n} and {s}");
-        let again = [&v, &other, &bare].map(|v| bytes_of(kind, v));
+        let again = [&v, &other, &bare, &below].map(|v| bytes_of(kind, v));
         let again = again.map(|bytes| library.receive(book, n - 1, &bytes).answer);
-        assert_eq!(again, [7, 13, 5], "kind {kind} again at {n} and {s}");
+        assert_eq!(again, [7, 13, 5, 5], "kind {kind} again at {n} and {s}");
     }
     assert_eq!(deliveries, 1, "deliveries at {n} and {s}");
 }
@@ -79,8 +90,8 @@ pub fn unlike_bytes(library: &mut impl Library) {
     let limit = f32::from_bits;
     let sheet = sheet(
         0xF1E2_D3C4,
-        Gate::Between(limit(0xC112_2334), limit(0x4556_6778)),
-        Gate::Between(limit(0xB59A_ABBC), limit(0x3ECD_DEEF)),
+        Gate::Between(limit(0x3112_2334), limit(0x4556_6778)),
+        Gate::Between(limit(0x359A_ABBC), limit(0x3ECD_DEEF)),
     );
     let v = declaration(
         0x8192_A3B4,
@@ -292,7 +303,7 @@ pub fn nans(library: &mut impl Library, seed: u64) {
 
 /// A declaration that no gate lets through, and that is read and written unchanged.
 fn as_readings(library: &mut impl Library, v: &[u8; 20]) {
-    let wide = Gate::Between(f32::MIN, f32::MAX);
+    let wide = Gate::Between(-0.0, f32::MAX);
     for gate in [OPEN, Gate::AtMost(f32::MAX), wide] {
         let sheet = sheet(20, gate, gate);
         assert_eq!(library.judge(&sheet, v), 5, "{v:02X?}");

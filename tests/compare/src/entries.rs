@@ -12,21 +12,22 @@ const NUMBERS: u8 = 2;
 /// So many repeats at least are among them, so many conflicts, and so much that is not plausible.
 const ENOUGH: usize = 10_000;
 
-/// Four declarations: two plausible ones that differ in the sign of a zero, and two that no run records, a NaN and
-/// one with no colonies.
-fn four() -> [Declaration; 4] {
+/// Five declarations: two plausible ones that differ in the sign of a zero, and three that no run records, a NaN,
+/// one with no colonies and the smallest reading below zero.
+fn five() -> [Declaration; 5] {
     let with = |bits| declaration(77, 40, 800, [17.5f32.to_bits(), bits]);
     [
         with(0x0000_0000),
         with(0x8000_0000),
         with(0x7FA0_0001),
         honey(77, 0, 0),
+        with(0x8000_0001),
     ]
 }
 
 /// Up to so many houses with each f that fits: SENDs, ECHOes and READYs from each house on every state
 /// of the slots that they are counted by, each slot empty or with one of two declarations; and from one of
-/// them what has no colonies. The other slots, d and the help counts are drawn.
+/// them what has no colonies, or a reading below zero. The other slots, d and the help counts are drawn.
 pub fn states(library: &mut impl Library, seed: u64, most: u8) {
     let mut random = Random::new(seed);
     let (mut given, mut delivered, mut answers) = (0, 0, [0; 14]);
@@ -43,10 +44,10 @@ pub fn states(library: &mut impl Library, seed: u64, most: u8) {
             let counted = [&slots[..], &marks].concat();
             for state in 0..3usize.pow(counted.len() as u32) {
                 let book = book(&mut random, [n, f], first, &counted, state);
-                let [one, other, _, bare] = four();
+                let [one, other, _, bare, below] = five();
                 let plausible = (0..n).flat_map(|house| [(house, one), (house, other)]);
-                let bare = (random.below(houses) as u8, bare);
-                for (house, v) in plausible.chain([bare]) {
+                let refused = [bare, below].map(|v| (random.below(houses) as u8, v));
+                for (house, v) in plausible.chain(refused) {
                     let bytes = message(kind, SEASON, n - 1, NUMBERS - 1, &v);
                     let outcome = library.receive(&mut book.clone(), u32::from(house), &bytes);
                     given += usize::from(outcome.message.is_some());
@@ -74,13 +75,13 @@ fn book(
 ) -> Vec<u8> {
     let mut book = fresh([n, NUMBERS, n - 1, f, 0], SEASON, &open_sheet());
     redraw_helped(random, &mut book);
-    let of = four();
-    let other = 1 + random.below(3);
+    let of = five();
+    let other = 1 + random.below(4);
     let mut hold = |slot: usize, v: Option<&Declaration>| {
         put(&mut book, slots_from(n) + 21 * slot, v);
     };
     for slot in first..first + 2 * usize::from(n) + 3 {
-        hold(slot, of.get(random.below(6)));
+        hold(slot, of.get(random.below(7)));
     }
     let mut rest = state;
     for &slot in counted {

@@ -5,13 +5,12 @@ pub mod premises;
 
 use super::carrier::Carrier;
 use super::weather::Weather;
-use super::{publications, run_plan, some_houses, Plan, Publication};
+use super::{publications, run_plan, sheets, some_houses, Plan, Publication};
 use crate::testing::claims::Finding;
-use crate::testing::forms::{open_sheet, sheet};
 use crate::testing::random::Random;
 use crate::testing::season::{Rules, Season};
-use crate::testing::wrong::{bare, plausible};
-use crate::{Declaration, Gate, Library, MOST_HOUSES, MOST_NUMBERS, SHEET};
+use crate::testing::wrong::{bare, below, plausible};
+use crate::{Declaration, Library, MOST_HOUSES, MOST_NUMBERS};
 
 /// What the claim asks of two seasons with f at zero.
 #[derive(Clone, Copy, Debug, PartialEq, Eq)]
@@ -176,15 +175,6 @@ fn sizes(honest: u8) -> Vec<u8> {
     (honest..=MOST_HOUSES).filter(fits).collect()
 }
 
-/// Sheets by which all that is told in a season is plausible.
-fn sheets() -> [[u8; SHEET]; 3] {
-    [
-        open_sheet(),
-        sheet(20, Gate::AtMost(20.0), Gate::Between(0.0, 2.0)),
-        sheet(u32::MAX, Gate::Between(-1.0, 17.5), Gate::AtMost(0.5)),
-    ]
-}
-
 /// S, mostly small.
 const NUMBERS: [u8; 8] = [1, 1, 1, 1, 1, 2, 2, 4];
 
@@ -242,7 +232,8 @@ impl Same {
         let numbers = 0..u32::from(rules.s);
         for (number, publishes) in numbers.zip(self.publishes) {
             let first = publishes.map(|v| (self.sender, number, v));
-            let implausible = (self.sender, number, bare(random, &self.pool));
+            let refused = [bare(random, &self.pool), below(random, &self.pool)];
+            let implausible = (self.sender, number, random.pick(&refused));
             let beyond = random.pick(&[u32::from(rules.s), 256, u32::MAX]);
             let beyond = (self.sender, beyond, self.pool[0]);
             all.extend(first);

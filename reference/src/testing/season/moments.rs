@@ -70,6 +70,20 @@ pub enum Moment {
     NoColoniesPublished,
     /// At a number where it had done so it published a plausible declaration.
     PublishedAfterNone,
+    /// A wrong house told of a reading below zero, with nothing else in the way, and got answer 5.
+    BelowZero,
+    /// It did so where something was accepted from it before, of the same kind and on the same entry.
+    BelowZeroAgain,
+    /// A wrong house told of minus zero, and was accepted.
+    MinusZero,
+    /// An honest house published a reading below zero, with nothing else in the way, and got answer 5.
+    BelowZeroPublished,
+    /// At a number where it had done so it published a plausible declaration.
+    PublishedAfterBelow,
+    /// An honest house published a reading of minus zero, and was accepted.
+    MinusZeroPublished,
+    /// A house delivered a reading of minus zero.
+    MinusZeroDelivered,
     /// More than t houses were wrong.
     TooManyWrong,
     /// Exactly t houses were wrong, and there was a crash.
@@ -125,6 +139,13 @@ pub const ALL: [Moment; MOMENTS] = [
     Moment::NoColoniesAgain,
     Moment::NoColoniesPublished,
     Moment::PublishedAfterNone,
+    Moment::BelowZero,
+    Moment::BelowZeroAgain,
+    Moment::MinusZero,
+    Moment::BelowZeroPublished,
+    Moment::PublishedAfterBelow,
+    Moment::MinusZeroPublished,
+    Moment::MinusZeroDelivered,
     Moment::TooManyWrong,
     Moment::WrongAndCrash,
     Moment::TooManyDown,

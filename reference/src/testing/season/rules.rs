@@ -1,6 +1,8 @@
 //! How a season is set up.
 
-use crate::testing::forms::{has_colonies, sheet};
+use crate::testing::forms::{
+    has_below_zero, has_colonies, is_below_zero, readings_of, sheet, with_readings,
+};
 use crate::{Declaration, Gate, SHEET};
 
 /// How a season is set up.
@@ -57,9 +59,19 @@ impl Rules {
         (0..n).rev().find(fits).expect("2f is below n")
     }
 
-    /// Whether a declaration is plausible in this season. For its colonies its bytes are asked, too.
+    /// Whether a declaration is plausible in this season. For its colonies and readings its bytes are asked, too.
     pub fn is_plausible(&self, v: &Declaration) -> bool {
-        has_colonies(v) && crate::judge(&self.sheet, v) == 0
+        has_colonies(v) && !has_below_zero(v) && crate::judge(&self.sheet, v) == 0
+    }
+
+    /// Whether readings below zero are all that is in the way of its being plausible: with no sign they would pass,
+    /// and no low limit keeps them out.
+    pub fn is_only_below_zero(&self, v: &Declaration) -> bool {
+        let readings = readings_of(v);
+        let unsigned = with_readings(v, readings.map(|bits| bits & 0x7FFF_FFFF));
+        let mut gates = readings.into_iter().zip([self.sheet[4], self.sheet[13]]);
+        let no_low = gates.all(|(bits, kind)| !is_below_zero(bits) || kind != 2);
+        has_below_zero(v) && no_low && self.is_plausible(&unsigned)
     }
 
     /// How many entries a book has.
