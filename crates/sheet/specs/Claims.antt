@@ -1,4 +1,4 @@
--- What this crate promises: when a declaration is plausible, and that a sheet has one byte form.
+-- What this crate promises: when a declaration is plausible and a sheet legal, and that a sheet has one byte form.
 use mathlib.Core.Logic.{_↔_, _⊎_}
 use Prim.Native.Nat.{ℕ, _≤_}
 use mathlib.Core.Path.{_≡_}
