@@ -81,7 +81,7 @@ at-least nan = refl
 at-least (inf t) = refl
 at-least (fin t n d) = above-zeros t (0 * down d) (n * up d * 1) (omega arith)
 
-pub minus-zero-within : (g : Gate) → within g minusZero ≡ within g plusZero
+minus-zero-within : (g : Gate) → within g minusZero ≡ within g plusZero
 unfolding within
 minus-zero-within Open = refl
 minus-zero-within (AtMost high) = at-most high
