@@ -16,7 +16,7 @@ twenty = 0x41a00000
 abbrev aNan : ℕ
 aNan = 0x7fc00000
 
--- minus 3 and minus zero
+-- minus 3 and minus zero, as their bits
 abbrev minusThree : ℕ
 minusThree = 0xc0400000
 
