@@ -1,8 +1,8 @@
 //! Numbers on the wall: how many houses and numbers there may be, how many houses may be down, how often an
 //! asker is helped, and how many vouchers a step needs.
 
-/// "Houses n: 1 to 16, numbered from 0."
-pub const MOST_HOUSES: u8 = 16;
+/// "Houses n: 1 to 31, numbered from 0."
+pub const MOST_HOUSES: u8 = 31;
 
 /// "Entry numbers S: 1 to 4 per sender, numbered from 0."
 pub const MOST_NUMBERS: u8 = 4;

@@ -16,19 +16,31 @@ fn the_card_is_its_formulas() {
     }
 }
 
+/// t stands in the column of n - 2f, and the quorum is what stands there and f more.
+#[test]
+fn the_columns_with_f() {
+    for (n, f, counts) in rows::all_counts() {
+        let (t, quorum) = rows::CARD[usize::from(n - 2 * f) - 1];
+        let of_column = (t, quorum + usize::from(f));
+        assert_eq!((counts.tolerated, counts.quorum), of_column, "{n}, {f}");
+    }
+}
+
 #[test]
 fn the_counts_for_n_and_f() {
-    for (n, f) in (0..=40).flat_map(|n| (0..=40).map(move |f| (n, f))) {
+    for (n, f) in (0..=80).flat_map(|n| (0..=80).map(move |f| (n, f))) {
         assert_eq!(Counts::of(n, f), rows::searched(n, f), "n = {n}, f = {f}");
     }
-    assert_eq!(Counts::of(16, usize::MAX), None);
-    let last = Counts {
-        tolerated: 2,
-        quorum: 10,
-        amplify: 3,
-        deliver: 9,
+    assert_eq!(Counts::of(31, usize::MAX), None);
+    let printed = |t, quorum, deliver| Counts {
+        tolerated: t,
+        quorum,
+        amplify: t + 1,
+        deliver,
     };
-    assert_eq!(Counts::of(16, 4), Some(last));
+    assert_eq!(Counts::of(16, 4), Some(printed(2, 10, 9)));
+    assert_eq!(Counts::of(31, 0), Some(printed(10, 21, 21)));
+    assert_eq!(Counts::of(31, 4), Some(printed(7, 20, 19)));
 }
 
 #[test]

@@ -5,8 +5,8 @@
 use super::books::{illegal, legal};
 use super::forms::{
     declaration, has_below_zero, honey, is_measurable, random_below, random_book_of,
-    random_gate_near_zero, random_pool, readings_of, sheet, sheet_of_bits, with_readings,
-    MINUS_ZERO, OPEN,
+    random_gate_near_zero, random_pool, readings_of, sheet, sheet_of_bits, so_many_of_each,
+    some_sizes, with_readings, MINUS_ZERO, OPEN,
 };
 use super::random::Random;
 use super::readings::{everywhere, judged_at, sheet_is, USUAL};
@@ -110,8 +110,8 @@ pub fn limits(library: &mut impl Library) {
     }
 }
 
-/// Every n: what has a reading below zero stands in each place and comes, or not; what is plausible is a single bit
-/// apart, or a sign.
+/// Of every size, but of many houses some: what has a reading below zero stands in each place and comes, or not; what
+/// is plausible is a single bit apart, or a sign.
 pub fn standing(library: &mut impl Library) {
     let told = |moisture, conductivity| declaration(77, 40, 800, [moisture, conductivity]);
     let [moist, usual] = USUAL;
@@ -131,7 +131,7 @@ pub fn standing(library: &mut impl Library) {
             },
         ),
     ];
-    for (n, (gate, three)) in (1..=16).flat_map(|n| cases.map(|case| (n, case))) {
+    for (n, (gate, three)) in some_sizes().flat_map(|n| cases.map(|case| (n, case))) {
         in_each_place(library, n, &sheet(20, gate, gate), &three);
     }
 }
@@ -166,7 +166,7 @@ fn random_gates(random: &mut Random, readings: [u32; 2]) -> [u8; SHEET] {
     sheet(20, moisture, conductivity)
 }
 
-/// So many books of every n, reachable or not, with gates of every kind.
+/// So many books of every n, of many houses fewer, reachable or not, with gates of every kind.
 pub fn any_book(library: &mut impl Library, seed: u64, books: usize) {
     let draws = |random: &mut Random| {
         let three = random_three(random);
@@ -175,13 +175,13 @@ pub fn any_book(library: &mut impl Library, seed: u64, books: usize) {
     standing::any_book(library, seed, books, draws, has_below_zero);
 }
 
-/// So many books of every n, reachable or not, with a limit near zero in any place of either gate: "a book holding
-/// one" below zero is no legal book, whatever else it holds; and one holding minus zero is, where the limit is
-/// used.
+/// So many books of every n, of many houses fewer, reachable or not, with a limit near zero in any place of either
+/// gate: "a book holding one" below zero is no legal book, whatever else it holds; and one holding minus zero is,
+/// where the limit is used.
 pub fn any_sheet(library: &mut impl Library, seed: u64, books: usize) {
     let mut random = Random::new(seed);
     let mut found = [[0usize; 2]; 2];
-    for n in (1..=16).flat_map(|n| (0..books).map(move |_| n)) {
+    for n in so_many_of_each(books) {
         let pool = random_pool(&mut random);
         let mut book = random_book_of(&mut random, n, &pool);
         let mut gates = [(0, 0, 0); 2];

@@ -2,10 +2,10 @@
 
 use super::forms::{
     fresh, held, honey, message, open_sheet, random_book, random_declaration, random_pool,
-    request_of, slot_at, slots_from, SEASON,
+    request_of, slot_at, slots_from, FEW_HOUSES, SEASON,
 };
 use super::random::Random;
-use crate::Library;
+use crate::{Library, MOST_HOUSES, MOST_NUMBERS};
 
 /// All calls that take a book say that this is none, and leave it.
 pub(super) fn illegal(library: &mut impl Library, book: &[u8], why: &str) {
@@ -58,20 +58,23 @@ pub(super) fn legal(library: &mut impl Library, book: &[u8], why: &str) {
 }
 
 /// n and S of which one is not allowed. The length that the formula gives them makes no book.
-const SIZES_OF_NONE: [[u8; 2]; 13] = [
+const SIZES_OF_NONE: [[u8; 2]; 16] = [
     [0, 1],
-    [0, 4],
+    [0, MOST_NUMBERS],
     [0, 255],
     [1, 0],
-    [16, 0],
-    [17, 1],
-    [18, 1],
-    [33, 1],
-    [17, 4],
-    [1, 5],
-    [16, 5],
+    [FEW_HOUSES, 0],
+    [MOST_HOUSES, 0],
+    [MOST_HOUSES + 1, 1],
+    [MOST_HOUSES + 2, 1],
+    [2 * MOST_HOUSES + 1, 1],
+    [MOST_HOUSES + 1, MOST_NUMBERS],
+    [1, MOST_NUMBERS + 1],
+    [FEW_HOUSES, MOST_NUMBERS + 1],
+    [MOST_HOUSES, MOST_NUMBERS + 1],
     [1, 128],
     [1, 255],
+    [64, 1],
 ];
 
 /// One byte that makes a legal book none.
@@ -79,10 +82,10 @@ pub fn illegal_books(library: &mut impl Library) {
     let fresh = fresh([4, 2, 1, 1, 3], SEASON, &open_sheet());
     let changes = [
         (0, 0, "no houses"),
-        (0, 17, "17 houses"),
+        (0, MOST_HOUSES + 1, "a house more than may be"),
         (0, 3, "another n than its length has"),
         (1, 0, "no numbers"),
-        (1, 5, "5 numbers"),
+        (1, MOST_NUMBERS + 1, "a number more than may be"),
         (1, 1, "another S than its length has"),
         (2, 4, "an own number that is not below n"),
         (11, 3, "an unknown gate"),
@@ -151,7 +154,7 @@ pub fn helped_and_down(library: &mut impl Library, seed: u64) {
             false => illegal(library, book, why),
         }
     };
-    for n in 1..=16 {
+    for n in 1..=MOST_HOUSES {
         let fresh = fresh([n, 1, n - 1, 0, 8], SEASON, &open_sheet());
         let near = [n / 2, n.div_ceil(2), n - 1, n, n + 1, 16, 32, 64, 128, 255];
         for f in (0..=9).chain(near) {

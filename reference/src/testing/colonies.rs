@@ -1,7 +1,7 @@
 //! "A declaration with no colonies isn't plausible, whatever its weight": judged, published and received, and on
 //! legal books where such declarations stand already, which judge nothing of what stands.
 
-use super::forms::{has_colonies, honey, open_sheet, sheet, OPEN};
+use super::forms::{has_colonies, honey, open_sheet, sheet, some_sizes, OPEN};
 use super::random::Random;
 use super::readings::weighed;
 use super::standing::{self, in_each_place, Three};
@@ -70,9 +70,10 @@ impl Three {
     }
 }
 
-/// Every n, with no kilograms and with some: what has no colonies stands in each place and comes, or not.
+/// Of every size, but of many houses some, with no kilograms and with some: what has no colonies stands in each place
+/// and comes, or not.
 pub fn standing(library: &mut impl Library) {
-    for (n, kilograms) in (1..=16).flat_map(|n| [(n, 0), (n, 800)]) {
+    for (n, kilograms) in some_sizes().flat_map(|n| [(n, 0), (n, 800)]) {
         let three = Three {
             refused: [honey(77, 0, kilograms), [0; 20]],
             taken: honey(77, 40, kilograms),
@@ -92,7 +93,7 @@ fn random_gates(random: &mut Random, cap: u32) -> [u8; SHEET] {
     sheet(cap, moisture, conductivity)
 }
 
-/// So many books of every n, reachable or not, with caps at both ends and between.
+/// So many books of every n, of many houses fewer, reachable or not, with caps at both ends and between.
 pub fn any_book(library: &mut impl Library, seed: u64, books: usize) {
     let draws = |random: &mut Random| {
         let cap = random.pick(&CAPS);

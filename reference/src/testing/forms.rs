@@ -1,10 +1,40 @@
 //! Declarations, sheets, messages and books to test with, in plain form or drawn at random.
 
 use super::random::Random;
-use crate::{Declaration, Gate, Kind, Message, SHEET};
+use crate::{
+    Declaration, Gate, Kind, Message, MOST_DOWN, MOST_HELPED, MOST_HOUSES, MOST_NUMBERS, SHEET,
+};
 
 /// The season of document 01's whole message.
 pub const SEASON: u32 = 2026;
+
+/// Up to so many houses each check takes every size. Books grow by the square of n and seasons by more, so that
+/// of more houses, which are many, some checks take some sizes.
+pub const FEW_HOUSES: u8 = 16;
+
+/// The least that are many, a middle number, the one before the last, and the most.
+pub const MANY_HOUSES: [u8; 4] = [
+    FEW_HOUSES + 1,
+    (FEW_HOUSES + MOST_HOUSES) / 2,
+    MOST_HOUSES - 1,
+    MOST_HOUSES,
+];
+
+/// Every number of houses that are few, and some of those that are many.
+pub fn some_sizes() -> impl Iterator<Item = u8> {
+    (1..=FEW_HOUSES).chain(MANY_HOUSES)
+}
+
+/// Every n so many times, and where the houses are many an eighth as often, but once at least.
+pub fn so_many_of_each(times: usize) -> impl Iterator<Item = u8> {
+    (1..=MOST_HOUSES).flat_map(move |n| match n <= FEW_HOUSES {
+        true => std::iter::repeat_n(n, times),
+        false => std::iter::repeat_n(n, times.div_ceil(8)),
+    })
+}
+
+/// The bytes of the longest book.
+pub const LONGEST_BOOK: usize = book_bytes(MOST_HOUSES, MOST_NUMBERS);
 
 /// A gate that lets every finite reading through.
 pub const OPEN: Gate = Gate::Open;
@@ -192,14 +222,18 @@ pub fn fresh_book(n: u8, s: u8, own: u8, season: u32, sheet: &[u8; SHEET]) -> Ve
 /// A freshly opened book with this n, S, own number, f and d, by the layout: the header, nobody helped, and
 /// empty slots.
 pub fn fresh([n, s, own, f, d]: [u8; 5], season: u32, sheet: &[u8; SHEET]) -> Vec<u8> {
-    let (houses, numbers) = (usize::from(n), usize::from(s));
-    let slots = numbers + numbers * houses * (2 * houses + 3);
     let mut book = vec![n, s, own];
     book.extend(season.to_be_bytes());
     book.extend(sheet);
     book.extend([f, d]);
-    book.resize(slots_from(n) + 21 * slots, 0);
+    book.resize(book_bytes(n, s), 0);
     book
+}
+
+/// The bytes of a book of so many houses and numbers by the layout, allowed or not.
+pub const fn book_bytes(n: u8, s: u8) -> usize {
+    let (n, s) = (n as usize, s as usize);
+    31 + n + 21 * (s + s * n * (2 * n + 3))
 }
 
 /// Where the slots begin in a book of so many houses: behind the header and the help counts.
@@ -353,10 +387,10 @@ pub fn random_sheet(random: &mut Random) -> [u8; SHEET] {
 
 /// An f that fits so many houses, often the largest.
 pub fn random_down(random: &mut Random, n: u8) -> u8 {
-    let most = (n - 1) / 2;
+    let most = ((n - 1) / 2).min(MOST_DOWN);
     match random.below(3) {
-        0 => most.min(4),
-        _ => random.below(usize::from(most.min(4)) + 1) as u8,
+        0 => most,
+        _ => random.below(usize::from(most) + 1) as u8,
     }
 }
 
@@ -372,7 +406,7 @@ pub fn random_helped(random: &mut Random, d: u8) -> u8 {
 
 /// Draws the recovery limit and all help counts of a book anew.
 pub fn redraw_helped(random: &mut Random, book: &mut [u8]) {
-    let d = random.below(9) as u8;
+    let d = random.below(usize::from(MOST_HELPED) + 1) as u8;
     let from = slots_from(book[0]);
     book[30] = d;
     for helped in &mut book[31..from] {
@@ -380,24 +414,40 @@ pub fn redraw_helped(random: &mut Random, book: &mut [u8]) {
     }
 }
 
+/// Many houses: often as many as may be, or the least that are many.
+pub fn random_many(random: &mut Random) -> u8 {
+    let more = random.below(usize::from(MOST_HOUSES - FEW_HOUSES)) as u8;
+    let any = FEW_HOUSES + 1 + more;
+    random.pick(&[FEW_HOUSES + 1, MOST_HOUSES, MOST_HOUSES, any, any, any])
+}
+
+/// One draw in so many is of many houses, so a quarter of all is drawn beside those of few.
+pub const MANY_IN: usize = 5;
+
 /// A legal book that no run need ever reach, more often than not of up to seven houses.
 pub fn random_book(random: &mut Random, pool: &[Declaration]) -> Vec<u8> {
-    let n = match random.below(4) {
-        0 => 1 + random.below(16),
-        _ => 1 + random.below(7),
+    let n = match (random.chance(1, MANY_IN), random.below(4)) {
+        (true, _) => random_many(random),
+        (false, 0) => 1 + random.below(usize::from(FEW_HOUSES)) as u8,
+        (false, _) => 1 + random.below(7) as u8,
     };
-    random_book_of(random, n as u8, pool)
+    random_book_of(random, n, pool)
 }
 
 /// One of so many houses: f is any that fits, d and the help counts are any, and any slot is full with any 20
-/// bytes, often a few of a pool.
+/// bytes, often a few of a pool. Of the pool it may be one or two where houses are many, or never enough of them
+/// would vouch for the same.
 pub fn random_book_of(random: &mut Random, n: u8, pool: &[Declaration]) -> Vec<u8> {
-    let s = 1 + random.below(4) as u8;
+    let s = 1 + random.below(usize::from(MOST_NUMBERS)) as u8;
     let own = random.below(usize::from(n)) as u8;
     let season = random.pick(&[SEASON, 0, u32::MAX]);
     let f = random_down(random, n);
     let mut book = fresh([n, s, own, f, 0], season, &random_sheet(random));
     redraw_helped(random, &mut book);
+    let pool = match n <= FEW_HOUSES {
+        true => pool,
+        false => &pool[..random.pick(&[1, 2, pool.len()])],
+    };
     let full = random.below(9);
     for slot in book[slots_from(n)..].chunks_exact_mut(21) {
         if random.chance(full, 8) {

@@ -6,7 +6,7 @@ use super::forms::{
     slots_from, OPEN, SEASON,
 };
 use super::readings::USUAL;
-use crate::{Declaration, Gate, Library, Outcome, SHEET};
+use crate::{Declaration, Gate, Library, Outcome, MOST_HOUSES, MOST_NUMBERS, SHEET};
 
 /// A receiving with errors to be. As it starts it is accepted.
 struct Receiving {
@@ -360,10 +360,10 @@ fn opening_with(library: &mut impl Library, good: &[u8; SHEET], bad: &[u8; SHEET
     };
     let not_allowed = [
         ("n", with(0, 0)),
-        ("n", with(0, 17)),
+        ("n", with(0, u32::from(MOST_HOUSES) + 1)),
         ("n, beyond a byte", with(0, 260)),
         ("S", with(1, 0)),
-        ("S", with(1, 5)),
+        ("S", with(1, u32::from(MOST_NUMBERS) + 1)),
         ("S, beyond a byte", with(1, 258)),
         ("own number", with(2, 4)),
         ("own number, beyond a byte", with(2, 257)),

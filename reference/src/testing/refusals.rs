@@ -3,7 +3,7 @@
 
 use super::forms::{
     message, random_book, random_declaration, random_down, random_number, random_pool,
-    redraw_helped, request_of, slots_from,
+    redraw_helped, request_of, slots_from, FEW_HOUSES,
 };
 use super::random::Random;
 use crate::{Declaration, Library, Outcome};
@@ -338,10 +338,12 @@ fn check_again(
     }
 }
 
-/// So many books, and some calls on each. Every answer of publishing and receiving has to come up.
+/// So many books, and some calls on each. Every answer of publishing and receiving has to come up, and where houses
+/// are many too.
 pub fn calls(library: &mut impl Library, seed: u64, books: usize) {
     let mut random = Random::new(seed);
     let mut answers = [0usize; 15];
+    let mut of_many = [0usize; 15];
     let (mut given, mut delivered, mut helped, mut differ) = (0, 0, 0, 0);
     for _ in 0..books {
         let pool = random_pool(&mut random);
@@ -364,16 +366,18 @@ pub fn calls(library: &mut impl Library, seed: u64, books: usize) {
                 check_again(library, &mut random, &call, &book, &pool);
             }
             answers[usize::from(outcome.answer)] += 1;
+            of_many[usize::from(outcome.answer)] += usize::from(book[0] > FEW_HOUSES);
             given += usize::from(outcome.message.is_some());
             delivered += usize::from(outcome.delivery.is_some());
             helped += usize::from(outcome.helps);
         }
     }
-    let refused = [13, 14].iter().all(|&answer| answers[answer] > 0);
-    let seen = answers[..9].iter().all(|&count| count > 0) && refused;
+    let seen = [0, 1, 2, 3, 4, 5, 6, 7, 8, 13, 14]
+        .iter()
+        .all(|&answer| answers[answer] > 0 && of_many[answer] > 0);
     let came = [given, delivered, helped, differ];
     assert!(
         seen && came.iter().all(|&count| count > 0),
-        "too few calls to tell: {answers:?}, {came:?}"
+        "too few calls to tell: {answers:?}, of many houses {of_many:?}, {came:?}"
     );
 }

@@ -4,7 +4,8 @@
 
 use super::forms::{
     declaration, fresh, honey, message, open_sheet, place_of, put, random_book, random_declaration,
-    random_pool, sheet, slot_at, slots_from, twins, with_readings, EDGE_READINGS, OPEN, SEASON,
+    random_pool, sheet, slot_at, slots_from, some_sizes, twins, with_readings, EDGE_READINGS, OPEN,
+    SEASON,
 };
 use super::random::Random;
 use crate::{Declaration, Gate, Kind, Library, Outcome, DECLARATION};
@@ -93,14 +94,14 @@ pub(super) fn some_of(n: u8) -> Vec<u8> {
     houses
 }
 
-/// Every n, each kind, the first, a middle and the last house, and each of the 20 bytes: one bit of it is
-/// another, all but the first are, and all are, in what comes and in what stands. By a sheet to which all of
+/// Of every size, but of many houses some, each kind, the first, a middle and the last house, and each of the 20
+/// bytes: one bit of it is another, all but the first are, and all are, in what comes and in what stands. By a sheet to which all of
 /// that is plausible but a reading below zero, and by one to which less is.
 pub fn every_byte(library: &mut impl Library) {
     let (one, strict) = (honey(77, 40, 800), open_sheet());
     let lenient = sheet(u32::MAX, OPEN, OPEN);
     let mut answers = [0usize; 14];
-    for (n, kind) in (1..=16).flat_map(|n| KINDS.map(|kind| (n, kind))) {
+    for (n, kind) in some_sizes().flat_map(|n| KINDS.map(|kind| (n, kind))) {
         let numbers = 1 + n % 2;
         let books = [lenient, strict].map(|sheet| fresh([n, numbers, 0, 0, 1], SEASON, &sheet));
         for (house, byte) in some_of(n)

@@ -5,7 +5,7 @@ use super::forms::{
     fresh, honey, message, open_sheet, random_book, random_pool, request_of, slots_from, SEASON,
 };
 use super::random::Random;
-use crate::{Form, Library, Outcome};
+use crate::{Form, Library, Outcome, MOST_DOWN, MOST_HELPED, MOST_HOUSES};
 
 /// The request of season 2026, byte for byte.
 pub const WHOLE: [u8; 11] = [
@@ -82,29 +82,43 @@ fn asks(library: &mut impl Library, book: &mut [u8], asker: u32) -> Outcome {
     library.receive(book, asker, &request_of(season))
 }
 
-/// For every n and d, askers first, last and between, helped never to d times: below d the count goes up by
-/// one and no other byte changes; at d answer 14. The other askers were helped any number of times.
+/// One of n houses asks that was helped so often: below d its count goes up by one and no other byte changes; at d
+/// answer 14. The other askers were helped any number of times.
+fn counted(library: &mut impl Library, random: &mut Random, [n, d, asker, helped]: [u8; 4]) {
+    let f = ((n - 1) / 4).min(MOST_DOWN);
+    let mut book = fresh([n, 1, n - 1, f, d], SEASON, &open_sheet());
+    for count in &mut book[31..slots_from(n)] {
+        *count = random.below(usize::from(d) + 1) as u8;
+    }
+    let place = 31 + usize::from(asker);
+    book[place] = helped;
+    let mut expected = book.clone();
+    expected[place] += u8::from(helped < d);
+    let outcome = asks(library, &mut book, u32::from(asker));
+    let answer = if helped < d { 0 } else { 14 };
+    let which = format!("house {asker} of {n}, helped {helped} times, d = {d}");
+    assert_eq!(outcome.answer, answer, "{which}");
+    assert_eq!(outcome.helps, helped < d, "{which}");
+    assert_eq!((outcome.message, outcome.delivery), (None, None));
+    assert!(book == expected, "the help counts at n = {n}, d = {d}");
+}
+
+/// For every n and d, askers first, last and between, helped never to d times; and for every n each asker, helped d
+/// times and once less.
 pub fn every_count(library: &mut impl Library, seed: u64) {
     let mut random = Random::new(seed);
-    for (n, d) in (1..=16u8).flat_map(|n| (0..=8u8).map(move |d| (n, d))) {
-        for asker in [0, n / 2, n - 1] {
-            for helped in 0..=d {
-                let mut book = fresh([n, 1, n - 1, (n - 1) / 4, d], SEASON, &open_sheet());
-                for count in &mut book[31..slots_from(n)] {
-                    *count = random.below(usize::from(d) + 1) as u8;
-                }
-                let place = 31 + usize::from(asker);
-                book[place] = helped;
-                let mut expected = book.clone();
-                expected[place] += u8::from(helped < d);
-                let outcome = asks(library, &mut book, u32::from(asker));
-                let answer = if helped < d { 0 } else { 14 };
-                assert_eq!(outcome.answer, answer, "helped {helped} times, d = {d}");
-                assert_eq!(outcome.helps, helped < d, "helped {helped} times, d = {d}");
-                assert_eq!((outcome.message, outcome.delivery), (None, None));
-                assert!(book == expected, "the help counts at n = {n}, d = {d}");
-            }
+    for (n, d) in (1..=MOST_HOUSES).flat_map(|n| (0..=MOST_HELPED).map(move |d| (n, d))) {
+        for (asker, helped) in [0, n / 2, n - 1]
+            .into_iter()
+            .flat_map(|asker| (0..=d).map(move |helped| (asker, helped)))
+        {
+            counted(library, &mut random, [n, d, asker, helped]);
         }
+    }
+    for (n, asker) in (1..=MOST_HOUSES).flat_map(|n| (0..n).map(move |asker| (n, asker))) {
+        let d = 1 + (n + asker) % MOST_HELPED;
+        counted(library, &mut random, [n, d, asker, d]);
+        counted(library, &mut random, [n, d, asker, d - 1]);
     }
 }
 
@@ -112,7 +126,7 @@ pub fn every_count(library: &mut impl Library, seed: u64) {
 /// who is not in the book is answered 4.
 pub fn until_enough(library: &mut impl Library, seed: u64) {
     let mut random = Random::new(seed);
-    for _ in 0..24 {
+    for _ in 0..30 {
         let pool = random_pool(&mut random);
         let mut book = random_book(&mut random, &pool);
         let (n, d) = (book[0], book[30]);

@@ -2,11 +2,11 @@
 //! book.
 
 use super::forms::{
-    fresh, honey, message, open_sheet, random_book, random_number, random_pool, request_of,
-    slots_from, SEASON,
+    fresh, honey, message, open_sheet, random_book, random_book_of, random_number, random_pool,
+    request_of, slots_from, SEASON,
 };
 use super::random::Random;
-use crate::{Library, SentAnswer};
+use crate::{Library, SentAnswer, MOST_HOUSES};
 
 /// What the layout says that this house sent of a kind on an entry of the book.
 fn layout_says(book: &[u8], kind: u8, sender: u8, number: u8) -> Option<[u8; 36]> {
@@ -97,13 +97,8 @@ pub fn any_book(library: &mut impl Library, seed: u64, books: usize) {
 pub fn all_sent(library: &mut impl Library, seed: u64) {
     let mut random = Random::new(seed);
     let pool = random_pool(&mut random);
-    let mut sizes = [false; 17];
-    while sizes.contains(&false) {
-        sizes[0] = true;
-        let book = random_book(&mut random, &pool);
-        if std::mem::replace(&mut sizes[usize::from(book[0])], true) {
-            continue;
-        }
+    for n in 1..=MOST_HOUSES {
+        let book = random_book_of(&mut random, n, &pool);
         for number in 0..u32::from(book[1]) {
             for sender in 0..u32::from(book[0]) {
                 for kind in 1..=3 {

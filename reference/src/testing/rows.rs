@@ -4,10 +4,10 @@ use super::forms::{
     declaration, fresh, fresh_book, honey, message, open_sheet, sheet, OPEN, SEASON,
 };
 use super::season::{Rules, Season};
-use crate::{Counts, Gate, Kind, Library, Outcome};
+use crate::{Counts, Gate, Kind, Library, Outcome, MOST_DOWN, MOST_HOUSES};
 
-/// t and the echo quorum for n = 1 to 16, as document 01 prints them.
-pub const CARD: [(usize, usize); 16] = [
+/// t and the echo quorum for n = 1 to 31, as the wall card prints them.
+pub const CARD: [(usize, usize); MOST_HOUSES as usize] = [
     (0, 1),
     (0, 2),
     (0, 2),
@@ -24,6 +24,21 @@ pub const CARD: [(usize, usize); 16] = [
     (4, 10),
     (4, 10),
     (5, 11),
+    (5, 12),
+    (5, 12),
+    (6, 13),
+    (6, 14),
+    (6, 14),
+    (7, 15),
+    (7, 16),
+    (7, 16),
+    (8, 17),
+    (8, 18),
+    (8, 18),
+    (9, 19),
+    (9, 20),
+    (9, 20),
+    (10, 21),
 ];
 
 /// The whole message that document 01 prints.
@@ -46,9 +61,9 @@ pub fn searched(n: usize, f: usize) -> Option<Counts> {
     })
 }
 
-/// All n from 1 to 16 with each f from 0 to 4 that fits, and the counts that go with them.
+/// All n with each f that fits, and the counts that go with them.
 pub fn all_counts() -> impl Iterator<Item = (u8, u8, Counts)> {
-    let all = (1..=16u8).flat_map(|n| (0..=4u8).map(move |f| (n, f)));
+    let all = (1..=MOST_HOUSES).flat_map(|n| (0..=MOST_DOWN).map(move |f| (n, f)));
     all.filter_map(|(n, f)| Some((n, f, searched(usize::from(n), usize::from(f))?)))
 }
 
@@ -69,37 +84,55 @@ fn opened(library: &mut impl Library, n: u8, f: u8) -> Vec<u8> {
     book
 }
 
-/// Receives one message of one declaration on the entry of sender 0 and number 0, which is accepted.
-fn vouch(library: &mut impl Library, book: &mut [u8], house: usize, kind: Kind) -> Outcome {
-    let bytes = message(kind as u8, SEASON, 0, 0, &honey(77, 40, 800));
+/// Receives one message of one declaration on the entry of this sender and number 0, which is accepted.
+fn vouch(
+    library: &mut impl Library,
+    book: &mut [u8],
+    (house, sender): (usize, u8),
+    kind: Kind,
+) -> Outcome {
+    let bytes = message(kind as u8, SEASON, sender, 0, &honey(77, 40, 800));
     let outcome = library.receive(book, house as u32, &bytes);
     assert_eq!(outcome.answer, 0, "{kind:?} from house {house}");
     outcome
 }
 
 /// Rows 1 to 3 and 10 to 12, and the same for every n and f: ECHOes below the quorum give nothing and at
-/// it a READY; READYs give a READY at t+1 and a delivery at 2t+f+1.
+/// it a READY; READYs give a READY at t+1 and a delivery at 2t+f+1. The houses vouch from the first to the last on
+/// the first sender's entry, and from the last to the first on the last sender's.
 pub fn card(library: &mut impl Library) {
-    let declaration = honey(77, 40, 800);
-    let ready = Some(message(3, SEASON, 0, 0, &declaration));
     for (n, f, counts) in all_counts() {
-        let mut book = opened(library, n, f);
-        for house in 0..usize::from(n) {
-            let outcome = vouch(library, &mut book, house, Kind::Echo);
-            let which = format!("n = {n}, f = {f}, ECHO number {}", house + 1);
-            let expected = ready.filter(|_| house + 1 == counts.quorum);
-            assert_eq!(outcome.message, expected, "{which}");
-            assert_eq!(outcome.delivery, None, "{which}");
-        }
-        let mut book = opened(library, n, f);
-        for house in 0..usize::from(n) {
-            let outcome = vouch(library, &mut book, house, Kind::Ready);
-            let which = format!("n = {n}, f = {f}, READY number {}", house + 1);
-            let expected = ready.filter(|_| house + 1 == counts.amplify);
-            assert_eq!(outcome.message, expected, "{which}");
-            let expected = (house + 1 == counts.deliver).then_some(declaration);
-            assert_eq!(outcome.delivery, expected, "{which}");
-        }
+        let houses = 0..usize::from(n);
+        all_vouch(library, [n, f, 0], &counts, houses.clone());
+        all_vouch(library, [n, f, n - 1], &counts, houses.rev());
+    }
+}
+
+/// All houses vouch on this sender's entry, one after the other.
+fn all_vouch(
+    library: &mut impl Library,
+    [n, f, sender]: [u8; 3],
+    counts: &Counts,
+    houses: impl Iterator<Item = usize> + Clone,
+) {
+    let declaration = honey(77, 40, 800);
+    let ready = Some(message(3, SEASON, sender, 0, &declaration));
+    let mut book = opened(library, n, f);
+    for (vouchers, house) in (1..).zip(houses.clone()) {
+        let outcome = vouch(library, &mut book, (house, sender), Kind::Echo);
+        let which = format!("n = {n}, f = {f}, ECHO number {vouchers}");
+        let expected = ready.filter(|_| vouchers == counts.quorum);
+        assert_eq!(outcome.message, expected, "{which}");
+        assert_eq!(outcome.delivery, None, "{which}");
+    }
+    let mut book = opened(library, n, f);
+    for (vouchers, house) in (1..).zip(houses) {
+        let outcome = vouch(library, &mut book, (house, sender), Kind::Ready);
+        let which = format!("n = {n}, f = {f}, READY number {vouchers}");
+        let expected = ready.filter(|_| vouchers == counts.amplify);
+        assert_eq!(outcome.message, expected, "{which}");
+        let expected = (vouchers == counts.deliver).then_some(declaration);
+        assert_eq!(outcome.delivery, expected, "{which}");
     }
 }
 
@@ -109,7 +142,7 @@ pub fn another_f(library: &mut impl Library) {
     let outcomes = [0, 1].map(|f| {
         let mut book = fresh([4, 1, 0, f, 2], SEASON, &open_sheet());
         [0, 1, 2].map(|house| {
-            let outcome = vouch(library, &mut book, house, Kind::Ready);
+            let outcome = vouch(library, &mut book, (house, 0), Kind::Ready);
             (outcome.message.is_some(), outcome.delivery.is_some())
         })
     });

@@ -4,7 +4,7 @@
 use super::books::waits;
 use super::forms::{
     fresh, held, message, place_of, published_at, put, random_book_of, random_pool, request_of,
-    slot_at, slots_from, SEASON,
+    slot_at, slots_from, so_many_of_each, SEASON,
 };
 use super::pairs::clean;
 use super::random::Random;
@@ -148,8 +148,8 @@ pub(super) fn in_each_place(library: &mut impl Library, n: u8, sheet: &[u8; SHEE
     three.trips(library, [1 + n % 3, own, number]);
 }
 
-/// So many books of every n, reachable or not, with a sheet and declarations that are drawn. On any entry all that
-/// may stand and come is tried, by publishing and by each kind. Before that, too, what is not plausible for this
+/// So many books of every n, of many houses fewer, reachable or not, with a sheet and declarations that are drawn. On
+/// any entry all that may stand and come is tried, by publishing and by each kind. Before that, too, what is not plausible for this
 /// reason stands there, in each place in some of the books.
 pub(super) fn any_book(
     library: &mut impl Library,
@@ -160,7 +160,7 @@ pub(super) fn any_book(
 ) {
     let mut random = Random::new(seed);
     let mut stood = [0; PLACES.len()];
-    for n in (1..=16).flat_map(|n| (0..books).map(move |_| n)) {
+    for n in so_many_of_each(books) {
         let (sheet, three) = draws(&mut random);
         let mut pool = random_pool(&mut random);
         pool.extend([three.refused[0], three.refused[1], three.taken]);

@@ -3,7 +3,7 @@
 
 use super::forms::{
     fresh, message, open_sheet, place_of, put, random_below, redraw_helped, slot_at, twins,
-    with_colonies, SEASON,
+    with_colonies, FEW_HOUSES, SEASON,
 };
 use super::random::Random;
 use super::rows::all_counts;
@@ -28,10 +28,18 @@ struct Beside {
     kinds: Holds,
 }
 
-/// Every state of the marks, with other kinds that are empty or full.
-fn all_beside() -> impl Iterator<Item = Beside> {
-    let marks = ALL.iter().flat_map(|sent| ALL.map(|end| [*sent, end]));
-    marks.flat_map(|marks| ALL.map(|kinds| Beside { marks, kinds }))
+/// Every state of the marks, with other kinds that are empty and full; among many houses they are one or the other.
+fn all_beside(random: &mut Random, n: u8) -> Vec<Beside> {
+    let mut all = vec![];
+    for (sent, delivered) in ALL.iter().flat_map(|sent| ALL.map(|end| (*sent, end))) {
+        let one = random.pick(&ALL);
+        let kinds = if n <= FEW_HOUSES { &ALL[..] } else { &[one] };
+        all.extend(kinds.iter().map(|kinds| Beside {
+            marks: [sent, delivered],
+            kinds: *kinds,
+        }));
+    }
+    all
 }
 
 /// An entry, and the message that comes to it.
@@ -162,14 +170,31 @@ impl std::fmt::Display for Case {
     }
 }
 
-/// The messages that come where there are so many houses: kind, what stands in its slot, how many other
-/// houses vouch for it, and what the rest vouches for.
-fn comings(houses: usize) -> Vec<(Kind, Holds, usize, Holds)> {
-    let none = Holds::Nothing;
+/// How many other houses may vouch: any number; but among many houses none, all, and as many as make each of the
+/// three counts, one less and one more.
+fn others_vouch(n: u8, counts: &Counts) -> Vec<usize> {
+    let houses = usize::from(n);
+    if n <= FEW_HOUSES {
+        return (0..houses).collect();
+    }
+    let counts = [counts.quorum, counts.amplify, counts.deliver].into_iter();
+    let near = counts.flat_map(|count| [count.saturating_sub(2), count - 1, count]);
+    let mut all: Vec<usize> = near.chain([0, houses - 1]).collect();
+    all.sort_unstable();
+    all.dedup();
+    all.retain(|vouchers| *vouchers < houses);
+    all
+}
+
+/// The messages that come: kind, what stands in its slot, how many other houses vouch for it, and what the rest
+/// vouches for.
+fn comings(n: u8, counts: &Counts) -> Vec<(Kind, Holds, usize, Holds)> {
+    let (none, houses) = (Holds::Nothing, usize::from(n));
+    let vouch = others_vouch(n, counts);
     let mut all = ALL.map(|heard| (Kind::Send, heard, 0, none)).to_vec();
     for kind in [Kind::Echo, Kind::Ready] {
         for others in [none, Holds::Other] {
-            all.extend((0..houses).map(|vouchers| (kind, none, vouchers, others)));
+            all.extend(vouch.iter().map(|vouchers| (kind, none, *vouchers, others)));
         }
         all.extend([Holds::Same, Holds::Other].map(|again| (kind, again, houses - 1, none)));
     }
@@ -178,15 +203,15 @@ fn comings(houses: usize) -> Vec<(Kind, Holds, usize, Holds)> {
 
 /// Every n and f: SENDs, ECHOes and READYs that come to an empty slot, to one that holds the same and to one
 /// that holds another declaration. To an empty slot come ECHOes and READYs that 0 to n-1 other houses vouch
-/// for, where the rest vouches for nothing and for another declaration; to a full one those that all others
-/// vouch for. Each with every state of the marks, "both may come of one call" among them, and with the other
+/// for, or among many houses so many as the counts are near, where the rest vouches for nothing and for another
+/// declaration; to a full one those that all others vouch for. Each with every state of the marks, "both may come of one call" among them, and with the other
 /// kinds empty and full.
 pub fn every_count(library: &mut impl Library, seed: u64) {
     let mut random = Random::new(seed);
     for (n, f, counts) in all_counts() {
         let houses = usize::from(n);
-        for beside in all_beside() {
-            for (kind, stands, vouchers, others) in comings(houses) {
+        for beside in all_beside(&mut random, n) {
+            for (kind, stands, vouchers, others) in comings(n, &counts) {
                 let house = random.below(houses);
                 let sender = match kind {
                     Kind::Send => house,
