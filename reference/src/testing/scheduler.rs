@@ -7,7 +7,7 @@ pub mod implausible;
 pub mod twins;
 mod weather;
 
-use super::forms::{open_sheet, random_declaration, sheet};
+use super::forms::{open_sheet, random_declaration, sheet, FEW_HOUSES};
 use super::random::Random;
 use super::season::moments::Tally;
 use super::season::{Rules, Season};
@@ -72,11 +72,16 @@ impl Order {
 /// A house, a number, and what it will publish there.
 type Publication = (usize, u32, Declaration);
 
-/// What the honest houses will publish: most of their numbers, at times a reading of minus zero; and some twice,
+/// What the honest senders will publish: most of their numbers, at times a reading of minus zero; and some twice,
 /// with an implausible one, with one of no colonies or with a reading below zero.
 fn publications(random: &mut Random, rules: &Rules, pool: &[Declaration]) -> Vec<Publication> {
     let mut all = vec![];
-    for house in rules.honest() {
+    for house in rules
+        .senders
+        .iter()
+        .copied()
+        .filter(|house| !rules.wrong[*house])
+    {
         for number in 0..u32::from(rules.s) {
             if random.chance(3, 4) {
                 let first = random.pick(pool);
@@ -290,6 +295,22 @@ fn run_plan<'l, L: Library>(library: &'l mut L, random: &mut Random, plan: Plan)
 /// How often a house may return and be helped, mostly seldom.
 const LIMITS: [u8; 16] = [0, 0, 0, 0, 0, 1, 1, 1, 2, 2, 3, 4, 5, 6, 7, 8];
 
+/// Where houses are many, so many of them are senders.
+const SENDERS: usize = 8;
+
+/// The senders among n houses: all, or some where they are many. One of these is among them.
+fn some_senders(random: &mut Random, n: u8, of: &[usize]) -> Vec<usize> {
+    let mut houses: Vec<usize> = (0..usize::from(n)).collect();
+    if n <= FEW_HOUSES {
+        return houses;
+    }
+    let sender = random.pick(of);
+    houses.retain(|house| *house != sender);
+    let mut some = pick_some(random, &houses, SENDERS - 1);
+    some.push(sender);
+    some
+}
+
 /// A season of n houses, with any f that fits n and any d, often t wrong houses, and at times more; by one of
 /// several sheets.
 fn random_rules(random: &mut Random, n: u8, s: u8) -> Rules {
@@ -304,10 +325,15 @@ fn random_rules(random: &mut Random, n: u8, s: u8) -> Rules {
         _ => t,
     };
     let wrong = some_houses(random, n, wrong);
-    let sheet = random.pick(&sheets());
+    drawn_rules(random, Rules::new(n, s, &wrong).with(f, d))
+}
+
+/// The same by one of several sheets, with some senders where houses are many. One of them is honest.
+fn drawn_rules(random: &mut Random, rules: Rules) -> Rules {
     Rules {
-        sheet,
-        ..Rules::new(n, s, &wrong).with(f, d)
+        sheet: random.pick(&sheets()),
+        senders: some_senders(random, rules.n, &rules.honest()),
+        ..rules
     }
 }
 
@@ -359,10 +385,8 @@ pub fn hostile(library: &mut impl Library, seed: u64, n: u8, s: u8) -> Tally {
         wrongs.retain(|wrong| *wrong < usize::from(n));
         for wrong in wrongs {
             let houses = some_houses(&mut random, n, wrong);
-            let rules = Rules {
-                sheet: random.pick(&sheets()),
-                ..Rules::new(n, s, &houses).with(f, d)
-            };
+            let rules = Rules::new(n, s, &houses).with(f, d);
+            let rules = drawn_rules(&mut random, rules);
             let weather = Weather::within(&mut random, &rules);
             let mut season = run_in(library, &mut random, rules, weather);
             season.check();

@@ -4,7 +4,7 @@
 
 use super::forms::{
     honey, message, random_below, random_declaration, readings_of, twins, with_colonies,
-    with_readings, MINUS_ZERO, SEASON,
+    with_readings, FEW_HOUSES, MINUS_ZERO, SEASON,
 };
 use super::random::Random;
 use super::season::{Rules, Sent};
@@ -126,14 +126,16 @@ impl Wrong {
         }
     }
 
-    /// How many lies there will be. Where most are requests they are far more than d for each helper.
+    /// How many lies there will be: so many for each entry of a sender, and among many houses more, for there are more
+    /// pairs of a wrong and an honest one. Where most are requests they are far more than d for each helper.
     pub fn lies(&self, random: &mut Random) -> usize {
         let [n, h, d] = [
             usize::from(self.rules.n),
             self.honest.len(),
             usize::from(self.rules.d),
         ];
-        let some = self.rules.entries() * (1 + random.below(6 * n));
+        let pairs = 6 * n * n.div_ceil(usize::from(FEW_HOUSES));
+        let some = self.rules.senders_entries() * (1 + random.below(pairs));
         let some = some + some * (self.turns + self.bare + self.below) / 16;
         match self.asks {
             14 => some + (8 * h * n * d).min(MOST_REQUESTS),
@@ -221,8 +223,11 @@ impl Wrong {
         }
         let sender = match kind {
             1 => from,
-            _ => random.below(usize::from(self.rules.n)),
+            _ => random.pick(&self.rules.senders),
         };
+        if !self.rules.senders.contains(&sender) {
+            return None;
+        }
         let entry = number * usize::from(self.rules.n) + sender;
         let belief = self.plan[entry][to];
         Some(Lie {

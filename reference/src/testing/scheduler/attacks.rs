@@ -1,10 +1,10 @@
-//! Attacks of as many wrong houses as are tolerated, and of one more, laid out for every n and f. Each is
-//! the season in which one of the three counts is only just large enough.
+//! Attacks of as many wrong houses as are tolerated, and of one more, laid out for every n and f, but of many houses
+//! for some. Each is the season in which one of the three counts is only just large enough.
 
-use crate::testing::forms::{honey, message, SEASON};
+use crate::testing::forms::{honey, message, FEW_HOUSES, MANY_HOUSES, SEASON};
 use crate::testing::rows::all_counts;
 use crate::testing::season::{Rules, Season};
-use crate::{Counts, Declaration, Kind, Library};
+use crate::{Counts, Declaration, Kind, Library, MOST_DOWN, MOST_HOUSES};
 
 /// How large the season of an attack is, and its counts.
 #[derive(Clone, Copy, Debug)]
@@ -21,6 +21,16 @@ impl Size {
     /// Every n and f.
     pub fn all() -> impl Iterator<Item = Self> {
         all_counts().map(|(n, f, counts)| Size { n, f, counts })
+    }
+
+    /// Every n and f where the houses are few. Of many houses some, with one f each, and the most with f at zero
+    /// and at its largest.
+    pub fn some() -> impl Iterator<Item = Self> {
+        Size::all().filter(|size| match size.n {
+            ..=FEW_HOUSES => true,
+            MOST_HOUSES => [0, MOST_DOWN].contains(&size.f),
+            n => MANY_HOUSES.contains(&n) && size.f == n % (MOST_DOWN + 1),
+        })
     }
 
     pub(super) fn houses(&self) -> usize {
@@ -143,7 +153,7 @@ pub(super) fn delivered<L: Library>(season: &Season<L>, sender: usize) -> Vec<Op
 /// With t wrong the split comes to nothing, or the larger half wins over the smaller; with one wrong house
 /// more the two halves disagree.
 pub fn splits(library: &mut impl Library) {
-    for size in Size::all() {
+    for size in Size::some() {
         let (t, sender) = (size.counts.tolerated, size.houses() - 1);
         if t > 0 {
             let mut season = split(library, &size, t);
@@ -164,7 +174,7 @@ pub fn splits(library: &mut impl Library) {
 /// With t + f honest READYs nobody delivers; with one more each house that is up does, and the one that heard
 /// of them all and crashed.
 pub fn withheld_readies(library: &mut impl Library) {
-    for size in Size::all().filter(|size| size.counts.tolerated > 0) {
+    for size in Size::some().filter(|size| size.counts.tolerated > 0) {
         let (t, f) = (size.counts.tolerated, usize::from(size.f));
         let honest = size.houses() - t;
         for ready in [t + f, t + f + 1] {
@@ -181,7 +191,7 @@ pub fn withheld_readies(library: &mut impl Library) {
 
 /// All houses that are up deliver.
 pub fn silences(library: &mut impl Library) {
-    for size in Size::all() {
+    for size in Size::some() {
         let mut season = silence(library, &size);
         season.check();
         let up = size.houses() - size.counts.tolerated - usize::from(size.f);

@@ -1,10 +1,10 @@
-//! Seasons for every n in which what is not plausible is told and published: nothing comes of it, and it is in the
+//! Seasons of every size, but of many houses some, in which what is not plausible is told and published: nothing comes of it, and it is in the
 //! way of nothing that is plausible.
 
 use super::attacks::{delivered, hand_in, Size};
 use crate::testing::forms::{declaration, honey, MINUS_ZERO};
 use crate::testing::season::Season;
-use crate::{Declaration, Kind, Library};
+use crate::{Declaration, Kind, Library, MOST_DOWN};
 
 /// Declarations that are not plausible, and two that are.
 #[derive(Clone, Copy)]
@@ -33,9 +33,9 @@ pub fn below_zero() -> Told {
     }
 }
 
-/// Every n, with f at zero and with one that fits.
+/// Sizes with f at zero and with one that fits.
 fn sizes() -> impl Iterator<Item = Size> {
-    Size::all().filter(|size| size.f == 0 || size.f == size.n / 4)
+    Size::some().filter(|size| size.f == 0 || size.f == (size.n / 4).min(MOST_DOWN))
 }
 
 /// All wrong houses say this to each honest one by all that they may on the last house's entry.

@@ -5,7 +5,7 @@ pub mod premises;
 
 use super::carrier::Carrier;
 use super::weather::Weather;
-use super::{publications, run_plan, sheets, some_houses, Plan, Publication};
+use super::{publications, run_plan, sheets, some_houses, some_senders, Plan, Publication};
 use crate::testing::claims::Finding;
 use crate::testing::random::Random;
 use crate::testing::season::{Rules, Season};
@@ -212,6 +212,7 @@ impl Same {
         let (s, d) = (random.pick(&NUMBERS), random.pick(&LIMITS));
         let rules = Rules {
             sheet: random.pick(&sheets()),
+            senders: some_senders(random, n, &[self.sender]),
             ..Rules::new(n, s, &wrong).with(0, d)
         };
         Plan {

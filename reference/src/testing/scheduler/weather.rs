@@ -110,7 +110,7 @@ impl Weather {
         let telling = 3 * rules.entries() * (n + 1);
         let left = (h * most).min(TELLING / telling + 2);
         let events = (left + last.len()).max(1) * random.pick(&[1, 4, 16]);
-        let steps = rules.entries() * (h + 2 * h * h);
+        let steps = rules.senders_entries() * (h + 2 * h * h);
         let mut others = calm.honest.clone();
         others.retain(|house| !last.contains(house));
         let sleeps = most > 0 && !others.is_empty() && random.chance(1, 4);

@@ -20,10 +20,13 @@ pub struct Rules {
     pub sheet: [u8; SHEET],
     /// For each house whether it is wrong.
     pub wrong: Vec<bool>,
+    /// The houses on whose entries something is published and told. A season costs the square of n for each.
+    pub senders: Vec<usize>,
 }
 
 impl Rules {
-    /// A season of `n` houses and `s` numbers in which these houses are wrong, with f and d at zero.
+    /// A season of `n` houses and `s` numbers in which these houses are wrong and all are senders, with f and d at
+    /// zero.
     pub fn new(n: u8, s: u8, wrong: &[usize]) -> Self {
         let houses = 0..usize::from(n);
         Rules {
@@ -32,7 +35,8 @@ impl Rules {
             f: 0,
             d: 0,
             sheet: sheet(20, Gate::AtMost(20.0), Gate::Between(0.0, 2.0)),
-            wrong: houses.map(|house| wrong.contains(&house)).collect(),
+            wrong: houses.clone().map(|house| wrong.contains(&house)).collect(),
+            senders: houses.collect(),
         }
     }
 
@@ -77,5 +81,10 @@ impl Rules {
     /// How many entries a book has.
     pub fn entries(&self) -> usize {
         usize::from(self.n) * usize::from(self.s)
+    }
+
+    /// How many of them are the senders'.
+    pub fn senders_entries(&self) -> usize {
+        self.senders.len() * usize::from(self.s)
     }
 }
