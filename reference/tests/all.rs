@@ -5,6 +5,7 @@ mod below;
 mod calls;
 mod colonies;
 mod common;
+mod many;
 mod pairs;
 mod readings;
 mod repeats;

@@ -7,6 +7,7 @@ pub mod both;
 pub mod claims;
 pub mod colonies;
 pub mod forms;
+pub mod many;
 pub mod openings;
 pub mod pairs;
 pub mod random;
