@@ -149,12 +149,12 @@ pub const COUNTED: [Check; 33] = [
 /// Checks that draw their cases: more with a larger size.
 pub const DRAWN: [Check; 21] = [
     ("calls on any legal book", |pair, seed, scale| {
-        refusals::calls(pair, seed, 200 * scale);
+        refusals::calls(pair, seed, 250 * scale);
     }),
     (
         "repeats and conflicts on any legal book",
         |pair, seed, scale| {
-            repeats::any_book(pair, seed, 100 * scale);
+            repeats::any_book(pair, seed, 125 * scale);
         },
     ),
     ("no colonies on any legal book", |pair, seed, scale| {
@@ -176,10 +176,10 @@ pub const DRAWN: [Check; 21] = [
         requests::round(pair, seed, 100 * scale);
     }),
     ("returns and what was sent", |pair, seed, scale| {
-        returns::any_book(pair, seed, 100 * scale);
+        returns::any_book(pair, seed, 125 * scale);
     }),
     ("damaged books", |pair, seed, scale| {
-        drawn::damaged_books(pair, seed, 200 * scale);
+        drawn::damaged_books(pair, seed, 250 * scale);
     }),
     ("judging at edges", |pair, seed, scale| {
         drawn::judging(pair, seed, 4_000 * scale);
@@ -188,10 +188,10 @@ pub const DRAWN: [Check; 21] = [
         books::noise(pair, seed, 500 * scale);
     }),
     ("openings", |pair, seed, scale| {
-        openings::openings(pair, seed, 300 * scale);
+        openings::openings(pair, seed, 375 * scale);
     }),
     ("the earliest waiting entry", |pair, seed, scale| {
-        books::waiting(pair, seed, 300 * scale);
+        books::waiting(pair, seed, 375 * scale);
     }),
     ("round trips", |pair, seed, scale| {
         trips::round(pair, seed, 500 * scale);
