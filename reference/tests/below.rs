@@ -476,8 +476,8 @@ fn every_slip_differs_from_no_slip() {
     all_differ(Slipping, CAUGHT.map(|row| row.0), |both| {
         below::any_book(both, 2026, 8);
         below::any_sheet(both, 2026, 8);
-        openings::openings(both, 2026, 5_000);
-        refusals::calls(both, 2026, 5_000);
+        openings::openings(both, 2026, 4_500);
+        refusals::calls(both, 2026, 4_500);
         below::limits(both);
     });
 }

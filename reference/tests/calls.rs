@@ -5,7 +5,7 @@ use reference::Reference;
 
 #[test]
 fn refusals_change_and_carry_nothing() {
-    refusals::calls(&mut Reference, 2026, 5_000);
+    refusals::calls(&mut Reference, 2026, 4_500);
 }
 
 #[test]
@@ -20,7 +20,7 @@ fn lengths_of_books() {
 
 #[test]
 fn openings_write_all_or_nothing() {
-    openings::openings(&mut Reference, 2027, 5_000);
+    openings::openings(&mut Reference, 2027, 4_500);
 }
 
 #[test]
@@ -40,7 +40,7 @@ fn books_with_every_f_d_and_help_count() {
 
 #[test]
 fn the_earliest_waiting_entry() {
-    books::waiting(&mut Reference, 2028, 5_000);
+    books::waiting(&mut Reference, 2028, 4_500);
 }
 
 #[test]
@@ -80,7 +80,7 @@ fn round_trips_of_requests() {
 
 #[test]
 fn returns_and_what_was_sent() {
-    returns::any_book(&mut Reference, 2036, 5_000);
+    returns::any_book(&mut Reference, 2036, 4_500);
     returns::all_sent(&mut Reference, 2037);
     returns::every_kind_and_number(&mut Reference);
     returns::order(&mut Reference);

@@ -367,7 +367,7 @@ fn every_slip_is_caught() {
 fn every_slip_differs_from_no_slip() {
     all_differ(Slipping, CAUGHT.map(|row| row.0), |both| {
         colonies::any_book(both, 2026, 8);
-        refusals::calls(both, 2026, 5_000);
+        refusals::calls(both, 2026, 4_500);
     });
 }
 

@@ -19,7 +19,7 @@ fn declarations_that_are_easily_mistaken() {
 
 #[test]
 fn on_any_legal_book() {
-    repeats::any_book(&mut Reference, 2026, 5_000);
+    repeats::any_book(&mut Reference, 2026, 4_500);
 }
 
 /// What a library gets wrong about what stands and what comes.
@@ -162,7 +162,7 @@ const MISTAKEN: Check = ("declarations that are easily mistaken", |library| {
     repeats::every_pair(library);
 });
 const ANY_BOOK: Check = ("repeats and conflicts on any legal book", |library| {
-    repeats::any_book(library, 2026, 500);
+    repeats::any_book(library, 2026, 450);
 });
 const PAIRS: Check = ("pairs of errors of receiving", |library| {
     pairs::receiving(library);
@@ -171,7 +171,7 @@ const PUBLISHING: Check = ("pairs of errors of publishing", |library| {
     pairs::publishing(library);
 });
 const CALLS: Check = ("calls on any legal book", |library| {
-    refusals::calls(library, 2026, 500);
+    refusals::calls(library, 2026, 450);
 });
 const COUNTS: Check = ("the counts on any legal book", |library| {
     vouchers::every_count(library, 2026);
@@ -286,8 +286,8 @@ fn no_slip_is_let_pass() {
 #[test]
 fn every_slip_differs_from_no_slip() {
     all_differ(Slipping, CAUGHT.map(|row| row.0), |both| {
-        repeats::any_book(both, 2026, 500);
-        refusals::calls(both, 2026, 500);
+        repeats::any_book(both, 2026, 450);
+        refusals::calls(both, 2026, 450);
     });
 }
 

@@ -4,9 +4,13 @@
 use crate::common::{all_shown, Slips};
 use reference::testing::both::Both;
 use reference::testing::claims::Fault;
+use reference::testing::forms::FEW_HOUSES;
 use reference::testing::scheduler::{self, carrier, directed, implausible};
 use reference::testing::season::moments::{Moment, Tally};
-use reference::{Counts, Declaration, Message, Outcome, Reference, Returned, SentAnswer};
+use reference::{
+    Counts, Declaration, Message, Outcome, Reference, Returned, SentAnswer, MOST_HOUSES,
+    MOST_NUMBERS,
+};
 use std::collections::HashSet;
 
 /// In the seasons of one test copies are brought again so often at least, wrong houses say the same again and
@@ -52,8 +56,8 @@ fn up_to_seven_houses() {
 
 #[test]
 fn eight_to_sixteen_houses() {
-    let mut tally = scheduler::seasons(&mut Reference, 2026, 16, 4, 1);
-    for n in 8..=16 {
+    let mut tally = scheduler::seasons(&mut Reference, 2026, FEW_HOUSES, MOST_NUMBERS, 1);
+    for n in 8..=FEW_HOUSES {
         tally.add_all(&scheduler::seasons(&mut Reference, 2026, n, 1, 16));
     }
     let missing = tally.missing();
@@ -62,10 +66,32 @@ fn eight_to_sixteen_houses() {
 }
 
 #[test]
+fn many_houses() {
+    let mut tally = scheduler::seasons(&mut Reference, 2026, MOST_HOUSES, MOST_NUMBERS, 1);
+    for n in FEW_HOUSES + 1..=MOST_HOUSES {
+        tally.add_all(&scheduler::seasons(&mut Reference, 2026, n, 1, 10));
+    }
+    came_often(&tally);
+}
+
+#[test]
 fn t_wrong_one_less_none_and_one_more() {
     let mut tally = Tally::default();
-    for (n, s) in (1..=16).map(|n| (n, 1)).chain([(5, 2), (7, 3), (4, 4)]) {
+    let few = (1..=FEW_HOUSES).map(|n| (n, 1));
+    for (n, s) in few.chain([(5, 2), (7, 3), (4, 4)]) {
         tally.add_all(&scheduler::hostile(&mut Reference, 2026, n, s));
+    }
+    came_often(&tally);
+}
+
+#[test]
+fn t_wrong_of_many_one_less_none_and_one_more() {
+    let mut tally = Tally::default();
+    for n in FEW_HOUSES + 1..=MOST_HOUSES {
+        let of_size = scheduler::hostile(&mut Reference, 2026, n, 1);
+        let wrong = [Moment::TooManyWrong, Moment::WrongAndCrash].map(|moment| of_size.of(moment));
+        assert!(!wrong.contains(&0), "n = {n}: {of_size}");
+        tally.add_all(&of_size);
     }
     came_often(&tally);
 }
@@ -105,7 +131,10 @@ fn readings_below_zero_told_and_published() {
 #[test]
 fn a_nervous_carrier_changes_nothing() {
     let mut tally = Tally::default();
-    for (n, seasons) in (1..=7).map(|n| (n, 40)).chain([(10, 8), (16, 2)]) {
+    for (n, seasons) in (1..=7)
+        .map(|n| (n, 40))
+        .chain([(10, 8), (FEW_HOUSES, 2), (MOST_HOUSES, 1)])
+    {
         let came = carrier::changes_nothing(&mut Reference, 2026, n, 1 + n % 3, seasons);
         tally.add_all(&came);
     }

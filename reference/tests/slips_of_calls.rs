@@ -362,13 +362,13 @@ const LEGAL: Check = ("every f, d and help count of a book", |library| {
     books::helped_and_down(library, 2026);
 });
 const CALLS: Check = ("calls on any legal book", |library| {
-    refusals::calls(library, 2026, 500);
+    refusals::calls(library, 2026, 450);
 });
 const SENT: Check = ("what was sent, of every kind and number", |library| {
     returns::every_kind_and_number(library);
 });
 const ANY_SENT: Check = ("what was sent, on any legal book", |library| {
-    returns::any_book(library, 2026, 250);
+    returns::any_book(library, 2026, 225);
 });
 const ORDER: Check = ("pairs of errors of what was sent", |library| {
     returns::order(library);
@@ -486,9 +486,9 @@ fn every_slip_differs_from_no_slip() {
         |slip| Slipping { slip },
         slips(),
         |both| {
-            openings::openings(both, 2026, 1_250);
-            returns::any_book(both, 2026, 250);
-            refusals::calls(both, 2026, 5_000);
+            openings::openings(both, 2026, 1_125);
+            returns::any_book(both, 2026, 225);
+            refusals::calls(both, 2026, 4_500);
         },
     );
 }

@@ -16,6 +16,9 @@ fn the_same_deliveries_in_both() {
     for honest in 8..=11 {
         count.add_all(&twins::pairs(&mut Reference, 2026, honest, 4));
     }
+    for honest in [16, 20, 21] {
+        count.add_all(&twins::pairs(&mut Reference, 2026, honest, 2));
+    }
     let rare = count.rare(200);
     assert!(rare.is_empty(), "it seldom came about: {rare:?}, {count:?}");
 }

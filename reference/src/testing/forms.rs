@@ -20,9 +20,9 @@ pub const MANY_HOUSES: [u8; 4] = [
     MOST_HOUSES,
 ];
 
-/// Every number of houses that are few, and some of those that are many.
+/// Every number of houses that are few, and the least and the most of those that are many.
 pub fn some_sizes() -> impl Iterator<Item = u8> {
-    (1..=FEW_HOUSES).chain(MANY_HOUSES)
+    (1..=FEW_HOUSES).chain([FEW_HOUSES + 1, MOST_HOUSES])
 }
 
 /// Every n so many times, and where the houses are many an eighth as often, but once at least.
@@ -421,8 +421,8 @@ pub fn random_many(random: &mut Random) -> u8 {
     random.pick(&[FEW_HOUSES + 1, MOST_HOUSES, MOST_HOUSES, any, any, any])
 }
 
-/// One draw in so many is of many houses, so a quarter of all is drawn beside those of few.
-pub const MANY_IN: usize = 5;
+/// One draw in so many is of many houses: beside every eight of few there is one.
+pub const MANY_IN: usize = 9;
 
 /// A legal book that no run need ever reach, more often than not of up to seven houses.
 pub fn random_book(random: &mut Random, pool: &[Declaration]) -> Vec<u8> {

@@ -200,7 +200,7 @@ pub fn openings(library: &mut impl Library, seed: u64, openings: usize) {
     assert!(seen && with_f > 0, "too few openings to tell: {answers:?}");
     let enough = below_zero >= openings / 200 && minus_zero >= openings / 400;
     assert!(enough, "limits near zero: {below_zero} and {minus_zero}");
-    let enough = at_most.iter().all(|&count| count >= openings / 200);
+    let enough = at_most.iter().all(|&count| count >= openings / 400);
     assert!(
         enough,
         "as many houses as may be, and one more: {at_most:?}"

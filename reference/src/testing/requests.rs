@@ -126,7 +126,7 @@ pub fn every_count(library: &mut impl Library, seed: u64) {
 /// who is not in the book is answered 4.
 pub fn until_enough(library: &mut impl Library, seed: u64) {
     let mut random = Random::new(seed);
-    for _ in 0..30 {
+    for _ in 0..27 {
         let pool = random_pool(&mut random);
         let mut book = random_book(&mut random, &pool);
         let (n, d) = (book[0], book[30]);

@@ -73,9 +73,11 @@ impl Order {
 type Publication = (usize, u32, Declaration);
 
 /// What the honest senders will publish: most of their numbers, at times a reading of minus zero; and some twice,
-/// with an implausible one, with one of no colonies or with a reading below zero.
+/// with an implausible one, with one of no colonies or with a reading below zero. These come more often where houses are
+/// many, for then fewer publish.
 fn publications(random: &mut Random, rules: &Rules, pool: &[Declaration]) -> Vec<Publication> {
     let mut all = vec![];
+    let often = if rules.n <= FEW_HOUSES { 1 } else { 3 };
     for house in rules
         .senders
         .iter()
@@ -86,7 +88,7 @@ fn publications(random: &mut Random, rules: &Rules, pool: &[Declaration]) -> Vec
             if random.chance(3, 4) {
                 let first = random.pick(pool);
                 let zero = minus_zero(random, pool);
-                let v = if random.chance(1, 8) { zero } else { first };
+                let v = if random.chance(often, 8) { zero } else { first };
                 all.push((house, number, v));
             }
             if random.chance(1, 8) {
@@ -94,10 +96,10 @@ fn publications(random: &mut Random, rules: &Rules, pool: &[Declaration]) -> Vec
                 let any = random_declaration(random);
                 all.push((house, number, random.pick(&[any, pool[0], pool[1]])));
             }
-            if random.chance(1, 4) {
+            if random.chance(often, 4) {
                 all.push((house, number, bare(random, pool)));
             }
-            if random.chance(1, 4) {
+            if random.chance(often, 4) {
                 all.push((house, number, below(random, pool)));
             }
         }
@@ -295,19 +297,19 @@ fn run_plan<'l, L: Library>(library: &'l mut L, random: &mut Random, plan: Plan)
 /// How often a house may return and be helped, mostly seldom.
 const LIMITS: [u8; 16] = [0, 0, 0, 0, 0, 1, 1, 1, 2, 2, 3, 4, 5, 6, 7, 8];
 
-/// Where houses are many, so many of them are senders.
-const SENDERS: usize = 8;
+/// Where houses are many, so many honest ones and so many wrong ones are senders.
+const SENDERS: [usize; 2] = [5, 2];
 
-/// The senders among n houses: all, or some where they are many. One of these is among them.
-fn some_senders(random: &mut Random, n: u8, of: &[usize]) -> Vec<usize> {
-    let mut houses: Vec<usize> = (0..usize::from(n)).collect();
-    if n <= FEW_HOUSES {
-        return houses;
+/// Who sends among these houses: all, or some where they are many.
+fn some_senders(random: &mut Random, rules: &Rules) -> Vec<usize> {
+    if rules.n <= FEW_HOUSES {
+        return rules.senders.clone();
     }
-    let sender = random.pick(of);
-    houses.retain(|house| *house != sender);
-    let mut some = pick_some(random, &houses, SENDERS - 1);
-    some.push(sender);
+    let houses = 0..usize::from(rules.n);
+    let (wrong, honest): (Vec<_>, Vec<_>) = houses.partition(|house| rules.wrong[*house]);
+    let [of_honest, of_wrong] = SENDERS;
+    let mut some = pick_some(random, &honest, of_honest);
+    some.extend(pick_some(random, &wrong, of_wrong));
     some
 }
 
@@ -328,11 +330,11 @@ fn random_rules(random: &mut Random, n: u8, s: u8) -> Rules {
     drawn_rules(random, Rules::new(n, s, &wrong).with(f, d))
 }
 
-/// The same by one of several sheets, with some senders where houses are many. One of them is honest.
+/// The same by one of several sheets, with some senders where houses are many.
 fn drawn_rules(random: &mut Random, rules: Rules) -> Rules {
     Rules {
         sheet: random.pick(&sheets()),
-        senders: some_senders(random, rules.n, &rules.honest()),
+        senders: some_senders(random, &rules),
         ..rules
     }
 }

@@ -214,10 +214,25 @@ impl Wrong {
         })
     }
 
+    /// This wrong house, where it is a sender; or another that is, if any.
+    fn wrong_sender(&self, random: &mut Random, house: usize) -> Option<usize> {
+        let senders = &self.rules.senders;
+        if senders.contains(&house) {
+            return Some(house);
+        }
+        let wrong = senders.iter().filter(|sender| self.rules.wrong[**sender]);
+        let wrong: Vec<usize> = wrong.copied().collect();
+        (!wrong.is_empty()).then(|| random.pick(&wrong))
+    }
+
     /// SEND, ECHO or READY of what the plan wants this house to believe.
     fn planned(&self, random: &mut Random, from: usize, to: usize) -> Option<Lie> {
         let number = random.below(usize::from(self.rules.s));
         let kind = 1 + random.below(3) as u8;
+        let from = match kind {
+            1 => self.wrong_sender(random, from)?,
+            _ => from,
+        };
         if self.silent[from][to][usize::from(kind) - 1] {
             return None;
         }
@@ -225,9 +240,6 @@ impl Wrong {
             1 => from,
             _ => random.pick(&self.rules.senders),
         };
-        if !self.rules.senders.contains(&sender) {
-            return None;
-        }
         let entry = number * usize::from(self.rules.n) + sender;
         let belief = self.plan[entry][to];
         Some(Lie {

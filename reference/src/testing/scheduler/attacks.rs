@@ -1,10 +1,10 @@
 //! Attacks of as many wrong houses as are tolerated, and of one more, laid out for every n and f, but of many houses
 //! for some. Each is the season in which one of the three counts is only just large enough.
 
-use crate::testing::forms::{honey, message, FEW_HOUSES, MANY_HOUSES, SEASON};
+use crate::testing::forms::{honey, message, some_sizes, FEW_HOUSES, SEASON};
 use crate::testing::rows::all_counts;
 use crate::testing::season::{Rules, Season};
-use crate::{Counts, Declaration, Kind, Library, MOST_DOWN, MOST_HOUSES};
+use crate::{Counts, Declaration, Kind, Library, MOST_DOWN};
 
 /// How large the season of an attack is, and its counts.
 #[derive(Clone, Copy, Debug)]
@@ -23,13 +23,12 @@ impl Size {
         all_counts().map(|(n, f, counts)| Size { n, f, counts })
     }
 
-    /// Every n and f where the houses are few. Of many houses some, with one f each, and the most with f at zero
-    /// and at its largest.
+    /// Every n and f where the houses are few; and the least and the most that are many, with f at zero and at its
+    /// largest.
     pub fn some() -> impl Iterator<Item = Self> {
-        Size::all().filter(|size| match size.n {
-            ..=FEW_HOUSES => true,
-            MOST_HOUSES => [0, MOST_DOWN].contains(&size.f),
-            n => MANY_HOUSES.contains(&n) && size.f == n % (MOST_DOWN + 1),
+        Size::all().filter(|size| {
+            let ends = some_sizes().any(|n| n == size.n) && [0, MOST_DOWN].contains(&size.f);
+            size.n <= FEW_HOUSES || ends
         })
     }
 
@@ -40,7 +39,11 @@ impl Size {
     /// A season in which the last `wrong` houses are wrong, and none returns.
     pub(super) fn open<'l, L: Library>(&self, library: &'l mut L, wrong: usize) -> Season<'l, L> {
         let wrong: Vec<usize> = (self.houses() - wrong..self.houses()).collect();
-        Season::open(library, Rules::new(self.n, 1, &wrong).with(self.f, 0))
+        let rules = Rules {
+            senders: vec![0, self.houses() - 1],
+            ..Rules::new(self.n, 1, &wrong).with(self.f, 0)
+        };
+        Season::open(library, rules)
     }
 }
 

@@ -5,7 +5,7 @@ pub mod premises;
 
 use super::carrier::Carrier;
 use super::weather::Weather;
-use super::{publications, run_plan, sheets, some_houses, some_senders, Plan, Publication};
+use super::{drawn_rules, publications, run_plan, some_houses, Plan, Publication};
 use crate::testing::claims::Finding;
 use crate::testing::random::Random;
 use crate::testing::season::{Rules, Season};
@@ -210,11 +210,10 @@ impl Same {
         let mut wrong: Vec<usize> = (0..usize::from(n)).collect();
         wrong.retain(|house| !self.honest.contains(house));
         let (s, d) = (random.pick(&NUMBERS), random.pick(&LIMITS));
-        let rules = Rules {
-            sheet: random.pick(&sheets()),
-            senders: some_senders(random, n, &[self.sender]),
-            ..Rules::new(n, s, &wrong).with(0, d)
-        };
+        let mut rules = drawn_rules(random, Rules::new(n, s, &wrong).with(0, d));
+        if !rules.senders.contains(&self.sender) {
+            rules.senders.push(self.sender);
+        }
         Plan {
             weather: Weather::within(random, &rules),
             to_publish: self.publications(random, &rules),

@@ -20,7 +20,7 @@ pub struct Rules {
     pub sheet: [u8; SHEET],
     /// For each house whether it is wrong.
     pub wrong: Vec<bool>,
-    /// The houses on whose entries something is published and told. A season costs the square of n for each.
+    /// The houses on whose entries something is published and told: each costs a season the square of n.
     pub senders: Vec<usize>,
 }
 

@@ -4,6 +4,7 @@
 use super::moments::Moment;
 use super::Season;
 use crate::testing::claims::Fault;
+use crate::testing::forms::FEW_HOUSES;
 use crate::{Library, Message, Outcome, MESSAGE};
 
 /// Why a copy was sent.
@@ -115,12 +116,24 @@ impl<L: Library> Season<'_, L> {
         }
     }
 
+    /// Whether the book of this house is asked about this entry: about every one; or, where houses are many, about those
+    /// of senders, those on which a call gave something, and one in eight of the others.
+    fn is_asked(&self, house: usize, entry: usize) -> bool {
+        let sender = entry % usize::from(self.rules.n);
+        let given = self.houses[house].given[entry].iter().any(Option::is_some);
+        let is_used = given || self.rules.senders.contains(&sender);
+        self.rules.n <= FEW_HOUSES || is_used || (entry + house).is_multiple_of(8)
+    }
+
     /// What the book of a house tells that it sent, by entry. It is exactly what the calls gave.
     pub(in crate::testing) fn told(&mut self, house: usize) -> Vec<(usize, [u8; MESSAGE])> {
         let (n, s) = (u32::from(self.rules.n), u32::from(self.rules.s));
         let mut told = vec![];
         let places = (0..s).flat_map(|number| (0..n).map(move |sender| (number, sender)));
         for (entry, (number, sender)) in places.enumerate() {
+            if !self.is_asked(house, entry) {
+                continue;
+            }
             for kind in 1..=3 {
                 let book = &self.houses[house].book;
                 let sent = self.library.sent(book, kind, sender, number);
