@@ -30,9 +30,10 @@ enum { NUMBERS = 6, LENGTHS = 1 + 4 * NUMBERS + GM_DECLARATION_BYTES, HEAD = LEN
 
 /* ---- arguments in their rooms */
 
-/* A room is as long as the largest page of any machine, so that its wall is one page or several. */
-enum { ROOM = 65536, MARGIN = 64, ROOMS = 4 };
-static uint8_t ground[(2 * ROOMS + 1) * ROOM];
+/* A wall is as long as the largest page of any machine, so that it is one page or several. A room is so many as hold the longest book, and
+ * one more for what is too long. */
+enum { WALL = 65536, ROOM = (GM_LONGEST_BOOK + WALL - 1) / WALL * WALL + WALL, MARGIN = 64, ROOMS = 4 };
+static uint8_t ground[ROOMS * (ROOM + WALL) + WALL];
 
 /* An argument in its room: it ends at the wall, and stands behind a painted margin. */
 typedef struct {
@@ -46,8 +47,8 @@ static lent lend(size_t room, size_t length) {
     if (length > ROOM - MARGIN) {
         _exit(BAD_QUESTION);
     }
-    uint8_t *first = ground + (ROOM - (uintptr_t)ground % ROOM) % ROOM;
-    lent argument = {first + (2 * room + 1) * ROOM - length, length};
+    uint8_t *first = ground + (WALL - (uintptr_t)ground % WALL) % WALL;
+    lent argument = {first + room * (ROOM + WALL) + ROOM - length, length};
     memcpy(argument.at - MARGIN, painted, MARGIN);
     return argument;
 }
@@ -55,7 +56,7 @@ static lent lend(size_t room, size_t length) {
 static void build_walls(void) {
     memset(painted, PAINT, MARGIN);
     for (size_t room = 0; room < ROOMS; room++) {
-        if (mprotect(lend(room, 0).at, ROOM, PROT_NONE) != 0) {
+        if (mprotect(lend(room, 0).at, WALL, PROT_NONE) != 0) {
             _exit(NO_WALL);
         }
     }
@@ -110,29 +111,28 @@ static question take_question(const uint8_t head[HEAD]) {
     return asked;
 }
 
-/* The reply as it grows, and beside it the one of the mode before: the rooms and a head are always enough. */
-static uint8_t replies[2][ROOMS * ROOM + 128], *reply = replies[0];
-static size_t filled;
+/* The reply as it grows: the rooms and a head are always enough. */
+static uint8_t reply[ROOMS * ROOM + 128], *pen;
 
 /* A bool goes this way too, so that the other end sees any byte that is left in it. */
 static void put(const void *from, size_t length) {
-    memcpy(reply + filled, from, length);
-    filled += length;
+    memcpy(pen, from, length);
+    pen += length;
 }
 
 static void put_number(uint64_t number, unsigned bytes) {
     while (bytes-- > 0) {
-        reply[filled++] = (number >> 8 * bytes) & 0xFF;
+        *pen++ = (number >> 8 * bytes) & 0xFF;
     }
 }
 
 static void send_reply(void) {
-    for (size_t had = 0; had < filled;) {
-        ptrdiff_t gone = write(1, reply + had, filled - had);
+    for (const uint8_t *had = reply; had < pen;) {
+        ptrdiff_t gone = write(1, had, (size_t)(pen - had));
         if (gone <= 0) {
             _exit(BAD_PIPE);
         }
-        had += (size_t)gone;
+        had += gone;
     }
 }
 
@@ -272,23 +272,14 @@ static void check_modes(void) {
     }
 }
 
-/* Makes the call of a question in a mode, and leaves the reply. */
+/* Makes the call of a question in a mode and puts its answer. */
 static void answer(question asked, uint32_t calls, uint32_t mode) {
-    filled = 0;
-    put_number(asked.call, 1);
-    put_number(calls, 4);
-    put_number(0, 1);
-    size_t before = filled;
     __builtin_ia32_ldmxcsr(mode);
     make(asked, pointer(asked.book, calls), pointer(asked.bytes, calls));
     __builtin_ia32_ldmxcsr(PLAIN);
-    reply[before - 1] = (filled - before) & 0xFF;
     check_margin(asked.declaration);
     check_margin(asked.book);
     check_margin(asked.bytes);
-    put(asked.book.at, asked.book.length);
-    put(asked.bytes.at, asked.bytes.length);
-    put(asked.declaration.at, asked.declaration.length);
 }
 
 /* What an argument was, so that the next mode has it too. */
@@ -300,25 +291,49 @@ static void keep(kept *was, lent argument) { memcpy(was->bytes, argument.at, arg
 
 static void restore(lent argument, const kept *was) { memcpy(argument.at, was->bytes, argument.length); }
 
-/* The call in each mode, on the same arguments: the reply is the same. */
+/* What the pen passes over is there already. */
+static void check(const void *from, size_t length) {
+    if (memcmp(pen, from, length) != 0) {
+        _exit(MODE_MATTERS);
+    }
+    pen += length;
+}
+
+/* Puts all arguments as they are, or checks that they were put so. */
+static void each_argument(question asked, void (*puts)(const void *, size_t)) {
+    puts(asked.book.at, asked.book.length);
+    puts(asked.bytes.at, asked.bytes.length);
+    puts(asked.declaration.at, asked.declaration.length);
+}
+
+/* The call in each mode, on the same arguments. The first leaves the reply, and the others are the same: a book is long, and is put once. */
 static void answer_in_each_mode(question asked, uint32_t calls) {
     static kept book, bytes, declaration;
+    static uint8_t again[sizeof(gm_outcome)];
     keep(&book, asked.book);
     keep(&bytes, asked.bytes);
     keep(&declaration, asked.declaration);
-    reply = replies[0];
+    pen = reply;
+    put_number(asked.call, 1);
+    put_number(calls, 4);
+    put_number(0, 1);
+    uint8_t *told = pen;
     answer(asked, calls, modes[0]);
+    size_t length = (size_t)(pen - told);
+    told[-1] = length & 0xFF;
+    each_argument(asked, put);
     for (size_t i = 1; i < MODES; i++) {
-        const uint8_t *told = reply;
-        size_t length = filled;
-        reply = replies[i % 2];
         restore(asked.book, &book);
         restore(asked.bytes, &bytes);
         restore(asked.declaration, &declaration);
+        pen = again;
         answer(asked, calls, modes[i]);
-        if (filled != length || memcmp(told, reply, length) != 0) {
+        if (pen != again + length) {
             _exit(MODE_MATTERS);
         }
+        pen = told;
+        check(again, length);
+        each_argument(asked, check);
     }
 }
 
