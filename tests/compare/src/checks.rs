@@ -3,16 +3,16 @@
 use crate::linked::Linked;
 use crate::{drawn, edges, entries};
 use reference::testing::both::Both;
+use reference::testing::forms::{FEW_HOUSES, MANY_HOUSES};
 use reference::testing::scheduler::twins::{self, Count};
 use reference::testing::scheduler::{attacks, carrier, directed, implausible};
 use reference::testing::season::moments::{Moment, Tally};
 use reference::testing::season::Rules;
 use reference::testing::{
-    below, books, colonies, openings, pairs, readings, refusals, repeats, requests, returns, rows,
-    scheduler, trips, vouchers,
+    below, books, colonies, many, openings, pairs, readings, refusals, repeats, requests, returns,
+    rows, scheduler, trips, vouchers,
 };
-use reference::Reference;
-use std::ops::RangeInclusive;
+use reference::{Reference, MOST_HOUSES, MOST_NUMBERS};
 
 /// The proved library and the ordinary one.
 pub type Pair = Both<Linked, Reference>;
@@ -21,7 +21,7 @@ pub type Pair = Both<Linked, Reference>;
 pub type Check = (&'static str, fn(&mut Pair, u64, usize));
 
 /// Checks that are the same at any size, the quickest first; the seed is for noise.
-pub const COUNTED: [Check; 33] = [
+pub const COUNTED: [Check; 39] = [
     ("the rows and run cases of document 01", |pair, _, _| {
         rows::card(pair);
         rows::judged(pair);
@@ -58,6 +58,22 @@ pub const COUNTED: [Check; 33] = [
     ("lengths of books", |pair, _, _| openings::lengths(pair)),
     ("openings with every f and d", |pair, _, _| {
         openings::every_f_and_d(pair);
+    }),
+    ("one house more than may be", |pair, _, _| {
+        many::opened_at_the_edge(pair);
+    }),
+    ("books of another n", |pair, _, _| many::of_another_n(pair)),
+    ("houses and senders around the last", |pair, _, _| {
+        many::at_the_edge(pair);
+    }),
+    ("one bad byte in a book of many houses", |pair, _, _| {
+        many::one_bad_byte(pair);
+    }),
+    ("one entry of many waits", |pair, _, _| {
+        many::one_waits(pair)
+    }),
+    ("books of many houses, empty to full", |pair, _, _| {
+        many::empty_to_full(pair);
     }),
     ("all sizes", |pair, _, _| edges::sizes(pair)),
     ("foreign numbers", |pair, _, _| edges::strangers(pair)),
@@ -147,14 +163,14 @@ pub const COUNTED: [Check; 33] = [
 ];
 
 /// Checks that draw their cases: more with a larger size.
-pub const DRAWN: [Check; 21] = [
+pub const DRAWN: [Check; 24] = [
     ("calls on any legal book", |pair, seed, scale| {
-        refusals::calls(pair, seed, 250 * scale);
+        refusals::calls(pair, seed, 225 * scale);
     }),
     (
         "repeats and conflicts on any legal book",
         |pair, seed, scale| {
-            repeats::any_book(pair, seed, 125 * scale);
+            repeats::any_book(pair, seed, 113 * scale);
         },
     ),
     ("no colonies on any legal book", |pair, seed, scale| {
@@ -176,10 +192,10 @@ pub const DRAWN: [Check; 21] = [
         requests::round(pair, seed, 100 * scale);
     }),
     ("returns and what was sent", |pair, seed, scale| {
-        returns::any_book(pair, seed, 125 * scale);
+        returns::any_book(pair, seed, 113 * scale);
     }),
     ("damaged books", |pair, seed, scale| {
-        drawn::damaged_books(pair, seed, 250 * scale);
+        drawn::damaged_books(pair, seed, 225 * scale);
     }),
     ("judging at edges", |pair, seed, scale| {
         drawn::judging(pair, seed, 4_000 * scale);
@@ -188,10 +204,10 @@ pub const DRAWN: [Check; 21] = [
         books::noise(pair, seed, 500 * scale);
     }),
     ("openings", |pair, seed, scale| {
-        openings::openings(pair, seed, 375 * scale);
+        openings::openings(pair, seed, 338 * scale);
     }),
     ("the earliest waiting entry", |pair, seed, scale| {
-        books::waiting(pair, seed, 375 * scale);
+        books::waiting(pair, seed, 338 * scale);
     }),
     ("round trips", |pair, seed, scale| {
         trips::round(pair, seed, 500 * scale);
@@ -237,23 +253,44 @@ pub const DRAWN: [Check; 21] = [
         },
     ),
     ("seasons of up to sixteen houses", |pair, seed, scale| {
-        for n in 8..=16 {
+        for n in 8..=FEW_HOUSES {
             let s = 1 + (seed.wrapping_add(u64::from(n)) % 2) as u8;
             scheduler::seasons(pair, seed, n, s, scale.div_ceil(8) as u64);
         }
     }),
+    ("seasons of many houses", |pair, seed, scale| {
+        for n in MANY_HOUSES {
+            scheduler::seasons(pair, seed, n, 1, scale.div_ceil(8) as u64);
+        }
+    }),
+    (
+        "t wrong of many houses, one less, none, one more",
+        |pair, seed, _| hostile(pair, seed, [FEW_HOUSES + 1, MOST_HOUSES].into_iter()),
+    ),
     (
         "t wrong houses, one less, none, one more",
         |pair, seed, _| hostile(pair, seed, 1..=14),
     ),
     (
         "the same with fifteen and sixteen houses",
-        |pair, seed, _| hostile(pair, seed, 15..=16),
+        |pair, seed, _| hostile(pair, seed, 15..=FEW_HOUSES),
     ),
-    ("a season of the largest book", |pair, seed, _| {
-        let rules = Rules::new(16, 4, &[3, 7, 11]).with(3, 2);
+    (
+        "a season of sixteen houses and four numbers",
+        |pair, seed, _| {
+            let rules = Rules::new(FEW_HOUSES, MOST_NUMBERS, &[3, 7, 11]).with(3, 2);
+            let tally = scheduler::season_within(pair, seed, rules);
+            assert_eq!(tally.of(Moment::Premised), 1, "{tally}");
+        },
+    ),
+    ("a season of the longest book", |pair, seed, _| {
+        let wrong = [0, 3, 7, 11, 15, 16, 20, 24, 27, 30];
+        let rules = Rules {
+            senders: vec![29],
+            ..Rules::new(MOST_HOUSES, MOST_NUMBERS, &wrong)
+        };
         let tally = scheduler::season_within(pair, seed, rules);
-        assert_eq!(tally.of(Moment::Premised), 1, "{tally}");
+        assert_eq!(tally.of(Moment::Plain), 1, "{tally}");
     }),
     ("two wrong houses of four disagree", |pair, seed, scale| {
         let seasons = (50 * scale).max(ENOUGH_TO_DISAGREE);
@@ -318,7 +355,7 @@ const HOSTILE: [(Moment, usize); 12] = [
 ];
 
 /// Seasons with as many wrong houses as are tolerated, one less, none and one more, of so many houses.
-fn hostile(pair: &mut Pair, seed: u64, houses: RangeInclusive<u8>) {
+fn hostile(pair: &mut Pair, seed: u64, houses: impl Iterator<Item = u8> + Clone) {
     let sizes = houses.clone().filter(|n| *n >= 4).count();
     let due = HOSTILE.map(|(moment, times)| (moment, times * sizes));
     let mut all = Tally::default();

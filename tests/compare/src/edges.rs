@@ -2,16 +2,22 @@
 
 use reference::testing::forms::{
     declaration, fresh, fresh_book, honey, message, open_sheet, request_of, sheet, slots_from,
-    with_readings, OPEN, SEASON,
+    with_readings, FEW_HOUSES, OPEN, SEASON,
 };
+use reference::testing::openings::CEILING;
 use reference::testing::random::Random;
-use reference::{Gate, Library};
+use reference::{Gate, Library, MOST_HOUSES, MOST_NUMBERS};
 
-/// All 64 sizes: opened with each own number and some f, in buffers that fit and that do not; then the last
+/// All sizes, but of many houses with one number and with the most: opened with each own number and some f, in
+/// buffers that fit and that do not; then the last
 /// entry, from the publication to the delivery, with all of it again, another in its place, one with no colonies
 /// and one with a reading below zero; and the last asker.
 pub fn sizes(library: &mut impl Library) {
-    for (n, s) in (1..=16).flat_map(|n| (1..=4).map(move |s| (n, s))) {
+    let [houses, numbers] = [MOST_HOUSES, MOST_NUMBERS].map(u32::from);
+    for (n, s) in (1..=houses).flat_map(|n| (1..=numbers).map(move |s| (n, s))) {
+        if n > u32::from(FEW_HOUSES) && ![1, numbers].contains(&s) {
+            continue;
+        }
         let (answer, length) = library.length(n, s);
         assert_eq!(answer, 0, "the length of {n} and {s}");
         let mut book = vec![];
@@ -19,7 +25,7 @@ pub fn sizes(library: &mut impl Library) {
         for (own, buffer, expected) in (0..n)
             .map(|own| (own, length, 0))
             .chain([(n, length, 9), (0, length - 1, 11), (0, length + 1, 11)])
-            .chain([(0, 49_152, 11), (n - 1, length, 0)])
+            .chain([(0, CEILING, 11), (n - 1, length, 0)])
         {
             book = vec![0xEE; buffer];
             let answer = library.open(&mut book, n, s, own, f, d, SEASON, &open_sheet());

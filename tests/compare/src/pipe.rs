@@ -1,6 +1,7 @@
 //! The driver as a process at the other end of two pipes: one question, one reply, nothing between.
 
-use reference::{Declaration, DECLARATION};
+use reference::testing::forms::{slots_from, LONGEST_BOOK};
+use reference::{Declaration, DECLARATION, MOST_HOUSES};
 use std::io::{BufReader, Read, Write};
 use std::process::{Child, ChildStdin, ChildStdout, Command, ExitStatus, Stdio};
 use std::sync::atomic::{AtomicU64, Ordering};
@@ -39,6 +40,9 @@ pub const NUMBERS: usize = 6;
 /// reply.
 const LENGTHS: usize = 1 + 4 * NUMBERS + DECLARATION;
 const HEAD: usize = 6;
+
+/// So much is read ahead: a reply with the longest book and more than any answer, or most of one that is longer.
+const WHOLE_REPLY: usize = LONGEST_BOOK + 1024;
 
 /// Longer than any call takes, on a busy machine and under the emulator; or COMPARE_PATIENCE, in seconds.
 fn patience() -> Duration {
@@ -98,7 +102,7 @@ impl Pipe {
         std::thread::spawn(move || watch(&watched.0, &watched.1));
         Pipe {
             to,
-            from: BufReader::with_capacity(1 << 17, from),
+            from: BufReader::with_capacity(WHOLE_REPLY, from),
             child,
             calls: 0,
             question: vec![],
@@ -193,7 +197,7 @@ impl Drop for Pipe {
         );
         eprintln!(
             "  a book of {length} bytes: {:02X?} ..",
-            &book[..length.min(47)]
+            &book[..length.min(slots_from(MOST_HOUSES))]
         );
         eprintln!(
             "  a sheet or message of {} bytes: {bytes:02X?}",
