@@ -33,8 +33,17 @@ extern "C" {
 #define GM_ASSERT(truth, sentence) _Static_assert(truth, sentence)
 #endif
 
-/* Sizes in bytes. The longest book is that of 16 houses with 4 numbers each. */
-enum { GM_DECLARATION_BYTES = 20, GM_SHEET_BYTES = 22, GM_MESSAGE_BYTES = 36, GM_REQUEST_BYTES = 11, GM_LONGEST_BOOK = 47171 };
+/* The most houses, and the most numbers of each: n is 1 to 31, S is 1 to 4. Then sizes in bytes. The longest book is the one of the most
+ * houses with the most numbers, 169,406 bytes; its own length a book has from gm_length. Too much for many a stack: see the example. */
+enum {
+    GM_MOST_HOUSES = 31,
+    GM_MOST_NUMBERS = 4,
+    GM_DECLARATION_BYTES = 20,
+    GM_SHEET_BYTES = 22,
+    GM_MESSAGE_BYTES = 36,
+    GM_REQUEST_BYTES = 11,
+    GM_LONGEST_BOOK = 31 + GM_MOST_HOUSES + 21 * (GM_MOST_NUMBERS + GM_MOST_NUMBERS * GM_MOST_HOUSES * (2 * GM_MOST_HOUSES + 3))
+};
 
 /* "Where several apply, the first in the call's order is given." */
 enum gm_answer {
