@@ -33,8 +33,8 @@ extern "C" {
 #define GM_ASSERT(truth, sentence) _Static_assert(truth, sentence)
 #endif
 
-/* The most houses, and the most numbers of each: n is 1 to 31, S is 1 to 4. Then sizes in bytes. The longest book is the one of the most
- * houses with the most numbers, 169,406 bytes; its own length a book has from gm_length. Too much for many a stack: see the example. */
+/* The most houses, and the most numbers of each: n is 1 to 31, S is 1 to 4. Then sizes in bytes. The longest book is that of the most
+ * houses with the most numbers: 169,406 bytes, too many for the stack of many a thread. gm_length gives each book's own length. */
 enum {
     GM_MOST_HOUSES = 31,
     GM_MOST_NUMBERS = 4,
