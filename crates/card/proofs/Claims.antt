@@ -6,7 +6,6 @@ use Rattle.card.proofs.Overlap as counts
 pub claims : Claims
 claims =
     record {
-      card-is = wall.card-is;
       rest-houses = wall.rest-houses;
       quorum-down = counts.quorum-down;
       fitting-largest = counts.fitting-largest;

@@ -1,4 +1,3 @@
-pub mod Table
 pub mod Wall
 pub mod Counting
 pub mod Overlap

@@ -1,28 +1,14 @@
--- The card's two formulas, proved over the whole card by one test that antt computes.
-use mathlib.Core.Path.{_≡_, _∙_, ap, refl}
-use mathlib.Core.Bool.{Bool, true, _&&_, and-eq-true-iff}
-use Prim.Native.Nat.{ℕ, _+_, _*_, _-_, _<_, _≤_}
+-- The wall card by its formulas, and what it is to be a number of houses.
+use mathlib.Core.Path.{_≡_, _∙_, ap}
+use mathlib.Core.Bool.{true, and-eq-true-iff}
+use mathlib.Core.List.{List, [], _∷_}
+use Prim.Native.Nat.{ℕ, zero, suc, _+_, _*_, _-_, _<_, _≤_}
 use native.Mathlib.Omega.{arith}
-use lib.Dec.{leb, ltb, eqb}
+use lib.Dec.{leb, ltb}
 use lib.ListN.{getD}
-use borrow.Author.Tests.{leb-true, ltb-true, eqb-true, le-leb}
+use borrow.Author.Tests.{leb-true, ltb-true, le-leb}
 use Rattle.card.specs.declared.Column.{Column}
-use Rattle.card.specs.Card.{largest, mostDown, housesOk, downOk, tolerated, quorum, columnOf, wall}
-use Rattle.card.proofs.Table.{at}
-
--- the entry at k is the column for k + 1 houses
-abbrev right : ℕ → Column → Bool
-right k x = eqb (x .t) (tolerated (k + 1)) && eqb (x .quorum) (quorum (k + 1) (tolerated (k + 1)))
-
-right-is : (k : ℕ) (x : Column) → right k x ≡ true → x ≡ columnOf (k + 1)
-unfolding columnOf
-right-is k x h =
-    let t = tolerated (k + 1) in
-    let q = quorum (k + 1) t in
-    let both = and-eq-true-iff (eqb (x .t) t) (eqb (x .quorum) q) .0 h in
-    let p = eqb-true (x .t) t (both .0) in
-    let r = eqb-true (x .quorum) q (both .1) in
-    λ i. record { t = p i; quorum = r i }
+use Rattle.card.specs.Card.{largest, mostDown, housesOk, downOk, tolerated, columnOf}
 
 -- how many houses there may be, as numbers
 pub houses-between : (n : ℕ) → housesOk n ≡ true → (1 ≤ n) × (n ≤ largest)
@@ -31,13 +17,24 @@ houses-between n h =
     let both = and-eq-true-iff (leb 1 n) (leb n largest) .0 h in
     (leb-true 1 n (both .0), leb-true n largest (both .1))
 
-pub card-is : (z : Column) (n : ℕ) → housesOk n ≡ true → getD wall (n - 1) z ≡ columnOf n
-unfolding tolerated quorum largest
+-- the columns of so many numbers of houses, from i + 1 on
+abbrev columns : (i so-many : ℕ) → List Column
+columns i zero = []
+columns i (suc k) = columnOf (suc i) ∷ columns (suc i) k
+
+-- The wall card by its formulas. The code's array is compared with it, the whole of it at once; it stands nowhere else.
+abbrev pub card : List Column
+card = columns 0 largest
+
+column-at : (z : Column) (i m k : ℕ) → k < m → getD (columns i m) k z ≡ columnOf (suc (i + k))
+column-at z i zero k l = absurd (omega arith)
+column-at z i (suc m) zero l = ap columnOf (omega arith)
+column-at z i (suc m) (suc k) l = column-at z (suc i) m k (omega arith) ∙ ap columnOf (omega arith)
+
+pub card-is : (z : Column) (n : ℕ) → housesOk n ≡ true → getD card (n - 1) z ≡ columnOf n
 card-is z n h =
     let b = houses-between n h in
-    let e : n - 1 + 1 ≡ n = omega arith in
-    let k : n - 1 < 16 = omega arith in
-    right-is (n - 1) (getD wall (n - 1) z) (at right z wall refl (n - 1) k) ∙ ap columnOf e
+    column-at z 0 largest (n - 1) (omega arith) ∙ ap columnOf (omega arith)
 
 -- a number of houses is written in one byte, and so is t
 pub houses-byte : (n : ℕ) → housesOk n ≡ true → n < 256

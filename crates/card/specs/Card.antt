@@ -1,16 +1,14 @@
 -- Numbers on the wall: how many houses there may be, the tolerated t, the echo quorum, and the counts that the steps compare with.
 use Prim.Native.Nat.{ℕ, _+_, _*_, _-_, _/_, _≤_, _<_}
 use mathlib.Core.Bool.{Bool, _&&_}
-use mathlib.Core.List.{List, [], _∷_}
 use lib.Dec.{leb, ltb}
 use Rattle.card.specs.declared.Column.{Column}
 use Rattle.card.specs.declared.Counts.{Counts}
 
--- the largest number of houses
+-- houses n: 1 to 31
 unfoldable pub largest : ℕ
-largest = 16
+largest = 31
 
--- houses n: 1 to 16
 unfoldable pub housesOk : ℕ → Bool
 unfolding largest
 housesOk n = leb 1 n && leb n largest
@@ -31,15 +29,6 @@ quorum n t = halfUp (n + t + 1)
 unfoldable pub columnOf : ℕ → Column
 unfolding tolerated quorum
 columnOf n = record { t = tolerated n; quorum = quorum n (tolerated n) }
-
--- the wall card: the columns for 1 to 16 houses
-abbrev column : (t quorum : ℕ) → Column
-column t q = record { t = t; quorum = q }
-
-abbrev pub wall : List Column
-wall =
-    column 0 1 ∷ column 0 2 ∷ column 0 2 ∷ column 1 3 ∷ column 1 4 ∷ column 1 4 ∷ column 2 5 ∷ column 2 6
-    ∷ column 2 6 ∷ column 3 7 ∷ column 3 8 ∷ column 3 8 ∷ column 4 9 ∷ column 4 10 ∷ column 4 10 ∷ column 5 11 ∷ []
 
 -- READYs that make a READY: at least t+1
 unfoldable pub amplify : ℕ → ℕ

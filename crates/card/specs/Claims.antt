@@ -3,15 +3,11 @@ use Prim.Native.Nat.{ℕ, _+_, _*_, _-_, _≤_, _<_}
 use mathlib.Core.Path.{_≡_}
 use mathlib.Core.Bool.{Bool, true, not, _&&_}
 use lib.Dec.{T}
-use lib.ListN.{getD}
-use Rattle.card.specs.declared.Column.{Column}
-use Rattle.card.specs.Card.{housesOk, wall, columnOf, downOk, fitting, Largest, quorum, amplify, deliver}
+use Rattle.card.specs.Card.{housesOk, downOk, fitting, Largest, quorum, amplify, deliver}
 use Rattle.card.specs.Count.{count}
 
 pub record Claims : Type 0 where
-  -- The wall card is a constant table, equal to its formulas: t is (n-1)/3 rounded down; the quorum is (n+t+1)/2 rounded up.
-  pub card-is : (z : Column) (n : ℕ) → housesOk n ≡ true → getD wall (n - 1) z ≡ columnOf n
-  -- It is read at n - 2f, which has a column,
+  -- The wall card is read at n - 2f, which has a column,
   pub rest-houses : (n f : ℕ) → housesOk n ≡ true → downOk n f ≡ true → housesOk (n - 2 * f) ≡ true
   -- and its quorum raised by f.
   pub quorum-down : (n t f : ℕ) → 2 * f < n → quorum n t ≡ quorum (n - 2 * f) t + f

@@ -14,14 +14,14 @@ use Rattle.meaning.specs.Slot.{slotAt}
 use Rattle.meaning.specs.Layout.{numbersOk, mostLimit, lengthOf, entrySlot}
 use Rattle.meaning.specs.Book.{meant, write}
 use Rattle.meaning.specs.Legal.{legal}
-use Rattle.meaning.specs.Opening.{opened}
+use Rattle.meaning.specs.Opening.{opened, lengthAnswer}
 use Rattle.calls.specs.Call.{received}
 use Rattle.cases.specs.Rows.{rows}
 use Rattle.cases.specs.Claims.{Claims}
 use Rattle.cases.proofs.Rows.{table, has-each}
 
 computes : table rows .test ≡ true
-unfolding countsOf judged sheetBytes bytesOf writtenOf readOf requestOf opened housesOk downOk numbersOk
+unfolding countsOf judged sheetBytes bytesOf writtenOf readOf requestOf opened lengthAnswer housesOk downOk numbersOk
     mostLimit lengthOf write received legal meant slotAt entrySlot wire same outcome
     receive recording takesSend takesEcho takesReady rulesOf
 computes = refl
@@ -30,5 +30,5 @@ pub claims : Claims
 claims =
     record {
       all-hold = table rows .shows (T-of computes);
-      none-left-out = has-each 17 rows .shows tt;
+      none-left-out = has-each 19 rows .shows tt;
     }

@@ -8,12 +8,13 @@ use Rattle.card.specs.Card.{countsOf}
 use Rattle.lot.specs.Declaration.{bytesOf}
 use Rattle.sheet.specs.Kept.{sheetBytes, judged}
 use Rattle.message.specs.Message.{readAs, readOf, writtenOf}
+use Rattle.meaning.specs.Opening.{lengthAnswer}
 use Rattle.calls.specs.Entered.{handed}
 use Rattle.calls.specs.Call.{received}
-use Rattle.cases.specs.Row.{Heard, Row, card, short, judge, form, calls, says, messageFor, delivered, freshBook, Calls, Holds, All}
+use Rattle.cases.specs.Row.{Heard, Row, card, short, size, judge, form, calls, says, messageFor, delivered, freshBook, Calls, Holds, All}
 use Rattle.cases.specs.Row.{Has}
 use Rattle.cases.proofs.Tested.{Tested, passed, failed, after, both, either, number, atMost}
-use Rattle.cases.proofs.Values.{written, told, outcome}
+use Rattle.cases.proofs.Values.{sized, written, told, outcome}
 
 abbrev each-call : (b : List ℕ) (hs : List Heard) → Tested (Calls b hs)
 each-call b [] = passed tt
@@ -24,6 +25,7 @@ each-call b (h ∷ hs) =
 abbrev row : (r : Row) → Tested (Holds r)
 row (card n t q) = both (number (countsOf n 0 .t) t) (number (countsOf n 0 .quorum) q)
 row (short n vouchers) = atMost (suc vouchers) (countsOf n 0 .quorum)
+row (size n numbers answer length) = sized (lengthAnswer n numbers) (record { answer = answer; length = length })
 row (judge s d answer) = number (judged (sheetBytes s) (bytesOf d)) answer
 row (form m bytes) =
     both

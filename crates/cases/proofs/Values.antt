@@ -1,4 +1,5 @@
--- The values that rows compare, each tested in every field: a declaration, what the writer and the reader give, and a call's outcome.
+-- The values that rows compare, each tested in every field: a length, a declaration, what the writer and the reader give, and a call's
+-- outcome.
 use Prim.Native.Nat.{ℕ}
 use mathlib.Core.Path.{_≡_}
 use mathlib.Core.Bool.{Bool}
@@ -7,8 +8,15 @@ use mathlib.Core.Option.{Option}
 use Rattle.lot.specs.declared.Declaration.{Declaration}
 use Rattle.message.specs.declared.Written.{Written}
 use Rattle.message.specs.Message.{Five, Told}
+use Rattle.meaning.specs.Opening.{Length}
 use Rattle.calls.specs.declared.Outcome.{Outcome}
 use Rattle.cases.proofs.Tested.{Tested, number, bytes, flag, option, made, _of_}
+
+abbrev pub sized : (x y : Length) → Tested (x ≡ y)
+sized x y = made new of number (x .answer) (y .answer) of number (x .length) (y .length)
+  where
+    new : ℕ → ℕ → Length
+    new a l = record { answer = a; length = l }
 
 abbrev declaration : (x y : Declaration) → Tested (x ≡ y)
 declaration x y =

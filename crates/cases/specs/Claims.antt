@@ -6,5 +6,5 @@ use Rattle.cases.specs.Rows.{rows}
 pub record Claims : Type 0 where
   -- every row holds
   pub all-hold : All rows
-  -- none of the cases 1 to 17 is left out
-  pub none-left-out : (c : ℕ) → 0 < c → c ≤ 17 → Has c rows
+  -- none of the cases 1 to 19 is left out
+  pub none-left-out : (c : ℕ) → 0 < c → c ≤ 19 → Has c rows

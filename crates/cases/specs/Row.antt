@@ -16,7 +16,7 @@ use Rattle.lot.specs.Declaration.{bytesOf}
 use Rattle.sheet.specs.Kept.{sheetBytes, judged}
 use Rattle.message.specs.Message.{Five, wire, readAs, readOf, writtenOf}
 use Rattle.meaning.specs.Layout.{lengthOf}
-use Rattle.meaning.specs.Opening.{opened}
+use Rattle.meaning.specs.Opening.{opened, lengthAnswer}
 use Rattle.calls.specs.Entered.{handed}
 use Rattle.calls.specs.Call.{received}
 
@@ -33,6 +33,8 @@ pub data Row : Type 0 where
   card : (n t q : ℕ) → Row
   -- among so many houses, this many vouchers are short of the quorum
   short : (n vouchers : ℕ) → Row
+  -- so many houses and numbers: the answer to how long their book is, and the length
+  size : (n numbers answer length : ℕ) → Row
   -- judging this declaration by this sheet: the answer
   judge : Sheet → Declaration → (answer : ℕ) → Row
   -- these five things, and the bytes: they write so, and these bytes read so
@@ -81,6 +83,7 @@ freshBook n = opened (replicate (lengthOf n 1) 0) n 1 0 0 0 2026 (sheetBytes (sh
 abbrev pub Holds : Row → Type 0
 Holds (card n t q) = (countsOf n 0 .t ≡ t) × (countsOf n 0 .quorum ≡ q)
 Holds (short n vouchers) = vouchers < countsOf n 0 .quorum
+Holds (size n numbers answer length) = lengthAnswer n numbers ≡ record { answer = answer; length = length }
 Holds (judge sheet d answer) = judged (sheetBytes sheet) (bytesOf d) ≡ answer
 Holds (form m bytes) =
     (writtenOf (m .kind) (m .season) (m .sender) (m .number) (m .declaration) ≡ record { answer = 0; message = bytes })

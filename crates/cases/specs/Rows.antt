@@ -7,7 +7,7 @@ use mathlib.Core.Option.{Option, none, some}
 use lib.Ieee.{binary32, ofBits}
 use Rattle.sheet.specs.declared.Gate.the-variants.{Open, AtMost}
 use Rattle.message.specs.Message.{Five}
-use Rattle.cases.specs.Row.{Heard, Row, card, short, judge, form, calls, sheet, lot, seventeenHalf, sample}
+use Rattle.cases.specs.Row.{Heard, Row, card, short, size, judge, form, calls, sheet, lot, seventeenHalf, sample}
 
 -- 20.0 and a NaN, as their bits
 abbrev twenty : ℕ
@@ -59,4 +59,8 @@ rows =
     ∷ (15, judge (sheet 20 Open) (lot 1 0 seventeenHalf) 0)
     ∷ (16, judge (sheet 20 Open) (lot 40 800 minusThree) 5)
     ∷ (17, judge (sheet 20 Open) (lot 40 800 minusZero) 0)
+    ∷ (18, card 31 10 21)
+    ∷ (18, short 31 20)
+    ∷ (19, size 31 4 0 169406)
+    ∷ (19, size 32 1 9 0)
     ∷ []

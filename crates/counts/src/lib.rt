@@ -6,13 +6,13 @@ use card::Column;
 use card::Counts;
 
 // The largest number of houses.
-const LARGEST: u32 = 16;
+const LARGEST: usize = 31;
 
 // The largest number of honest houses that may be down.
 const MOST_DOWN: u32 = 4;
 
-// The columns for 1 to 16 houses.
-const CARD: [Column; 16] = [
+// The columns for 1 house, 2 houses and so on, to the largest number.
+const CARD: [Column; LARGEST] = [
     Column { t: 0, quorum: 1 },
     Column { t: 0, quorum: 2 },
     Column { t: 0, quorum: 2 },
@@ -29,13 +29,28 @@ const CARD: [Column; 16] = [
     Column { t: 4, quorum: 10 },
     Column { t: 4, quorum: 10 },
     Column { t: 5, quorum: 11 },
+    Column { t: 5, quorum: 12 },
+    Column { t: 5, quorum: 12 },
+    Column { t: 6, quorum: 13 },
+    Column { t: 6, quorum: 14 },
+    Column { t: 6, quorum: 14 },
+    Column { t: 7, quorum: 15 },
+    Column { t: 7, quorum: 16 },
+    Column { t: 7, quorum: 16 },
+    Column { t: 8, quorum: 17 },
+    Column { t: 8, quorum: 18 },
+    Column { t: 8, quorum: 18 },
+    Column { t: 9, quorum: 19 },
+    Column { t: 9, quorum: 20 },
+    Column { t: 9, quorum: 20 },
+    Column { t: 10, quorum: 21 },
 ];
 
 // Whether the card has a column for n houses.
 pub fn is_houses(n: u32) -> bool
     ensures { λ r. ⌜ r ≡ housesOk n ⌝ }
 {
-    1 <= n && n <= LARGEST
+    1 <= n && n as usize <= LARGEST
 }
 
 // The card's column for n houses.

@@ -8,7 +8,7 @@ use Rattle.meaning.specs.Book.{nOf, limitOf, helpedOf, helpOf, moreHelp,
 use Rattle.meaning.specs.Legal.{Lent}
 use Rattle.meaning.specs.Claims.{Means, Claims}
 use Rattle.meaning.proofs.Legality.{legal-facts}
-use Rattle.meaning.proofs.Places.{length-most}
+use Rattle.meaning.proofs.Lengths.{length-most, longest, length-answered}
 use Rattle.meaning.proofs.OneForm.{same-bytes}
 use Rattle.meaning.proofs.Every.{written-legal, written-bytes, written-meant, legal-exactly}
 use Rattle.meaning.proofs.Opening.{opened-refused, opened-legal, opened-bytes, opened-meant}
@@ -33,6 +33,8 @@ claims =
       same-bytes = λ b c L M e. same-bytes b c (L .legal) (M .legal) (L .bytes) (M .bytes) e;
       long = λ b h. legal-facts b h .long;
       length-most = length-most;
+      longest = longest;
+      length-answered = length-answered;
       opened-fresh = λ b n s own f d season sheet l bytes e.
           record {
             lent = record {

@@ -1,15 +1,15 @@
 -- The worked example of docs/BOOK.md, computed: a book of one house and one number, freshly opened, and with a SEND recorded.
-use Prim.Native.Nat.{ℕ}
+use Prim.Native.Nat.{ℕ, suc}
 use mathlib.Core.Path.{_≡_, refl}
 use mathlib.Core.Bool.{true}
 use mathlib.Core.List.{List, [], _∷_, _++_}
 use mathlib.Core.Option.{some}
 use lib.ListN.{replicate}
-use Rattle.card.specs.Card.{housesOk, downOk}
+use Rattle.card.specs.Card.{largest, housesOk, downOk}
 use Rattle.sheet.specs.Kept.{sheetBytes, sheetAt, isSheet, sheetLegalAt}
 use Rattle.entry.specs.Entry.{Decl}
 use Rattle.meaning.specs.Slot.{slotAt, putSlot}
-use Rattle.meaning.specs.Layout.{numbersOk, mostLimit, lengthOf, slotPlace, entrySlot, sendSlot, echoSlot, readySlot, readySentSlot}
+use Rattle.meaning.specs.Layout.{mostNumbers, numbersOk, mostLimit, lengthOf, slotPlace, entrySlot, sendSlot, echoSlot, readySlot, readySentSlot}
 use Rattle.meaning.specs.Layout.{deliveredSlot}
 use Rattle.meaning.specs.Book.{look, write}
 use Rattle.meaning.specs.Legal.{legal}
@@ -42,14 +42,14 @@ length-here : lengthAnswer 1 1 ≡ record { answer = 0; length = 158 }
 unfolding lengthAnswer housesOk numbersOk lengthOf
 length-here = refl
 
-longest-here : lengthAnswer 16 4 ≡ record { answer = 0; length = 47171 }
-unfolding lengthAnswer housesOk numbersOk lengthOf
+-- the longest, and one house more
+longest-here : lengthAnswer largest mostNumbers ≡ record { answer = 0; length = 169406 }
+unfolding lengthAnswer housesOk numbersOk lengthOf largest mostNumbers
 longest-here = refl
 
--- at 31 houses it would be within request 2026-06's 180,224 bytes
-later-here : lengthOf 31 4 ≡ 169406
-unfolding lengthOf
-later-here = refl
+too-many-here : lengthAnswer (suc largest) 1 ≡ record { answer = 9; length = 0 }
+unfolding lengthAnswer housesOk numbersOk lengthOf largest
+too-many-here = refl
 
 opened-here : opened (replicate 158 9) 1 1 0 0 8 2026 sheet ≡ record { answer = 0; book = freshly }
 unfolding opened downOk housesOk numbersOk lengthOf isSheet sheetAt sheetBytes write mostLimit

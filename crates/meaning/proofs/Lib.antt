@@ -1,5 +1,6 @@
 pub mod Parts
 pub mod Places
+pub mod Lengths
 pub mod Legality
 pub mod Slots
 pub mod Agree

@@ -1,4 +1,4 @@
--- Where the slots lie: each within the book, no two on the same bytes, and how long a book is at most.
+-- Where the slots lie: each within the book, and no two on the same bytes.
 use Prim.Native.Nat.{ℕ, suc, _+_, _*_, _≤_, _<_}
 use mathlib.Core.Path.{_≡_, sym}
 use mathlib.Core.Logic.{_⊎_, inl, inr}
@@ -13,7 +13,7 @@ use Rattle.meaning.specs.Layout.{slotPlace, entrySlot, sendSlot, echoSlo
 
 -- ---- S, and the length
 
-numbers-between : (s : ℕ) → numbersOk s ≡ true → (1 ≤ s) × (s ≤ mostNumbers)
+pub numbers-between : (s : ℕ) → numbersOk s ≡ true → (1 ≤ s) × (s ≤ mostNumbers)
 unfolding numbersOk
 numbers-between s h =
     let both = and-eq-true-iff (leb 1 s) (leb s mostNumbers) .0 h in
@@ -32,11 +32,6 @@ count-small n s l k =
     let c : perEntry n ≤ 513 = omega arith in
     let d : s * n * perEntry n ≤ 255 * 255 * 513 = mul-le-mul (mul-le-mul a b) c in
     omega arith
-
--- at most 49,152 bytes at 16 and 4
-pub length-most : lengthOf 16 4 ≤ 49152
-unfolding lengthOf headLength slotCount perEntry
-length-most = omega arith
 
 -- how often each asker was helped is the last of the header
 pub helped-within : (n p : ℕ) → p < n → helpedPlace p < headLength n

@@ -5,12 +5,13 @@ use mathlib.Core.Bool.{true}
 use mathlib.Core.List.{List}
 use mathlib.Core.Logic.{_↔_}
 use lib.ListN.{length}
+use Rattle.card.specs.Card.{largest, housesOk}
 use Rattle.words.specs.Words.{Bytes}
 use Rattle.sheet.specs.Kept.{sheetAt}
-use Rattle.meaning.specs.Layout.{lengthOf}
+use Rattle.meaning.specs.Layout.{mostNumbers, numbersOk, lengthOf}
 use Rattle.meaning.specs.Book.{Meaning, nOf, numbersOf, limitOf, helpedOf, helpOf, moreHelp, withHelp, countHelp, meant, write}
 use Rattle.meaning.specs.Legal.{legal, Lent, IsBook}
-use Rattle.meaning.specs.Opening.{headed, freshBook, opened}
+use Rattle.meaning.specs.Opening.{headed, freshBook, opened, lengthAnswer}
 
 -- a legal book that means B
 pub record Means (b : List ℕ) (B : Meaning) : Type 0 where
@@ -23,9 +24,13 @@ pub record Claims : Type 0 where
   -- One byte form per meaning: what is written means what was written, and two legal books that mean the same are the same bytes;
   pub written : (B : Meaning) → IsBook B → Means (write B) B
   pub same-bytes : (b c : List ℕ) → Lent b → Lent c → meant b ≡ meant c → b ≡ c
-  -- a length that depends on n and S only, at most 49,152 bytes at 16 and 4.
+  -- a length that depends on n and S only, at most 180,224 bytes at 31 and 4, the largest.
   pub long : (b : List ℕ) → legal b ≡ true → length b ≡ lengthOf (nOf b) (numbersOf b)
-  pub length-most : lengthOf 16 4 ≤ 49152
+  pub length-most : lengthOf largest mostNumbers ≤ 180224
+  pub longest : (n numbers : ℕ) → housesOk n ≡ true → numbersOk numbers ≡ true → lengthOf n numbers ≤ lengthOf largest mostNumbers
+  -- A public answer gives that length, or answer 9: it gives one exactly where n and S are from 1 to the largest.
+  pub length-answered : (n numbers : ℕ)
+      → (lengthAnswer n numbers .answer ≡ 0) ↔ ((1 ≤ n) × (n ≤ largest) × (1 ≤ numbers) × (numbers ≤ mostNumbers))
   -- Opening writes the whole buffer: nothing heard, sent, delivered or published, nobody helped.
   pub opened-fresh : (b : List ℕ) (n numbers own f d season : ℕ) (sheet : List ℕ) → season < 2 ^ 32 → Bytes sheet
       → opened b n numbers own f d season sheet .answer ≡ 0

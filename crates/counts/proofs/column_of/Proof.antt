@@ -1,6 +1,6 @@
 -- `counts::column_of` meets its contract: the card's entry is the column of the formulas.
 use native.Mathlib.Omega.{arith}
-use Rattle.card.specs.Card.{largest}
+use Rattle.card.specs.Card.{largest, columnOf}
 use Rattle.card.proofs.Wall.{houses-between, card-is}
 use Rattle.counts.proofs.column_of.Statement.{statement}
 use Rattle.counts.proofs.column_of.Tie as tie
@@ -17,6 +17,7 @@ unfolding largest
 array-copy-out-result c = let b = houses-between _ (c .pre) in omega arith
 
 returns : tie.Need-returns
+unfolding columnOf largest
 returns c = card-is _ _ (c .before .pre)
 
 pub column-of-spec : {M : Type 1} → statement M
