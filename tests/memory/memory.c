@@ -17,13 +17,9 @@ _Static_assert(DEEPEST < 21 * (2 * GM_MOST_HOUSES + 3), "the slots of one entry 
 
 static int wrong;
 
-/* At once, so that it is there if the program is ended. */
+/* Tells it at once, so that it is told if the program is ended. */
 static void tell(const char *text) {
-    size_t size = 0;
-    while (text[size] != 0) {
-        size++;
-    }
-    if (write(1, text, size) < 0) {
+    if (write(1, text, strlen(text)) < 0) {
         _exit(2);
     }
 }
