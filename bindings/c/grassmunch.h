@@ -34,7 +34,8 @@ extern "C" {
 #endif
 
 /* The most houses, and the most numbers of each: n is 1 to 31, S is 1 to 4. Then sizes in bytes. The longest book is that of the most
- * houses with the most numbers: 169,406 bytes, too many for the stack of many a thread. gm_length gives each book's own length. */
+ * houses with the most numbers: 31 bytes, one for each house, and 21 for each slot; 169,406 in all, too many for the stack of many a
+ * thread. gm_length gives each book's own length. */
 enum {
     GM_MOST_HOUSES = 31,
     GM_MOST_NUMBERS = 4,
