@@ -1,9 +1,11 @@
 //! The rows of the table: for each a book, a call on it, and the answer it has to give.
 
-use grassmunch::{Declaration, Gate, Sheet};
+use grassmunch::{Book, Declaration, Gate, Sheet};
 use reference::{write, Kind};
 
-pub const NUMBERS: u32 = 4;
+/// Document 01's four houses, the sixteen that were the most up to version 5, and the most.
+const HOUSES: [u32; 3] = [4, 16, Book::MOST_HOUSES];
+pub const NUMBERS: u32 = Book::MOST_NUMBERS;
 pub const SEASON: u32 = 2026;
 pub const OWN: u32 = 0;
 /// f, so that t is document 01's.
@@ -315,7 +317,7 @@ fn others(n: u32, rows: &mut Vec<Case>) {
 pub fn all() -> Vec<Case> {
     let mut rows = Vec::new();
     for part in [accepted, refused, returning, others] {
-        for n in [4, 16] {
+        for n in HOUSES {
             part(n, &mut rows);
         }
     }
@@ -339,7 +341,7 @@ pub fn all() -> Vec<Case> {
             answer: 0,
         });
     }
-    for n in [4, 16] {
+    for n in HOUSES {
         for filling in [EMPTY, HALF, FULL] {
             let what = "legality scan, beside a plain pass";
             let call = Call::Pass {

@@ -50,15 +50,6 @@ if c++ -fsyntax-only -x c++ - <<<'#include <stdint.h>' 2>/dev/null; then
     check_header c++ c++17 c++
 fi
 
-# ---- the archive alone: it calls the C library's memory functions at most, and has no variable and nothing that runs by itself
-memory=$(printf -- '--defsym=%s=0 ' memset memcpy memmove memcmp bcmp)
-# shellcheck disable=SC2086
-quiet 'the archive calls more than memory functions' \
-    "$tools/bin/ld.lld" -m elf_x86_64 -shared --no-undefined $memory --whole-archive "$archive" -o "$room/alone.so" -Map="$room/alone.map"
-if grep -E '\.o\):\(\.(data|bss|tdata|tbss|init|fini)' "$room/alone.map" | grep -v '(\.data\.rel\.ro'; then
-    fail 'the archive has variables'
-fi
-
 # ---- C over the archive
 build_c() { # NAME [FLAGS...]
     local name=$1

@@ -1,7 +1,7 @@
-/* Each call with each of its answers, two answers at once where the order decides, the walk over what was sent, no colonies and readings
- * below zero in each call and in a book of an earlier version, limits below zero in a sheet and in a book, null pointers with length 0,
- * the message of document 01, and the header's helpers, in two float modes: says what is not so, and ends with status 1 then. It tries
- * that header and archive agree; tests over all inputs stand elsewhere. */
+/* Each call with each of its answers, two answers at once where the order decides, the walk over what was sent, the most houses and one
+ * more, no colonies and readings below zero in each call and in a book of an earlier version, limits below zero in a sheet and in a book,
+ * null pointers with length 0, the message of document 01, and the header's helpers, in two float modes: says what is not so, and ends with
+ * status 1 then. It tries that header and archive agree; tests over all inputs stand elsewhere. */
 #include "grassmunch.h"
 
 #include <stdio.h>
@@ -49,10 +49,12 @@ static bool is_zero(const uint8_t *bytes, size_t size) {
     return true;
 }
 
-static bool refused(gm_outcome got, uint8_t answer) {
+static bool is_refusal(gm_outcome got, uint8_t answer) {
     return got.answer == answer && !got.gives && !got.delivers && !got.helps && is_zero(got.message, 36) &&
-           is_zero(got.declaration, 20) && untouched();
+           is_zero(got.declaration, 20);
 }
+
+static bool refused(gm_outcome got, uint8_t answer) { return is_refusal(got, answer) && untouched(); }
 
 static bool helped(gm_outcome got) {
     return got.answer == GM_ACCEPTED && got.helps && !got.gives && !got.delivers && is_zero(got.message, 36) &&
@@ -76,15 +78,22 @@ static gm_outcome hear_request(uint32_t asker) { return gm_receive(book, BOOK, a
 
 static void opening(void) {
     so(gm_length(4, 1).answer == GM_ACCEPTED && gm_length(4, 1).length == BOOK, "length 0");
-    so(gm_length(16, 4).length == GM_LONGEST_BOOK, "the longest book");
-    so(gm_length(17, 1).answer == GM_NOT_ALLOWED && gm_length(17, 1).length == 0, "length 9");
+    so(gm_length(16, 4).answer == GM_ACCEPTED && gm_length(16, 4).length == 47171, "length 0: 16 houses, as it was");
+    so(gm_length(17, 1).answer == GM_ACCEPTED && gm_length(17, 1).length == 13278, "length 0: 17 houses");
+    so(gm_length(31, 4).answer == GM_ACCEPTED && gm_length(31, 4).length == 169406, "length 0: 31 houses");
+    so(gm_length(GM_MOST_HOUSES, GM_MOST_NUMBERS).length == GM_LONGEST_BOOK, "the longest book");
+    so(gm_length(32, 1).answer == GM_NOT_ALLOWED && gm_length(32, 1).length == 0, "length 9: 32 houses");
+    so(gm_length(31, 5).answer == GM_NOT_ALLOWED && gm_length(31, 5).length == 0, "length 9: 5 numbers");
     memset(book, 0xFF, BOOK);
     memcpy(before, book, BOOK);
     so(open_as(HOUSES, 4, DOWN, LIMIT) == GM_NOT_ALLOWED && untouched(), "opening 9: own number 4");
     so(open_as(HOUSES, 0, 2, LIMIT) == GM_NOT_ALLOWED && untouched(), "opening 9: 2f = n");
     so(open_as(HOUSES, 0, DOWN, 9) == GM_NOT_ALLOWED && untouched(), "opening 9: d = 9");
-    so(open_as(16, 0, 5, LIMIT) == GM_NOT_ALLOWED && untouched(), "opening 9: f = 5");
-    so(open_as(16, 0, 4, LIMIT) == GM_WRONG_LENGTH && untouched(), "opening 11: f = 4 is allowed");
+    so(open_as(31, 0, 5, LIMIT) == GM_NOT_ALLOWED && untouched(), "opening 9: f = 5");
+    so(open_as(31, 0, 4, LIMIT) == GM_WRONG_LENGTH && untouched(), "opening 11: f = 4 is allowed");
+    so(open_as(32, 0, 4, LIMIT) == GM_NOT_ALLOWED && untouched(), "opening 9: 32 houses");
+    so(open_as(31, 31, DOWN, LIMIT) == GM_NOT_ALLOWED && untouched(), "opening 9: own number 31");
+    so(open_as(31, 30, DOWN, LIMIT) == GM_WRONG_LENGTH && untouched(), "opening 11: own number 30 is allowed");
     so(gm_open(book, 0, HOUSES, 1, 0, 2, LIMIT, 2026, sheet, 0) == GM_NOT_ALLOWED && untouched(), "opening 9 before 10 and 11");
     so(gm_open(book, 0, HOUSES, 1, 0, DOWN, LIMIT, 2026, sheet, 0) == GM_SHEET_NOT_LEGAL && untouched(), "opening 10 before 11");
     so(gm_open(book, BOOK - 1, HOUSES, 1, 0, DOWN, LIMIT, 2026, sheet, sizeof sheet) == GM_WRONG_LENGTH && untouched(),
@@ -267,6 +276,77 @@ static void with_one_down(void) {
     book[31 + 3] = 1;
     so(gm_return(book, BOOK).answer == GM_NO_LEGAL_BOOK, "helped above d is no legal book");
     book[31 + 3] = 0;
+}
+
+/* The longest book is that of 31 houses with 4 numbers: the last house is 30, and the last number 3. */
+static uint8_t longest[GM_LONGEST_BOOK], longest_before[GM_LONGEST_BOOK];
+enum { LAST_HOUSE = 30, LAST_NUMBER = 3 };
+
+static uint8_t open_longest(uint32_t f) {
+    return gm_open(longest, sizeof longest, 31, 4, LAST_HOUSE, f, LIMIT, 2026, sheet, sizeof sheet);
+}
+
+/* The longest book hears of lot 77. */
+static gm_outcome hear(uint32_t house, uint8_t kind, uint8_t sender, uint8_t number) {
+    gm_written message = gm_write(kind, 2026, sender, number, lot77);
+    return gm_receive(longest, sizeof longest, house, message.message, sizeof message.message);
+}
+
+/* On the last house's own last entry: what it published, its SEND heard, which waits, and both sent again. There is no house 31. */
+static void last_house(void) {
+    so(open_longest(DOWN) == GM_ACCEPTED && longest[0] == 31 && longest[2] == LAST_HOUSE, "31 houses open");
+    gm_outcome got = gm_publish(longest, sizeof longest, LAST_NUMBER, lot77);
+    so(got.gives && got.message[11] == LAST_HOUSE && got.message[12] == LAST_NUMBER, "publishing 0: the last house's last number");
+    got = gm_receive(longest, sizeof longest, LAST_HOUSE, got.message, sizeof got.message);
+    so(got.gives && gm_read(got.message, 36).kind == GM_ECHO, "receiving 0: house 30 and sender 30");
+    gm_waiting_answer next = gm_waiting(longest, sizeof longest);
+    so(next.waits && next.number == LAST_NUMBER && next.sender == LAST_HOUSE, "sender 30 waits");
+    gm_walk walk = gm_first_sent(longest, sizeof longest);
+    so(walk.kind == GM_SEND && walk.sender == LAST_HOUSE && walk.number == LAST_NUMBER, "the walk: the last house's SEND");
+    gm_next_sent(longest, sizeof longest, &walk);
+    so(walk.kind == GM_ECHO && memcmp(walk.sent.message, got.message, 36) == 0, "the walk: the last house's ECHO");
+    gm_next_sent(longest, sizeof longest, &walk);
+    so(not_sent(walk.sent, GM_NOT_IN_BOOK), "the walk ends past the last sender");
+    got = gm_receive(longest, sizeof longest, LAST_HOUSE, request, GM_REQUEST_BYTES);
+    so(helped(got) && longest[31 + LAST_HOUSE] == 1, "a request 0: house 30");
+    memcpy(longest_before, longest, sizeof longest);
+    for (uint8_t kind = GM_SEND; kind <= GM_READY; kind++) {
+        so(is_refusal(hear(31, kind, LAST_HOUSE, LAST_NUMBER), GM_NOT_IN_BOOK), "receiving 4: house 31");
+        so(is_refusal(hear(LAST_HOUSE, kind, 31, LAST_NUMBER), GM_NOT_IN_BOOK), "receiving 4: sender 31");
+        so(is_refusal(hear(LAST_HOUSE, kind, LAST_HOUSE, 4), GM_NOT_IN_BOOK), "receiving 4: number 4");
+        so(not_sent(gm_sent(longest, sizeof longest, kind, 31, 0), GM_NOT_IN_BOOK), "sent 4: sender 31");
+    }
+    so(is_refusal(hear(LAST_HOUSE, GM_SEND, LAST_HOUSE, LAST_NUMBER), GM_ALREADY_ACCEPTED), "receiving 7: sender 30");
+    got = gm_receive(longest, sizeof longest, 31, request, GM_REQUEST_BYTES);
+    so(is_refusal(got, GM_NOT_IN_BOOK), "a request 4: house 31");
+    so(is_refusal(gm_publish(longest, sizeof longest, 4, lot77), GM_NOT_IN_BOOK), "publishing 4: number 4");
+    so(memcmp(longest, longest_before, sizeof longest) == 0, "31 houses: a refusal leaves the bytes");
+}
+
+/* Among 31 houses exactly so many ECHOes give a READY, so many READYs give one, and so many deliver: one fewer do not. */
+static void counts(uint32_t f, uint32_t quorum, uint32_t amplify, uint32_t deliver) {
+    so(open_longest(f) == GM_ACCEPTED, "31 houses open with f");
+    for (uint32_t heard = 1; heard <= 31; heard++) {
+        gm_outcome echo = hear(31 - heard, GM_ECHO, LAST_HOUSE, LAST_NUMBER), ready = hear(31 - heard, GM_READY, LAST_HOUSE, 0);
+        so(echo.answer == GM_ACCEPTED && echo.gives == (heard == quorum) && !echo.delivers, "31 houses: the quorum of ECHOes");
+        so(ready.answer == GM_ACCEPTED && ready.gives == (heard == amplify), "31 houses: READYs that give a READY");
+        so(ready.delivers == (heard == deliver), "31 houses: READYs that deliver");
+    }
+}
+
+/* 31 houses, the most, as it goes with fewer; and a book that says 32, or that its own number is 31, is none. */
+static void most_houses(void) {
+    last_house();
+    longest[0] = 32;
+    so(gm_waiting(longest, sizeof longest).answer == GM_NO_LEGAL_BOOK, "a book of 32 houses is no legal book");
+    longest[0] = 31;
+    longest[2] = 31;
+    so(gm_waiting(longest, sizeof longest).answer == GM_NO_LEGAL_BOOK, "a book of house 31 is no legal book");
+    counts(0, 21, 11, 21);
+    counts(1, 21, 10, 20);
+    counts(2, 20, 9, 19);
+    counts(3, 20, 9, 20);
+    counts(4, 20, 8, 19);
 }
 
 /* Plausible by this sheet: 0 from judging, and on a fresh book from publishing and receiving. */
@@ -610,6 +690,7 @@ static void all(void) {
     returning();
     walking();
     with_one_down();
+    most_houses();
     no_colonies();
     readings_below_zero();
     both_zeros();

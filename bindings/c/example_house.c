@@ -10,6 +10,7 @@
 
 #include <fcntl.h>
 #include <stdio.h>
+#include <stdlib.h>
 #include <string.h>
 #include <unistd.h>
 
@@ -23,13 +24,15 @@ enum { COPIES = 128, LOTS = 2 };
 static uint8_t lot77[GM_DECLARATION_BYTES], heavy[GM_DECLARATION_BYTES], no_bees[GM_DECLARATION_BYTES], minus_3[GM_DECLARATION_BYTES];
 static uint8_t lot90[GM_DECLARATION_BYTES], twin[GM_DECLARATION_BYTES];
 
+/* Its book, and the copy that a call works on, are on the heap, each as long as gm_length says: GM_LONGEST_BOOK bytes are too many for the
+ * stack of many a thread. */
 struct house {
     uint32_t own;
     bool up;
     size_t entered; /* the lots in its register */
     uint8_t lots[LOTS][GM_DECLARATION_BYTES];
     size_t len;
-    uint8_t book[GM_LONGEST_BOOK];
+    uint8_t *book, *worked;
 };
 
 /* A message or a request on its way. */
@@ -264,21 +267,35 @@ static bool loses_power(struct house *house, const gm_outcome *gave) {
         return false;
     }
     house->up = false;
-    memset(house->book, 0, sizeof house->book);
+    memset(house->book, 0, house->len);
+    memset(house->worked, 0, house->len);
     return true;
 }
 
 /* ---- a call: on a copy, stored, then what it gave leaves */
 
-static bool settle(struct house *house, uint32_t from, const uint8_t *worked, const gm_outcome *gave) {
+/* The copy that the next call works on. */
+static uint8_t *copy_book(struct house *house) {
+    memcpy(house->worked, house->book, house->len);
+    return house->worked;
+}
+
+/* Puts the copy in the book's place; the next call works on what was the book. */
+static void put_in_place(struct house *house) {
+    uint8_t *before = house->book;
+    house->book = house->worked;
+    house->worked = before;
+}
+
+static bool settle(struct house *house, uint32_t from, const gm_outcome *gave) {
     tell(gave);
     if (gave->answer != GM_ACCEPTED) {
-        return memcmp(worked, house->book, house->len) == 0;
+        return memcmp(house->worked, house->book, house->len) == 0;
     }
-    if (!store(house->own, worked, house->len, gave)) {
+    if (!store(house->own, house->worked, house->len, gave)) {
         return false;
     }
-    memcpy(house->book, worked, house->len);
+    put_in_place(house);
     if (loses_power(house, gave)) {
         return !gave->delivers || start(house);
     }
@@ -295,21 +312,17 @@ static bool settle(struct house *house, uint32_t from, const uint8_t *worked, co
 }
 
 static bool publish(struct house *house, uint32_t number, const uint8_t *declaration) {
-    uint8_t worked[GM_LONGEST_BOOK];
-    memcpy(worked, house->book, house->len);
-    gm_outcome gave = gm_publish(worked, house->len, number, declaration);
+    gm_outcome gave = gm_publish(copy_book(house), house->len, number, declaration);
     gm_declaration of;
     gm_declaration_from_bytes(&of, declaration);
     printf("house %u publishes lot %u at number %u: ", (unsigned)house->own, (unsigned)of.lot, (unsigned)number);
-    return settle(house, house->own, worked, &gave);
+    return settle(house, house->own, &gave);
 }
 
 static bool receive(struct house *house, uint64_t from, const uint8_t *bytes, size_t len) {
-    uint8_t worked[GM_LONGEST_BOOK];
-    memcpy(worked, house->book, house->len);
-    gm_outcome gave = gm_receive(worked, house->len, gm_house(from), bytes, len);
+    gm_outcome gave = gm_receive(copy_book(house), house->len, gm_house(from), bytes, len);
     printf("house %u hears %s from house %llu: ", (unsigned)house->own, kind_of(bytes, len), (unsigned long long)from);
-    bool settled = settle(house, gm_house(from), worked, &gave);
+    bool settled = settle(house, gm_house(from), &gave);
     if (gave.answer == GM_CONFLICT) {
         keep_evidence(house, gm_house(from), bytes, len);
     }
@@ -332,6 +345,11 @@ static bool open_all(void) {
         house->own = own;
         house->up = true;
         house->len = size.length;
+        house->book = malloc(house->len);
+        house->worked = malloc(house->len);
+        if (house->book == NULL || house->worked == NULL) {
+            return false;
+        }
         uint8_t answer = gm_open(house->book, house->len, HOUSES, NUMBERS, own, DOWN, LIMIT, SEASON, sheet, sizeof sheet);
         printf("house %u opens its book: %s\n", (unsigned)own, gm_answer_text(answer));
         if (answer != GM_ACCEPTED || !store(own, house->book, house->len, &nothing)) {
@@ -339,6 +357,13 @@ static bool open_all(void) {
         }
     }
     return true;
+}
+
+static void free_all(void) {
+    for (uint32_t own = 0; own < HOUSES; own++) {
+        free(houses[own].book);
+        free(houses[own].worked);
+    }
 }
 
 /* Brings each copy once. "What arrives meanwhile is lost." What comes to the liar once it lies, nobody hears. */
@@ -470,8 +495,10 @@ int main(int count, char **words) {
     if (count > 1) {
         folder = words[1];
     }
-    if (!run()) {
-        printf("the house stopped: a book was not stored, not recovered or not as it was\n");
+    bool went_well = run();
+    free_all();
+    if (!went_well) {
+        printf("the house stopped: a book had no memory, or was not stored, not recovered or not as it was\n");
         return 1;
     }
     return 0;

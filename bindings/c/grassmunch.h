@@ -19,9 +19,10 @@
 #include <string.h>
 
 /* The version: the first number changes where the bytes of a book or a message change, or a call. A season is finished with the first
- * number that it was opened with, or with one that goes with it: 3 goes with 2, and 4 and 5 with no other (CHANGELOG.md). */
-#define GM_VERSION "5.0.0"
-#define GM_VERSION_MAJOR 5
+ * number that it was opened with, or with one that goes with it: 3 goes with 2, 6 with 5 in a season of at most 16 houses, and 4 with no
+ * other (CHANGELOG.md). */
+#define GM_VERSION "6.0.0"
+#define GM_VERSION_MAJOR 6
 #define GM_VERSION_MINOR 0
 #define GM_VERSION_PATCH 0
 
@@ -32,8 +33,18 @@ extern "C" {
 #define GM_ASSERT(truth, sentence) _Static_assert(truth, sentence)
 #endif
 
-/* Sizes in bytes. The longest book is that of 16 houses with 4 numbers each. */
-enum { GM_DECLARATION_BYTES = 20, GM_SHEET_BYTES = 22, GM_MESSAGE_BYTES = 36, GM_REQUEST_BYTES = 11, GM_LONGEST_BOOK = 47171 };
+/* The most houses, and the most numbers of each: n is 1 to 31, S is 1 to 4. Then sizes in bytes. The longest book is that of the most
+ * houses with the most numbers: 31 bytes, one for each house, and 21 for each slot; 169,406 in all, too many for the stack of many a
+ * thread. gm_length gives each book's own length. */
+enum {
+    GM_MOST_HOUSES = 31,
+    GM_MOST_NUMBERS = 4,
+    GM_DECLARATION_BYTES = 20,
+    GM_SHEET_BYTES = 22,
+    GM_MESSAGE_BYTES = 36,
+    GM_REQUEST_BYTES = 11,
+    GM_LONGEST_BOOK = 31 + GM_MOST_HOUSES + 21 * (GM_MOST_NUMBERS + GM_MOST_NUMBERS * GM_MOST_HOUSES * (2 * GM_MOST_HOUSES + 3))
+};
 
 /* "Where several apply, the first in the call's order is given." */
 enum gm_answer {

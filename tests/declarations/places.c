@@ -1,5 +1,5 @@
-/* Prints the size of each struct that a call hands back and the place of each field, as a C compiler has them: rows of docs/HOUSE.md's
- * table. `rows.h` is made of the header by rows.awk. */
+/* Prints each of the header's sizes; and the size of each struct that a call hands back and the place of each field, as a C compiler has
+ * them: rows of docs/HOUSE.md's table. `rows.h` is made of the header by rows.awk. */
 #include "grassmunch.h"
 
 #include <stdio.h>
@@ -15,6 +15,7 @@
 #define END                                                                                                                                  \
     printf(" |\n%s", between + 1);                                                                                                           \
     }
+#define SIZE(name) printf("%s = %d\n", #name, name);
 
 int main(void) {
 #include "rows.h"

@@ -1,5 +1,6 @@
 //! Prints what places.c prints, as the Rust compiler has it of ffi.rs; and builds only where each struct there has the header's fields and
-//! no more, each of its type, and each call takes and hands back what the header says. `rows.rs` is made of the header by rows.awk.
+//! no more, each of its type, each call takes and hands back what the header says, and each size is there. `rows.rs` is made of the header
+//! by rows.awk.
 #![allow(dead_code, non_camel_case_types)]
 
 mod ffi;
@@ -16,12 +17,14 @@ macro_rules! declared {
     (
         $(struct $name:ident = $of:ident { $($field:ident: $type:ty,)* })*
         $(fn $call:ident($($taken:ty,)*) -> $back:ty;)*
+        $(size $named:ident = $number:ident;)*
     ) => {
         $(type $name = ffi::$of;)*
         $(const _: fn($name) = |$name { $($field),* }| { $(let _: $type = $field;)* };)*
         $(const _: unsafe extern "C" fn($($taken),*) -> $back = ffi::$call;)*
 
         fn main() {
+            $(println!("{} = {}", stringify!($named), ffi::$number);)*
             $(
                 let places = [$(format!("{} {}", stringify!($field), offset_of!($name, $field))),*];
                 let size = size_of::<$name>();

@@ -1,5 +1,5 @@
-# Reads a header as clang prints it, and writes what it declares: to the file `c` a line of macros for each struct that a call hands back,
-# and to the file `rust` one macro with each such struct and each call, in Rust's words for a type.
+# Reads a header as clang prints it, and writes what it declares: to the file `c` a line of macros for each struct that a call hands back
+# and for each size, and to the file `rust` one macro with each such struct, each call and each size, in Rust's words for a type.
 
 # A parameter: `TYPE NAME`, `TYPE *NAME`, `const TYPE *NAME` or `const TYPE NAME[SIZE]`.
 function parameter(text, word) {
@@ -25,6 +25,12 @@ function in_ffi(name, part, count, k, made) {
 }
 
 { sub(/;$/, "") }
+# The sizes stand in the one enum that has no name.
+/^enum / { unnamed = $0 == "enum {" }
+unnamed && /^    GM_[A-Z_]+ = / {
+    print "SIZE(" $1 ")" > c
+    sizes = sizes "size " $1 " = " substr($1, 4) ";\n"
+}
 /^typedef struct / { in_c = in_rust = "" }
 /^    [a-zA-Z0-9_]+ [a-z]+(\[[0-9]+\])?$/ {
     name = $2
@@ -50,4 +56,4 @@ function in_ffi(name, part, count, k, made) {
     for (k = 1; k <= count; k++) types = types parameter(each[k]) ", "
     calls = calls "fn " name "(" types ") -> " $1 ";\n"
 }
-END { print "declared! {\n" structs calls "}" > rust }
+END { print "declared! {\n" structs calls sizes "}" > rust }

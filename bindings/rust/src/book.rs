@@ -6,9 +6,9 @@ use std::fmt;
 /// What all honest houses open with, the same at each; its own number a house gives beside it.
 #[derive(Clone, Copy, Debug, PartialEq)]
 pub struct Opening {
-    /// The houses: 1 to 16.
+    /// The houses: 1 to 31, [`Book::MOST_HOUSES`].
     pub n: u32,
-    /// The entry numbers of each sender: 1 to 4.
+    /// The entry numbers of each sender: 1 to 4, [`Book::MOST_NUMBERS`].
     pub s: u32,
     /// "Up to f honest houses may be down": 0 to 4, and 2f is below n.
     pub f: u32,
@@ -90,6 +90,26 @@ pub struct Entry {
 /// assert_eq!(Book::from_bytes(kept), Ok(book));
 /// # Ok::<(), Refusal>(())
 /// ```
+///
+/// A book's bytes are on the heap, and so are a copy's. The longest book is longer than the stack of this thread:
+///
+/// ```
+/// use grassmunch::{Book, Declaration, Gate, Opening, Refusal, Sheet};
+/// const STACK: usize = 128 * 1024;
+/// const { assert!(STACK < Book::LONGEST) };
+/// let house = std::thread::Builder::new().stack_size(STACK).spawn(|| {
+///     let sheet = Sheet { cap: 20, moisture: Gate::Open, conductivity: Gate::Open };
+///     let mut book = Book::open(&Opening { n: 31, s: 4, f: 0, d: 1, season: 2026, sheet }, 30)?;
+///     let stored = |_: &Book, _: Option<&Declaration>| Ok::<(), Refusal>(());
+///     let send = book.publish(3, &Declaration::new(77, 40, 800, 17.5, 0.5))?.store(stored)?.message.unwrap();
+///     assert!(book.receive(30, &send)?.store(stored)?.message.is_some());
+///     assert_eq!(book.receive(30, &send).err(), Some(Refusal::AlreadyAccepted));
+///     assert_eq!((book.come_back()?.len(), book.all_sent().count()), (11, 2));
+///     Book::from_bytes(book.into_bytes())
+/// });
+/// assert!(house.unwrap().join().unwrap()?.waiting()?.is_some());
+/// # Ok::<(), Refusal>(())
+/// ```
 #[derive(Clone, PartialEq, Eq)]
 pub struct Book(Vec<u8>);
 
@@ -98,8 +118,8 @@ pub struct Book(Vec<u8>);
 /// ```
 /// use grassmunch::{Book, Gate, Opening, Refusal, Sheet};
 /// let sheet = Sheet { cap: 20, moisture: Gate::Open, conductivity: Gate::Open };
-/// let book = Book::open(&Opening { n: 16, s: 4, f: 2, d: 8, season: 2026, sheet }, 5)?;
-/// assert_eq!(format!("{book:?}"), "Book { n: 16, s: 4, own: 5, season: 2026, f: 2, d: 8, bytes: 47171 }");
+/// let book = Book::open(&Opening { n: 31, s: 4, f: 2, d: 8, season: 2026, sheet }, 5)?;
+/// assert_eq!(format!("{book:?}"), "Book { n: 31, s: 4, own: 5, season: 2026, f: 2, d: 8, bytes: 169406 }");
 /// # Ok::<(), Refusal>(())
 /// ```
 impl fmt::Debug for Book {
@@ -117,15 +137,53 @@ impl fmt::Debug for Book {
 }
 
 impl Book {
-    /// The length of the longest book, that of 16 houses with 4 numbers each.
-    pub const LONGEST: usize = 47_171;
+    /// The most houses, numbered 0 to 30. With f at zero ten of them may be wrong: 21 ECHOes give a READY, and so do 11 READYs; 21 READYs
+    /// deliver.
+    ///
+    /// ```
+    /// use grassmunch::{Book, Declaration, Entry, Gate, Kind, Message, Opening, Refusal, Sheet};
+    /// let sheet = Sheet { cap: 20, moisture: Gate::Open, conductivity: Gate::Open };
+    /// let opening = Opening { n: Book::MOST_HOUSES, s: Book::MOST_NUMBERS, f: 0, d: 1, season: 2026, sheet };
+    /// assert_eq!(Book::open(&Opening { n: 32, ..opening }, 30), Err(Refusal::NotAllowed));
+    /// assert_eq!(Book::open(&opening, 31), Err(Refusal::NotAllowed));
+    /// let mut book = Book::open(&opening, 30)?;
+    ///
+    /// // the last sender at its last number; there is no house 31, and no sender 31
+    /// let declaration = Declaration::new(77, 40, 800, 17.5, 0.5);
+    /// let of = |kind, sender, number| Message { kind, season: 2026, sender, number, declaration }.to_bytes();
+    /// assert!(book.receive_in_place(30, &of(Kind::Send, 30, 3))?.message.is_some());
+    /// assert_eq!(book.waiting(), Ok(Some(Entry { number: 3, sender: 30 })));
+    /// assert_eq!(book.receive_in_place(31, &of(Kind::Echo, 30, 3)), Err(Refusal::NotInBook));
+    /// assert_eq!(book.receive_in_place(30, &of(Kind::Echo, 31, 3)), Err(Refusal::NotInBook));
+    ///
+    /// // house 10 is the eleventh, and house 20 the one with which they are 21
+    /// for house in 0..31 {
+    ///     let gave = book.receive_in_place(house, &of(Kind::Echo, 30, 3))?;
+    ///     assert_eq!((gave.message.is_some(), gave.delivery.is_some()), (house == 20, false));
+    /// }
+    /// for house in 0..31 {
+    ///     let gave = book.receive_in_place(house, &of(Kind::Ready, 30, 2))?;
+    ///     assert_eq!((gave.message.is_some(), gave.delivery.is_some()), (house == 10, house == 20));
+    /// }
+    /// # Ok::<(), Refusal>(())
+    /// ```
+    pub const MOST_HOUSES: u32 = ffi::MOST_HOUSES;
+
+    /// The most entry numbers of each sender.
+    pub const MOST_NUMBERS: u32 = ffi::MOST_NUMBERS;
+
+    /// The length of the longest book, that of the most houses with the most numbers.
+    pub const LONGEST: usize = ffi::LONGEST_BOOK;
 
     /// The length of a book, or answer 9.
     ///
     /// ```
     /// use grassmunch::{Book, Refusal};
-    /// assert_eq!(Book::length(16, 4), Ok(Book::LONGEST));
-    /// assert_eq!(Book::length(17, 4), Err(Refusal::NotAllowed));
+    /// assert_eq!((Book::MOST_HOUSES, Book::MOST_NUMBERS, Book::LONGEST), (31, 4, 169_406));
+    /// assert_eq!(Book::length(31, 4), Ok(Book::LONGEST));
+    /// assert_eq!(Book::length(32, 4), Err(Refusal::NotAllowed));
+    /// assert_eq!(Book::length(31, 5), Err(Refusal::NotAllowed));
+    /// assert_eq!(Book::length(16, 4), Ok(47_171)); // as it was with up to 16 houses
     /// ```
     pub fn length(n: u32, s: u32) -> Result<usize, Refusal> {
         let length = ffi::length(n, s);

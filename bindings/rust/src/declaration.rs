@@ -1,5 +1,7 @@
 //! A declaration: 20 bytes, and the five things that they say.
 
+use crate::ffi;
+
 /// Lot, colonies, kilograms, moisture and conductivity, kept as the 20 bytes that are sent and compared.
 ///
 /// "Two declarations are the same exactly when all 20 bytes are", and a NaN's bits stay as they are.
@@ -16,7 +18,7 @@ pub struct Declaration([u8; Declaration::BYTES]);
 
 impl Declaration {
     /// Bytes of a declaration.
-    pub const BYTES: usize = 20;
+    pub const BYTES: usize = ffi::DECLARATION_BYTES;
 
     /// The declaration of these five things: moisture in percent, conductivity in mS/cm.
     pub const fn new(

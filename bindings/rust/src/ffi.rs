@@ -1,11 +1,26 @@
-//! The archive's ten calls and the structs that they hand back, as bindings/c/grassmunch.h has them: the one file with `unsafe`.
+//! The archive's ten calls, the structs that they hand back and the sizes, as bindings/c/grassmunch.h has them: the one file with `unsafe`.
 //!
-//! The header is the source, and tests/declarations.sh holds this file to it: each call and what it takes, each struct and its fields,
-//! in order and in place. It needs nothing else of this crate, so that a test or a measure can take it alone.
+//! The header is the source, and tests/declarations.sh holds this file to it: each size, each call and what it takes, each struct and its
+//! fields, in order and in place. It needs nothing else of this crate, so that a test or a measure can take it alone.
 //!
 //! The safe functions here take slices and arrays, so that pointers and lengths are right; and a book by `&mut`, so that it
 //! overlaps no other argument. The archive's contracts have no `requires`: every call is allowed with every input.
 #![allow(unsafe_code)]
+
+/// The most houses.
+pub const MOST_HOUSES: u32 = 31;
+/// The most entry numbers of each sender.
+pub const MOST_NUMBERS: u32 = 4;
+/// Bytes of a declaration.
+pub const DECLARATION_BYTES: usize = 20;
+/// Bytes of a sheet.
+pub const SHEET_BYTES: usize = 22;
+/// Bytes of a message on an entry.
+pub const MESSAGE_BYTES: usize = 36;
+/// Bytes of a request for help.
+pub const REQUEST_BYTES: usize = 11;
+/// Bytes of the longest book, that of the most houses with the most numbers.
+pub const LONGEST_BOOK: usize = 169_406;
 
 /// What [`length`] hands back.
 #[repr(C)]

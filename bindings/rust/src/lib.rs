@@ -17,7 +17,7 @@ mod sheet;
 mod worked;
 
 /// The version, which is the archive's and the header's too. A season is finished with the first number that it was opened with, or with
-/// one that goes with it: 3 goes with 2, and 4 and 5 with no other (CHANGELOG.md).
+/// one that goes with it: 3 goes with 2, 6 with 5 in a season of at most 16 houses, and 4 with no other (CHANGELOG.md).
 pub const VERSION: &str = env!("CARGO_PKG_VERSION");
 
 pub use book::{Book, Entry, Opening, Outcome};

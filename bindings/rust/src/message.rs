@@ -71,10 +71,10 @@ pub struct Message {
 
 impl Message {
     /// Bytes of a message.
-    pub const BYTES: usize = 36;
+    pub const BYTES: usize = ffi::MESSAGE_BYTES;
 
     /// Bytes of a request.
-    pub const REQUEST_BYTES: usize = 11;
+    pub const REQUEST_BYTES: usize = ffi::REQUEST_BYTES;
 
     /// "Reading alone answers 2 or gives the same five things"; of a request it gives the season.
     ///

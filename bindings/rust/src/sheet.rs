@@ -71,7 +71,7 @@ pub struct Sheet {
 
 impl Sheet {
     /// Bytes of a sheet.
-    pub const BYTES: usize = 22;
+    pub const BYTES: usize = ffi::SHEET_BYTES;
 
     /// Its 22 bytes: the cap, then for each gate a kind and two limits.
     pub const fn to_bytes(&self) -> [u8; Self::BYTES] {

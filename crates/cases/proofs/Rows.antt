@@ -11,8 +11,8 @@ use Rattle.message.specs.Message.{readAs, readOf, writtenOf}
 use Rattle.meaning.specs.Opening.{lengthAnswer}
 use Rattle.calls.specs.Entered.{handed}
 use Rattle.calls.specs.Call.{received}
-use Rattle.cases.specs.Row.{Heard, Row, card, short, size, judge, form, calls, says, messageFor, delivered, freshBook, Calls, Holds, All}
-use Rattle.cases.specs.Row.{Has}
+use Rattle.cases.specs.Row.{Heard, Row, card, short, size, judge, form, calls, says, messageFor, delivered, freshBook, Calls, Holds}
+use Rattle.cases.specs.Row.{All, Has}
 use Rattle.cases.proofs.Tested.{Tested, passed, failed, after, both, either, number, atMost}
 use Rattle.cases.proofs.Values.{sized, written, told, outcome}
 

@@ -6,8 +6,9 @@ use hand::Came;
 use hand::answered;
 use hand::nothing;
 use octets::wide;
+use post::APART;
+use post::BOOKS;
 use post::COPIES;
-use post::ROOM;
 use post::bit;
 use post::byte;
 use post::copy;
@@ -90,14 +91,12 @@ fn on_book(book: &[u8], r: Numbers) -> Came {
 
 // A call on the book of a house, where the desk has it.
 fn on_place(desk: &[u8], r: Numbers, own: u32, bytes: u32) -> Came {
-    let mut r = r;
-    if own < 16 {
-        let first = own as usize * 1024;
-        let end = first + bytes as usize;
-        if end <= ROOM && end <= desk.len() {
-            return on_book(&desk[first..end], r);
-        }
+    let first = BOOKS + APART * own as usize;
+    let end = first + bytes as usize;
+    if end <= desk.len() {
+        return on_book(&desk[first..end], r);
     }
+    let mut r = r;
     r[WRONG] = 1;
     nothing(r)
 }

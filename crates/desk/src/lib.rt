@@ -10,7 +10,8 @@ use hand::given;
 use hand::nothing;
 use hand::read;
 use hand::reading_of;
-use post::ROOM;
+use post::APART;
+use post::BOOKS;
 use post::bit;
 use script::BYTES;
 use script::CALL;
@@ -83,16 +84,14 @@ fn on_book(book: &mut [u8], r: Numbers, hand: [u8; 40]) -> Came {
     }
 }
 
-// A call on the book of a house. Books begin 1024 bytes apart, a longer one has the room of those after it, and none goes past ROOM.
+// A call on the book of a house, where the desk has room for it.
 fn on_place(desk: &mut [u8], r: Numbers, hand: [u8; 40], own: u32, bytes: u32) -> Came {
-    let mut r = r;
-    if own < 16 {
-        let first = own as usize * 1024;
-        let end = first + bytes as usize;
-        if end <= ROOM && end <= desk.len() {
-            return on_book(&mut desk[first..end], r, hand);
-        }
+    let first = BOOKS + APART * own as usize;
+    let end = first + bytes as usize;
+    if end <= desk.len() {
+        return on_book(&mut desk[first..end], r, hand);
     }
+    let mut r = r;
     r[WRONG] = 1;
     nothing(r)
 }

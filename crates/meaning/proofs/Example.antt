@@ -9,12 +9,11 @@ use Rattle.card.specs.Card.{largest, housesOk, downOk}
 use Rattle.sheet.specs.Kept.{sheetBytes, sheetAt, isSheet, sheetLegalAt}
 use Rattle.entry.specs.Entry.{Decl}
 use Rattle.meaning.specs.Slot.{slotAt, putSlot}
-use Rattle.meaning.specs.Layout.{mostNumbers, numbersOk, mostLimit, lengthOf, slotPlace, entrySlot, sendSlot, echoSlot, readySlot, readySentSlot}
-use Rattle.meaning.specs.Layout.{deliveredSlot}
+use Rattle.meaning.specs.Layout.{mostNumbers, numbersOk, mostLimit, lengthOf, slotPlace, entrySlot, sendSlot, echoSlot, readySlot}
+use Rattle.meaning.specs.Layout.{readySentSlot, deliveredSlot, slotLength}
 use Rattle.meaning.specs.Book.{look, write}
 use Rattle.meaning.specs.Legal.{legal}
 use Rattle.meaning.specs.Opening.{opened, lengthAnswer}
-use Rattle.meaning.specs.Layout.{slotLength}
 
 -- cap 20, moisture at most 20.0, conductivity open
 abbrev sheet : List ℕ

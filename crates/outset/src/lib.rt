@@ -71,13 +71,19 @@ fn sheet_of(r: Numbers) -> [u8; 22] {
 
 // ---- the calls
 
+// A number as the script has them, or 0.
+fn narrow(x: u64) -> u32 {
+    if x <= 4294967295 {
+        return x as u32;
+    }
+    0
+}
+
 fn length(r: Numbers) -> Numbers {
     let found = sizes::length_of(r[HOUSES], r[NUMBERS]);
     let mut r = answered(r, found.answer);
     r[TAIL] = 2 * bit(found.answer == 0);
-    if found.length < 65536 {
-        r[BYTES] = found.length as u32;
-    }
+    r[BYTES] = narrow(found.length);
     r
 }
 
@@ -89,13 +95,6 @@ pub fn with_length(r: Numbers) -> Numbers {
         return r;
     }
     r
-}
-
-fn narrow(x: usize) -> u32 {
-    if x < 65536 {
-        return x as u32;
-    }
-    0
 }
 
 // The wall card's column, or zeros where it has none.
@@ -116,10 +115,10 @@ fn counts_of(n: u32, f: u32) -> Counts {
 fn column(r: Numbers) -> Numbers {
     let counts = counts_of(r[HOUSES], r[DOWN_LIMIT]);
     let mut r = r;
-    r[T] = narrow(counts.t);
-    r[QUORUM] = narrow(counts.quorum);
-    r[AMPLIFY] = narrow(counts.amplify);
-    r[DELIVER] = narrow(counts.deliver);
+    r[T] = narrow(counts.t as u64);
+    r[QUORUM] = narrow(counts.quorum as u64);
+    r[AMPLIFY] = narrow(counts.amplify as u64);
+    r[DELIVER] = narrow(counts.deliver as u64);
     r[WRONG] = bit(counts.deliver == 0);
     r
 }

@@ -1,24 +1,32 @@
 // A season's post, as bytes: how each house stands, and two lists, the copies sent and the requests for help, each with the house it is
-// from, the house it goes to, whether it came, and its bytes. They stand in one buffer, after the books.
-ghost use Prim.Native.Nat.{_≤_, _<_};
-
-// The bytes on which books lie.
-pub const ROOM: usize = 17000;
+// from, the house it goes to, whether it came, and its bytes. They stand in one buffer, before the books. Its first bytes are for what a
+// list has no room for.
+ghost use Prim.Native.Nat.{_+_, _≤_, _<_};
 
 // For each house whether it is down, how often it returned, whether it delivered.
-pub const DOWN: u32 = 17000;
+pub const DOWN: u32 = 100;
 
-pub const RETURNS: u32 = 17012;
+pub const RETURNS: u32 = 150;
 
-pub const DELIVERED: u32 = 17024;
+pub const DELIVERED: u32 = 200;
 
 // The lists: how many there are, how many go to honest houses, how many are READYs, and from LISTED on each.
-pub const COPIES: u32 = 17036;
+pub const COPIES: u32 = 250;
 
-pub const REQUESTS: u32 = 20036;
+pub const REQUESTS: u32 = 3000;
 
 // From, to, whether it came, and its bytes.
 const LISTED: u32 = 40;
+
+// The books: where the first begins, and how far apart they do. A longer one has the room of those after it.
+pub const BOOKS: usize = 6000;
+
+pub const APART: usize = 1024;
+
+// The longest book, that of 31 houses with 4 numbers each; and the whole buffer.
+const LONGEST: usize = 169406;
+
+pub const DESK: usize = BOOKS + LONGEST;
 
 // ---- bytes
 
@@ -85,12 +93,12 @@ pub fn count_if(desk: &mut [u8], at: u32, off: u32, is_one: bool) {
     }
 }
 
-// Where number k of a list begins, counted from 1.
+// Where number k of a list begins, counted from 1. It ends before the books.
 pub fn listed(list_at: u32, k: u32) -> u32
-    ensures { λ r. ⌜ r < 70000 ⌝ }
+    ensures { λ r. ⌜ r + 40 ≤ 6000 ⌝ }
 {
     if k < 64 {
-        if list_at < 65536 {
+        if list_at <= REQUESTS {
             return list_at + k * LISTED;
         }
     }
@@ -98,7 +106,7 @@ pub fn listed(list_at: u32, k: u32) -> u32
 }
 
 fn list(desk: &mut [u8], at: u32, from: u32, to: u32, message: [u8; 36])
-    requires { ⌜ at < 70000 ⌝ }
+    requires { ⌜ at + 40 ≤ 6000 ⌝ }
 {
     put(desk, at, 0, from);
     put(desk, at, 1, to);
@@ -140,10 +148,12 @@ pub fn is_left(desk: &[u8], list_at: u32, k: u32) -> bool {
     false
 }
 
-// Nothing is posted, and no house has gone down.
+// Nothing is posted, and no house has gone down, returned or delivered.
 pub fn begin(desk: &mut [u8]) {
     let none: [u8; 0] = [];
     copy(desk, DOWN, &none, 0);
+    copy(desk, RETURNS, &none, 0);
+    copy(desk, DELIVERED, &none, 0);
     copy(desk, COPIES, &none, 0);
     copy(desk, REQUESTS, &none, 0);
 }

@@ -1,7 +1,8 @@
 // The steps of a season that call on no book: a copy is taken from the post, what is given goes to all, a house goes down, how a house
 // stands, how many copies there are; and what is told of each.
-ghost use Prim.Native.Nat.{_*_, _≤_, _<_};
+ghost use Prim.Native.Nat.{_+_, _*_, _≤_, _<_};
 use octets::wide;
+use post::BOOKS;
 use post::COPIES;
 use post::DELIVERED;
 use post::DOWN;
@@ -143,7 +144,7 @@ fn fares(desk: &[u8], r: Numbers) -> u32 {
 }
 
 fn arrive(desk: &[u8], r: Numbers, at: u32, length: u32) -> Taken
-    requires { ⌜ at < 70000 ⌝ }
+    requires { ⌜ at + 40 ≤ 6000 ⌝ }
 {
     let mut hand: [u8; 40] = [0; 40];
     copy(&mut hand, 0, desk, at + 3);
@@ -195,7 +196,7 @@ pub fn take(desk: &mut [u8], r: Numbers) -> Taken {
 
 // Byte x of the book of house 0 becomes another.
 fn spoil(s: &[u8], desk: &mut [u8], r: Numbers) {
-    put(desk, 0, r[FREE], r[BECOMES]);
+    put(desk, BOOKS as u32, r[FREE], r[BECOMES]);
     told(s, r);
 }
 

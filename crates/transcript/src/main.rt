@@ -2,6 +2,7 @@
 // was given and what was delivered. A line that begins with '>' is a call, with '#' or ':' none; every other line is told as it is.
 use libc::STDIN_FILENO;
 use post::COPIES;
+use post::DESK;
 use script::CALL;
 use script::FREE;
 use script::LINE;
@@ -117,7 +118,7 @@ fn play(s: &[u8], desk: &mut [u8]) {
 
 fn main() {
     let mut space = io::large_buffer();
-    let mut desk: [u8; 23000] = [0; 23000];
+    let mut desk: [u8; DESK] = [0; DESK];
     let n = io::read_full(STDIN_FILENO, &mut space);
     play(&space[..n], &mut desk);
 }
