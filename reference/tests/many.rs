@@ -17,6 +17,11 @@ fn books_of_another_n() {
 }
 
 #[test]
+fn books_that_are_off_by_16_bits() {
+    many::off_by_16_bits(&mut Reference);
+}
+
+#[test]
 fn houses_and_senders_at_the_edge() {
     many::at_the_edge(&mut Reference);
 }

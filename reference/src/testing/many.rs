@@ -124,6 +124,31 @@ pub fn of_another_n(library: &mut impl Library) {
     sides.are_enough(usize::from(MOST_HOUSES), "a legal book");
 }
 
+/// Books that are longer or shorter than they have to be by what a length of 16 bits leaves out, and openings in buffers
+/// of such lengths.
+pub fn off_by_16_bits(library: &mut impl Library) {
+    let sizes = [(4, 1), (FEW_HOUSES + 1, 1), (MOST_HOUSES, MOST_NUMBERS)];
+    let mut shorter = 0;
+    for (n, s) in sizes {
+        let book = fresh([n, s, n - 1, 0, 3], SEASON, &open_sheet());
+        let lengths = [
+            Some(book.len() + (1 << 16)),
+            book.len().checked_sub(1 << 16),
+        ];
+        for length in lengths.into_iter().flatten() {
+            let mut other = book.clone();
+            other.resize(length, 0);
+            illegal(library, &other, &format!("{length} bytes, {n} and {s}"));
+            let numbers = [n, s, n - 1, 0, 3].map(u32::from);
+            let mut buffer = vec![0xEE; length];
+            assert_eq!(opens(library, &mut buffer, numbers), 11, "{length} bytes");
+            assert!(buffer == vec![0xEE; length], "the buffer of {length} bytes");
+            shorter += usize::from(length < book.len());
+        }
+    }
+    assert_eq!(shorter, 1, "the longest book, shorter");
+}
+
 /// "House number, sender or entry number not in the book": each kind and a request from houses at the edges, and
 /// entries of senders there. What is in the book is recorded in its own slot, and no other byte changes.
 pub fn at_the_edge(library: &mut impl Library) {

@@ -62,7 +62,10 @@ pub const COUNTED: [Check; 39] = [
     ("one house more than may be", |pair, _, _| {
         many::opened_at_the_edge(pair);
     }),
-    ("books of another n", |pair, _, _| many::of_another_n(pair)),
+    ("books of another n or length", |pair, _, _| {
+        many::of_another_n(pair);
+        many::off_by_16_bits(pair);
+    }),
     ("houses and senders around the last", |pair, _, _| {
         many::at_the_edge(pair);
     }),
