@@ -4,7 +4,7 @@
 use crate::common::{self, all_caught, all_differ, all_let_pass, Caught, Slips};
 use reference::testing::forms::{put, slot_at, FEW_HOUSES};
 use reference::testing::{books, many, refusals, requests, returns, rows, vouchers};
-use reference::{Kind, Message, Outcome, Reference, SentAnswer, Waiting};
+use reference::{Kind, Message, Outcome, Reference, SentAnswer, Waiting, MOST_HOUSES};
 
 #[test]
 fn openings_at_the_edge() {
@@ -231,8 +231,8 @@ const BAD_BYTE: Check = ("one bad byte", |library| {
 const WAITS: Check = ("one entry that waits", |library| {
     many::one_waits(library);
 });
-const CARD: Check = ("the counts for every n and f", |library| {
-    rows::card(library);
+const CARD: Check = ("the counts of many houses", |library| {
+    rows::card(library, FEW_HOUSES + 1..=MOST_HOUSES);
 });
 const THRESHOLDS: Check = ("the counts on any legal book", |library| {
     vouchers::every_count(library, 2026);

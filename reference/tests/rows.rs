@@ -1,7 +1,7 @@
 //! Document 01's rows and run cases.
 
 use reference::testing::{rows, vouchers};
-use reference::{Counts, Reference};
+use reference::{Counts, Reference, MOST_HOUSES};
 
 #[test]
 fn the_card_is_its_formulas() {
@@ -61,7 +61,7 @@ fn the_counts_on_any_legal_book() {
 
 #[test]
 fn rows_1_to_3_and_10_to_12() {
-    rows::card(&mut Reference);
+    rows::card(&mut Reference, 1..=MOST_HOUSES);
 }
 
 #[test]

@@ -7,6 +7,7 @@ use reference::testing::forms::{slot_at, slots_from};
 use reference::testing::{books, openings, pairs, refusals, requests, returns, rows, vouchers};
 use reference::{
     read_request, request, Counts, Declaration, Message, Outcome, Returned, SentAnswer, Waiting,
+    MOST_HOUSES,
 };
 
 #[derive(Clone, Copy, Debug, PartialEq)]
@@ -335,7 +336,7 @@ const PAIRS_OF_OPENING: Check = ("pairs of errors of opening", |library| {
     pairs::opening(library);
 });
 const CARD: Check = ("the counts for every n and f", |library| {
-    rows::card(library);
+    rows::card(library, 1..=MOST_HOUSES);
 });
 const THRESHOLDS: Check = ("the counts on any legal book", |library| {
     vouchers::every_count(library, 2026);

@@ -5,6 +5,7 @@ use super::forms::{
 };
 use super::season::{Rules, Season};
 use crate::{Counts, Gate, Kind, Library, Outcome, MOST_DOWN, MOST_HOUSES};
+use std::ops::RangeInclusive;
 
 /// t and the echo quorum for n = 1 to 31, as the wall card prints them.
 pub const CARD: [(usize, usize); MOST_HOUSES as usize] = [
@@ -97,11 +98,11 @@ fn vouch(
     outcome
 }
 
-/// Rows 1 to 3 and 10 to 12, and the same for every n and f: ECHOes below the quorum give nothing and at
+/// Rows 1 to 3 and 10 to 12, and the same for each of these n and every f: ECHOes below the quorum give nothing and at
 /// it a READY; READYs give a READY at t+1 and a delivery at 2t+f+1. The houses vouch from the first to the last on
 /// the first sender's entry, and from the last to the first on the last sender's.
-pub fn card(library: &mut impl Library) {
-    for (n, f, counts) in all_counts() {
+pub fn card(library: &mut impl Library, sizes: RangeInclusive<u8>) {
+    for (n, f, counts) in all_counts().filter(|(n, ..)| sizes.contains(n)) {
         let houses = 0..usize::from(n);
         all_vouch(library, [n, f, 0], &counts, houses.clone());
         all_vouch(library, [n, f, n - 1], &counts, houses.rev());
