@@ -124,8 +124,8 @@ pub fn of_another_n(library: &mut impl Library) {
     sides.are_enough(usize::from(MOST_HOUSES), "a legal book");
 }
 
-/// Books that are longer or shorter than they have to be by what a length of 16 bits leaves out, and openings in buffers
-/// of such lengths.
+/// Books that are longer or shorter than they have to be by what a length of 16 bits leaves out, and openings in
+/// buffers of such lengths.
 pub fn off_by_16_bits(library: &mut impl Library) {
     let sizes = [(4, 1), (FEW_HOUSES + 1, 1), (MOST_HOUSES, MOST_NUMBERS)];
     let mut shorter = 0;

@@ -95,8 +95,8 @@ pub(super) fn some_of(n: u8) -> Vec<u8> {
 }
 
 /// Of every size, but of many houses some, each kind, the first, a middle and the last house, and each of the 20
-/// bytes: one bit of it is another, all but the first are, and all are, in what comes and in what stands. By a sheet to which all of
-/// that is plausible but a reading below zero, and by one to which less is.
+/// bytes: one bit of it is another, all but the first are, and all are, in what comes and in what stands. By a
+/// sheet to which all of that is plausible but a reading below zero, and by one to which less is.
 pub fn every_byte(library: &mut impl Library) {
     let (one, strict) = (honey(77, 40, 800), open_sheet());
     let lenient = sheet(u32::MAX, OPEN, OPEN);

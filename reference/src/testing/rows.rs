@@ -98,9 +98,9 @@ fn vouch(
     outcome
 }
 
-/// Rows 1 to 3 and 10 to 12, and the same for each of these n and every f: ECHOes below the quorum give nothing and at
-/// it a READY; READYs give a READY at t+1 and a delivery at 2t+f+1. The houses vouch from the first to the last on
-/// the first sender's entry, and from the last to the first on the last sender's.
+/// Rows 1 to 3 and 10 to 12, and the same for each of these n and every f: ECHOes below the quorum give nothing
+/// and at it a READY; READYs give a READY at t+1 and a delivery at 2t+f+1. The houses vouch from the first to the
+/// last on the first sender's entry, and from the last to the first on the last sender's.
 pub fn card(library: &mut impl Library, sizes: RangeInclusive<u8>) {
     for (n, f, counts) in all_counts().filter(|(n, ..)| sizes.contains(n)) {
         let houses = 0..usize::from(n);

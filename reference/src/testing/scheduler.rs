@@ -73,8 +73,8 @@ impl Order {
 type Publication = (usize, u32, Declaration);
 
 /// What the honest senders will publish: most of their numbers, at times a reading of minus zero; and some twice,
-/// with an implausible one, with one of no colonies or with a reading below zero. These come more often where houses are
-/// many, for then fewer publish.
+/// with an implausible one, with one of no colonies or with a reading below zero. These come more often where
+/// houses are many, for then fewer publish.
 fn publications(random: &mut Random, rules: &Rules, pool: &[Declaration]) -> Vec<Publication> {
     let mut all = vec![];
     let often = if rules.n <= FEW_HOUSES { 1 } else { 3 };

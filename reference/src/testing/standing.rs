@@ -148,9 +148,9 @@ pub(super) fn in_each_place(library: &mut impl Library, n: u8, sheet: &[u8; SHEE
     three.trips(library, [1 + n % 3, own, number]);
 }
 
-/// So many books of every n, of many houses fewer, reachable or not, with a sheet and declarations that are drawn. On
-/// any entry all that may stand and come is tried, by publishing and by each kind. Before that, too, what is not plausible for this
-/// reason stands there, in each place in some of the books.
+/// So many books of every n, of many houses fewer, reachable or not, with a sheet and declarations that are drawn.
+/// On any entry all that may stand and come is tried, by publishing and by each kind. Before that, too, what is
+/// not plausible for this reason stands there, in each place in some of the books.
 pub(super) fn any_book(
     library: &mut impl Library,
     seed: u64,

@@ -201,11 +201,11 @@ fn comings(n: u8, counts: &Counts) -> Vec<(Kind, Holds, usize, Holds)> {
     all
 }
 
-/// Every n and f: SENDs, ECHOes and READYs that come to an empty slot, to one that holds the same and to one
-/// that holds another declaration. To an empty slot come ECHOes and READYs that 0 to n-1 other houses vouch
-/// for, or among many houses so many as the counts are near, where the rest vouches for nothing and for another
-/// declaration; to a full one those that all others vouch for. Each with every state of the marks, "both may come of one call" among them, and with the other
-/// kinds empty and full.
+/// Every n and f: SENDs, ECHOes and READYs that come to an empty slot, to one that holds the same and to one that
+/// holds another declaration. To an empty slot come ECHOes and READYs that 0 to n-1 other houses vouch for, or
+/// among many houses so many as the counts are near, where the rest vouches for nothing and for another
+/// declaration; to a full one those that all others vouch for. Each with every state of the marks, "both may come
+/// of one call" among them, and with the other kinds empty and full.
 pub fn every_count(library: &mut impl Library, seed: u64) {
     let mut random = Random::new(seed);
     for (n, f, counts) in all_counts() {

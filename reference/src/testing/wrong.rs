@@ -126,8 +126,8 @@ impl Wrong {
         }
     }
 
-    /// How many lies there will be: so many for each entry of a sender, and among many houses more, for there are more
-    /// pairs of a wrong and an honest one. Where most are requests they are far more than d for each helper.
+    /// How many lies there will be: so many for each entry of a sender, and among many houses more, for there are
+    /// more pairs of a wrong and an honest one. Where most are requests they are far more than d for each helper.
     pub fn lies(&self, random: &mut Random) -> usize {
         let [n, h, d] = [
             usize::from(self.rules.n),

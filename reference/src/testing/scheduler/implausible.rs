@@ -1,5 +1,5 @@
-//! Seasons of every size, but of many houses some, in which what is not plausible is told and published: nothing comes of it, and it is in the
-//! way of nothing that is plausible.
+//! Seasons of every size, but of many houses some, in which what is not plausible is told and published: nothing
+//! comes of it, and it is in the way of nothing that is plausible.
 
 use super::attacks::{delivered, hand_in, Size};
 use crate::testing::forms::{declaration, honey, MINUS_ZERO};

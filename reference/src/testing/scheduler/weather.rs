@@ -109,8 +109,8 @@ impl Weather {
         let (n, h) = (usize::from(rules.n), calm.honest.len());
         let last = pick_some(random, &calm.honest, last);
         let telling = 3 * rules.entries() * (n + 1);
-        let few = if rules.n <= FEW_HOUSES { 2 } else { 0 };
-        let left = (h * most).min(TELLING / telling + few);
+        let more = if rules.n <= FEW_HOUSES { 2 } else { 0 };
+        let left = (h * most).min(TELLING / telling + more);
         let events = (left + last.len()).max(1) * random.pick(&[1, 4, 16]);
         let steps = rules.senders_entries() * (h + 2 * h * h);
         let mut others = calm.honest.clone();

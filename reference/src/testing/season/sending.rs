@@ -116,8 +116,8 @@ impl<L: Library> Season<'_, L> {
         }
     }
 
-    /// Whether the book of this house is asked about this entry: about every one; or, where houses are many, about those
-    /// of senders, those on which a call gave something, and one in eight of the others.
+    /// Whether the book of this house is asked about this entry: about every one; or, where houses are many, about
+    /// those of senders, those on which a call gave something, and one in eight of the others.
     fn is_asked(&self, house: usize, entry: usize) -> bool {
         let sender = entry % usize::from(self.rules.n);
         let given = self.houses[house].given[entry].iter().any(Option::is_some);
