@@ -1,6 +1,7 @@
 -- What this crate promises holds.
 use Prim.Native.Nat.{ℕ, _<_}
 use mathlib.Core.List.{List}
+use native.Mathlib.Omega.{arith}
 use lib.ListN.{getD}
 use borrow.Author.Tests.{lt-ltb}
 use Rattle.meaning.specs.Layout.{helpedPlace}
@@ -8,7 +9,7 @@ use Rattle.meaning.specs.Book.{nOf, limitOf, helpedOf, helpOf, moreHelp,
 use Rattle.meaning.specs.Legal.{Lent}
 use Rattle.meaning.specs.Claims.{Means, Claims}
 use Rattle.meaning.proofs.Legality.{legal-facts}
-use Rattle.meaning.proofs.Lengths.{length-most, longest, length-answered}
+use Rattle.meaning.proofs.Lengths.{length-largest, longest, length-answered}
 use Rattle.meaning.proofs.OneForm.{same-bytes}
 use Rattle.meaning.proofs.Every.{written-legal, written-bytes, written-meant, legal-exactly}
 use Rattle.meaning.proofs.Opening.{opened-refused, opened-legal, opened-bytes, opened-meant}
@@ -32,8 +33,8 @@ claims =
           record { lent = record { legal = written-legal B I; bytes = written-bytes B I }; means = written-meant B I };
       same-bytes = λ b c L M e. same-bytes b c (L .legal) (M .legal) (L .bytes) (M .bytes) e;
       long = λ b h. legal-facts b h .long;
-      length-most = length-most;
-      longest = longest;
+      length-most = omega (arith, length-largest);
+      longest = λ n s h k. omega (arith, longest n s h k);
       length-answered = length-answered;
       opened-fresh = λ b n s own f d season sheet l bytes e.
           record {

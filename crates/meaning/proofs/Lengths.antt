@@ -12,12 +12,12 @@ use Rattle.meaning.specs.Layout.{mostNumbers, numbersOk, headLength, per
 use Rattle.meaning.specs.Opening.{Length, lengthAnswer}
 use Rattle.meaning.proofs.Places.{numbers-between}
 
--- at most 180,224 bytes at the largest n and S
-pub length-most : lengthOf largest mostNumbers ≤ 180224
+-- at the largest n and S
+pub length-largest : lengthOf largest mostNumbers ≡ 169406
 unfolding lengthOf headLength slotCount perEntry largest mostNumbers
-length-most = omega arith
+length-largest = refl
 
--- and no book is longer
+-- no book is longer
 pub longest : (n s : ℕ) → housesOk n ≡ true → numbersOk s ≡ true → lengthOf n s ≤ lengthOf largest mostNumbers
 unfolding lengthOf headLength slotCount perEntry
 longest n s hn hs =
