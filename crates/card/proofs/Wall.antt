@@ -31,10 +31,8 @@ column-at z i zero k l = absurd (omega arith)
 column-at z i (suc m) zero l = ap columnOf (omega arith)
 column-at z i (suc m) (suc k) l = column-at z (suc i) m k (omega arith) ∙ ap columnOf (omega arith)
 
-pub card-is : (z : Column) (n : ℕ) → housesOk n ≡ true → getD card (n - 1) z ≡ columnOf n
-card-is z n h =
-    let b = houses-between n h in
-    column-at z 0 largest (n - 1) (omega arith) ∙ ap columnOf (omega arith)
+pub card-is : (z : Column) (i : ℕ) → i < largest → getD card i z ≡ columnOf (i + 1)
+card-is z i l = column-at z 0 largest i l ∙ ap columnOf (omega arith)
 
 -- a number of houses is written in one byte, and so is t
 pub houses-byte : (n : ℕ) → housesOk n ≡ true → n < 256

@@ -53,12 +53,21 @@ pub fn is_houses(n: u32) -> bool
     1 <= n && n as usize <= LARGEST
 }
 
-// The card's column for n houses.
+// The card's column for n houses. The card is gone through from its first column on, which compiles to tables of constants. Taken at n - 1
+// at once, the whole card is laid on the stack first.
 fn column_of(n: usize) -> Column
     requires { ⌜ housesOk n ≡ true ⌝ }
     ensures { λ r. ⌜ r ≡ columnOf n ⌝ }
 {
-    CARD[n - 1]
+    let card = CARD;
+    let mut column = card[0];
+    for i in 1..LARGEST {
+        if i == n {
+            return column;
+        }
+        column = card[i];
+    }
+    column
 }
 
 // Whether f houses of n may be down: 0 to 4, and some t fits.
