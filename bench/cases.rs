@@ -1,6 +1,7 @@
 //! The rows of the table: for each a book, a call on it, and the answer it has to give.
 
 use grassmunch::{Book, Declaration, Gate, Sheet};
+use reference::counting::{holding, Slot};
 use reference::{write, Kind};
 
 /// Document 01's four houses, the sixteen that were the most up to version 5, and the most.
@@ -48,6 +49,8 @@ pub enum Call {
     Judge,
     Write,
     Read(Vec<u8>),
+    /// Not a call of the library: the count of vouchers in a row, which is all of the book.
+    Count,
     /// Not a call of the reference: a plain pass over the book's bytes, beside the library's legality scan.
     Pass {
         house: u32,
@@ -62,6 +65,7 @@ pub struct Case {
     pub holds: &'static str,
     pub book: Vec<u8>,
     pub call: Call,
+    /// Of a count, what is counted.
     pub answer: u8,
 }
 
@@ -313,6 +317,52 @@ fn others(n: u32, rows: &mut Vec<Case>) {
     }
 }
 
+/// What a slot of a counted row holds, beside the declaration that is counted.
+#[derive(Clone, Copy, PartialEq)]
+enum Held {
+    Nothing,
+    OtherLot,
+    OtherEnd,
+    Same,
+}
+
+impl Held {
+    fn slot(self) -> Slot {
+        let mut slot = holding(&DECLARATION);
+        match self {
+            Held::Nothing => slot = [0; 21],
+            Held::OtherLot => slot[1 + 3] ^= 1,
+            Held::OtherEnd => slot[1 + 19] ^= 1,
+            Held::Same => {}
+        }
+        slot
+    }
+}
+
+/// What the slots of a row hold, four by four.
+const ROWS: [(&str, [Held; 4]); 4] = [
+    ("absent", [Held::Nothing; 4]),
+    ("other lot", [Held::OtherLot; 4]),
+    ("equal", [Held::Same; 4]),
+    (
+        "mixed",
+        [Held::Nothing, Held::OtherLot, Held::OtherEnd, Held::Same],
+    ),
+];
+
+fn row(n: u32, held: [Held; 4]) -> impl Iterator<Item = Held> {
+    held.into_iter().cycle().take(n as usize)
+}
+
+/// The count by itself.
+fn counts(n: u32, rows: &mut Vec<Case>) {
+    for (holds, held) in ROWS {
+        let same = row(n, held).filter(|held| *held == Held::Same).count();
+        let book = row(n, held).flat_map(Held::slot).collect();
+        rows.push(case("count", n, holds, book, Call::Count, same as u8));
+    }
+}
+
 /// All rows, in the table's order.
 pub fn all() -> Vec<Case> {
     let mut rows = Vec::new();
@@ -331,15 +381,7 @@ pub fn all() -> Vec<Case> {
         ("write", Call::Write),
     ];
     for (what, call) in calls {
-        let what = what.to_string();
-        rows.push(Case {
-            what,
-            n: 0,
-            holds: "",
-            book: Vec::new(),
-            call,
-            answer: 0,
-        });
+        rows.push(case(what, 0, "", Vec::new(), call, 0));
     }
     for n in HOUSES {
         for filling in [EMPTY, HALF, FULL] {
@@ -350,6 +392,9 @@ pub fn all() -> Vec<Case> {
             };
             rows.push(case(what, n, filling.name, book(n, filling, &[]), call, 2));
         }
+    }
+    for n in HOUSES {
+        counts(n, &mut rows);
     }
     rows
 }
