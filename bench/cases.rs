@@ -67,6 +67,8 @@ pub struct Case {
     pub call: Call,
     /// Of a count, what is counted.
     pub answer: u8,
+    /// The row that is subtracted, in place of no call. It is not printed, and has no name.
+    pub less: Option<usize>,
 }
 
 #[derive(Clone, Copy)]
@@ -154,6 +156,13 @@ fn cut() -> Vec<u8> {
     bytes
 }
 
+fn receive_cut() -> Call {
+    Call::Receive {
+        house: VOUCHER as u32,
+        message: cut(),
+    }
+}
+
 fn case(what: &str, n: u32, holds: &'static str, book: Vec<u8>, call: Call, answer: u8) -> Case {
     Case {
         what: what.to_string(),
@@ -162,6 +171,7 @@ fn case(what: &str, n: u32, holds: &'static str, book: Vec<u8>, call: Call, answ
         book,
         call,
         answer,
+        less: None,
     }
 }
 
@@ -222,16 +232,12 @@ fn refused(n: u32, rows: &mut Vec<Case>) {
         1,
     ));
     for filling in [EMPTY, HALF, FULL] {
-        let call = Call::Receive {
-            house: VOUCHER as u32,
-            message: cut(),
-        };
         rows.push(case(
             "refusal 2",
             n,
             filling.name,
             book(n, filling, &[]),
-            call,
+            receive_cut(),
             2,
         ));
     }
@@ -363,6 +369,36 @@ fn counts(n: u32, rows: &mut Vec<Case>) {
     }
 }
 
+/// A book with nothing in it but one row of the named entry, where the voucher's slot is empty, and both
+/// marks, so that nothing is given.
+fn vouched(n: u32, kind: Kind, held: [Held; 4]) -> Vec<u8> {
+    let mut book = book(n, EMPTY, &[]);
+    let slots = book[helped_byte(n as usize)..].as_chunks_mut().0;
+    let heard = heard_slot(n, kind);
+    for (slot, held) in slots[heard - VOUCHER..].iter_mut().zip(row(n, held)) {
+        *slot = held.slot();
+    }
+    slots[heard] = Held::Nothing.slot();
+    slots[ready_sent_slot(n)..][..2].fill(Held::Same.slot());
+    book
+}
+
+/// The count with the step around it: an accepted call, less one that is refused as soon as the book is
+/// found legal.
+fn steps(n: u32, rows: &mut Vec<Case>) {
+    for (kind, name) in [(Kind::Echo, "ECHO"), (Kind::Ready, "READY")] {
+        for (holds, held) in ROWS {
+            let book = vouched(n, kind, held);
+            rows.push(case("", n, holds, book.clone(), receive_cut(), 2));
+            let what = format!("receive {name}, less legality");
+            rows.push(Case {
+                less: Some(rows.len() - 1),
+                ..case(&what, n, holds, book, receive(kind), 0)
+            });
+        }
+    }
+}
+
 /// All rows, in the table's order.
 pub fn all() -> Vec<Case> {
     let mut rows = Vec::new();
@@ -393,8 +429,10 @@ pub fn all() -> Vec<Case> {
             rows.push(case(what, n, filling.name, book(n, filling, &[]), call, 2));
         }
     }
-    for n in HOUSES {
-        counts(n, &mut rows);
+    for part in [counts, steps] {
+        for n in HOUSES {
+            part(n, &mut rows);
+        }
     }
     rows
 }

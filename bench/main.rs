@@ -207,12 +207,17 @@ fn main() {
                     "row {row}, {}: the two sides differ",
                     case.what
                 );
+                if case.what.is_empty() {
+                    continue;
+                }
                 let n = if case.n == 0 {
                     String::new()
                 } else {
                     case.n.to_string()
                 };
-                println!("{row}|{}|{n}|{}|{}", case.what, case.holds, gives(case));
+                let less = case.less.map_or(String::new(), |row| row.to_string());
+                let (what, holds, gives) = (&case.what, case.holds, gives(case));
+                println!("{row}|{less}|{what}|{n}|{holds}|{gives}");
             }
         }
         [row, side, count] => {
