@@ -1,6 +1,7 @@
 //! The rows of the table: for each a book, a call on it, and the answer it has to give.
 
 use grassmunch::{Book, Declaration, Gate, Sheet};
+use reference::counting::{holding, Slot};
 use reference::{write, Kind};
 
 /// Document 01's four houses, the sixteen that were the most up to version 5, and the most.
@@ -48,6 +49,8 @@ pub enum Call {
     Judge,
     Write,
     Read(Vec<u8>),
+    /// Not a call of the library: the count of vouchers in a row, which is all of the book.
+    Count,
     /// Not a call of the reference: a plain pass over the book's bytes, beside the library's legality scan.
     Pass {
         house: u32,
@@ -62,7 +65,10 @@ pub struct Case {
     pub holds: &'static str,
     pub book: Vec<u8>,
     pub call: Call,
+    /// Of a count, what is counted.
     pub answer: u8,
+    /// The row that is subtracted, in place of no call. It is not printed, and has no name.
+    pub less: Option<usize>,
 }
 
 #[derive(Clone, Copy)]
@@ -150,6 +156,13 @@ fn cut() -> Vec<u8> {
     bytes
 }
 
+fn receive_cut() -> Call {
+    Call::Receive {
+        house: VOUCHER as u32,
+        message: cut(),
+    }
+}
+
 fn case(what: &str, n: u32, holds: &'static str, book: Vec<u8>, call: Call, answer: u8) -> Case {
     Case {
         what: what.to_string(),
@@ -158,6 +171,7 @@ fn case(what: &str, n: u32, holds: &'static str, book: Vec<u8>, call: Call, answ
         book,
         call,
         answer,
+        less: None,
     }
 }
 
@@ -218,16 +232,12 @@ fn refused(n: u32, rows: &mut Vec<Case>) {
         1,
     ));
     for filling in [EMPTY, HALF, FULL] {
-        let call = Call::Receive {
-            house: VOUCHER as u32,
-            message: cut(),
-        };
         rows.push(case(
             "refusal 2",
             n,
             filling.name,
             book(n, filling, &[]),
-            call,
+            receive_cut(),
             2,
         ));
     }
@@ -313,6 +323,82 @@ fn others(n: u32, rows: &mut Vec<Case>) {
     }
 }
 
+/// What a slot of a counted row holds, beside the declaration that is counted.
+#[derive(Clone, Copy, PartialEq)]
+enum Held {
+    Nothing,
+    OtherLot,
+    OtherEnd,
+    Same,
+}
+
+impl Held {
+    fn slot(self) -> Slot {
+        let mut slot = holding(&DECLARATION);
+        match self {
+            Held::Nothing => slot = [0; 21],
+            Held::OtherLot => slot[1 + 3] ^= 1,
+            Held::OtherEnd => slot[1 + 19] ^= 1,
+            Held::Same => {}
+        }
+        slot
+    }
+}
+
+/// What the slots of a row hold, four by four.
+const ROWS: [(&str, [Held; 4]); 4] = [
+    ("absent", [Held::Nothing; 4]),
+    ("other lot", [Held::OtherLot; 4]),
+    ("equal", [Held::Same; 4]),
+    (
+        "mixed",
+        [Held::Nothing, Held::OtherLot, Held::OtherEnd, Held::Same],
+    ),
+];
+
+fn row(n: u32, held: [Held; 4]) -> impl Iterator<Item = Held> {
+    held.into_iter().cycle().take(n as usize)
+}
+
+/// The count by itself.
+fn counts(n: u32, rows: &mut Vec<Case>) {
+    for (holds, held) in ROWS {
+        let same = row(n, held).filter(|held| *held == Held::Same).count();
+        let book = row(n, held).flat_map(Held::slot).collect();
+        rows.push(case("count", n, holds, book, Call::Count, same as u8));
+    }
+}
+
+/// A book with nothing in it but one row of the named entry, where the voucher's slot is empty, and both
+/// marks, so that nothing is given.
+fn vouched(n: u32, kind: Kind, held: [Held; 4]) -> Vec<u8> {
+    let mut book = book(n, EMPTY, &[]);
+    let slots = book[helped_byte(n as usize)..].as_chunks_mut().0;
+    let heard = heard_slot(n, kind);
+    for (slot, held) in slots[heard - VOUCHER..].iter_mut().zip(row(n, held)) {
+        *slot = held.slot();
+    }
+    slots[heard] = Held::Nothing.slot();
+    slots[ready_sent_slot(n)..][..2].fill(Held::Same.slot());
+    book
+}
+
+/// The count with the step around it: an accepted call, less one that is refused as soon as the book is
+/// found legal.
+fn steps(n: u32, rows: &mut Vec<Case>) {
+    for (kind, name) in [(Kind::Echo, "ECHO"), (Kind::Ready, "READY")] {
+        for (holds, held) in ROWS {
+            let book = vouched(n, kind, held);
+            rows.push(case("", n, holds, book.clone(), receive_cut(), 2));
+            let what = format!("receive {name}, less legality");
+            rows.push(Case {
+                less: Some(rows.len() - 1),
+                ..case(&what, n, holds, book, receive(kind), 0)
+            });
+        }
+    }
+}
+
 /// All rows, in the table's order.
 pub fn all() -> Vec<Case> {
     let mut rows = Vec::new();
@@ -331,15 +417,7 @@ pub fn all() -> Vec<Case> {
         ("write", Call::Write),
     ];
     for (what, call) in calls {
-        let what = what.to_string();
-        rows.push(Case {
-            what,
-            n: 0,
-            holds: "",
-            book: Vec::new(),
-            call,
-            answer: 0,
-        });
+        rows.push(case(what, 0, "", Vec::new(), call, 0));
     }
     for n in HOUSES {
         for filling in [EMPTY, HALF, FULL] {
@@ -349,6 +427,11 @@ pub fn all() -> Vec<Case> {
                 message: cut(),
             };
             rows.push(case(what, n, filling.name, book(n, filling, &[]), call, 2));
+        }
+    }
+    for part in [counts, steps] {
+        for n in HOUSES {
+            part(n, &mut rows);
         }
     }
     rows

@@ -10,9 +10,11 @@ mod cases;
 #[path = "../bindings/rust/src/ffi.rs"]
 mod ffi;
 mod library;
+mod tally;
 
 use cases::{Call, Case, DECLARATION, DOWN, LIMIT, NUMBER, NUMBERS, OWN, SEASON, SENDER, SHEET};
 use ffi::{Outcome, ReadAnswer, ReturnAnswer, SentAnswer, WaitingAnswer, Written};
+use reference::counting::{holding, vouchers, Slot};
 use std::fmt::Debug;
 use std::hint::black_box;
 
@@ -74,6 +76,11 @@ fn by_library(case: &Case, count: u32) -> (String, Vec<u8>) {
             make(count, case, call, Written::said)
         }
         Call::Read(message) => make(count, case, |_| ffi::read(message), ReadAnswer::said),
+        Call::Count => {
+            let slots = case.book.as_chunks().0;
+            let call = |_: &mut [u8]| tally::count(slots, &DECLARATION);
+            make(count, case, call, |found| *found)
+        }
     }
 }
 
@@ -142,6 +149,11 @@ fn by_reference(case: &Case, count: u32) -> (String, Vec<u8>) {
             let read = black_box(reference::read as fn(&[u8]) -> _);
             make(count, case, |_| read(message), |said| *said)
         }
+        Call::Count => {
+            let vouchers = black_box(vouchers as fn(&[Slot], &_) -> _);
+            let (slots, v) = (case.book.as_chunks().0, holding(&DECLARATION));
+            make(count, case, |_| vouchers(slots, &v), |found| *found)
+        }
         Call::Pass { .. } => {
             let sum = black_box(sum as fn(&_) -> _);
             make(count, case, |b| sum(b), |said| *said)
@@ -195,12 +207,17 @@ fn main() {
                     "row {row}, {}: the two sides differ",
                     case.what
                 );
+                if case.what.is_empty() {
+                    continue;
+                }
                 let n = if case.n == 0 {
                     String::new()
                 } else {
                     case.n.to_string()
                 };
-                println!("{row}|{}|{n}|{}|{}", case.what, case.holds, gives(case));
+                let less = case.less.map_or(String::new(), |row| row.to_string());
+                let (what, holds, gives) = (&case.what, case.holds, gives(case));
+                println!("{row}|{less}|{what}|{n}|{holds}|{gives}");
             }
         }
         [row, side, count] => {

@@ -20,12 +20,12 @@ use crate::sheet::{Declaration, Sheet, DECLARATION, SHEET};
 const HEADER: usize = 3 + 4 + SHEET + 2;
 
 /// A presence byte, 0 or 1, and a declaration, which is zeros where the slot is empty.
-pub(crate) type Slot = [u8; 1 + DECLARATION];
+pub type Slot = [u8; 1 + DECLARATION];
 
 const EMPTY: Slot = [0; 1 + DECLARATION];
 
 /// The slot that holds this declaration.
-pub(crate) fn holding(declaration: &Declaration) -> Slot {
+pub fn holding(declaration: &Declaration) -> Slot {
     let mut slot = EMPTY;
     slot[0] = 1;
     slot[1..].copy_from_slice(declaration);

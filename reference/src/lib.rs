@@ -26,3 +26,9 @@ pub use steps::{
     come_back, publish, receive, sent, waiting, Outcome, Returned, SentAnswer, Waiting,
     WaitingEntry,
 };
+
+/// For measuring: the count of vouchers by itself.
+pub mod counting {
+    pub use crate::book::{holding, Slot};
+    pub use crate::steps::vouchers;
+}

@@ -175,7 +175,7 @@ fn ready(enough: bool, mark: &mut Slot, v: &Slot) -> Option<Kind> {
 }
 
 /// How many houses vouch for this declaration and no other.
-fn vouchers(slots: &[Slot], v: &Slot) -> usize {
+pub fn vouchers(slots: &[Slot], v: &Slot) -> usize {
     slots.iter().filter(|slot| *slot == v).count()
 }
 
