@@ -84,6 +84,11 @@ fn by_library(case: &Case, count: u32) -> (String, Vec<u8>) {
     }
 }
 
+/// The reference's count, handed what the library's is handed.
+fn counted(slots: &[Slot], d: &[u8; 20]) -> usize {
+    vouchers(slots, &holding(d))
+}
+
 /// A plain pass over the bytes: their sum.
 fn sum(bytes: &[u8]) -> u32 {
     bytes.iter().map(|byte| u32::from(*byte)).sum()
@@ -150,9 +155,14 @@ fn by_reference(case: &Case, count: u32) -> (String, Vec<u8>) {
             make(count, case, |_| read(message), |said| *said)
         }
         Call::Count => {
-            let vouchers = black_box(vouchers as fn(&[Slot], &_) -> _);
-            let (slots, v) = (case.book.as_chunks().0, holding(&DECLARATION));
-            make(count, case, |_| vouchers(slots, &v), |found| *found)
+            let counted = black_box(counted as fn(&[Slot], &_) -> _);
+            let slots = case.book.as_chunks().0;
+            make(
+                count,
+                case,
+                |_| counted(slots, &DECLARATION),
+                |found| *found,
+            )
         }
         Call::Pass { .. } => {
             let sum = black_box(sum as fn(&_) -> _);
