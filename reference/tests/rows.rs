@@ -60,6 +60,11 @@ fn the_counts_on_any_legal_book() {
 }
 
 #[test]
+fn a_voucher_that_differs_in_one_bit() {
+    vouchers::one_bit_apart(&mut Reference, 2026);
+}
+
+#[test]
 fn rows_1_to_3_and_10_to_12() {
     rows::card(&mut Reference, 1..=MOST_HOUSES);
 }

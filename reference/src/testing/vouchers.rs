@@ -2,7 +2,7 @@
 //! every number of vouchers and every state of the two marks. What stands there need not be plausible.
 
 use super::forms::{
-    fresh, message, open_sheet, place_of, put, random_below, redraw_helped, slot_at, twins,
+    fresh, honey, message, open_sheet, place_of, put, random_below, redraw_helped, slot_at, twins,
     with_colonies, FEW_HOUSES, SEASON,
 };
 use super::random::Random;
@@ -229,6 +229,44 @@ pub fn every_count(library: &mut impl Library, seed: u64) {
                     beside,
                 };
                 case.check(library, &mut random, &counts);
+            }
+        }
+    }
+}
+
+/// Every n with f at 0, and each bit of a declaration: with the message that comes enough houses vouch, but one of
+/// them, any one, for a declaration that differs in that bit, so that they are one too few; and then the same houses,
+/// all for the same.
+pub fn one_bit_apart(library: &mut impl Library, seed: u64) {
+    let mut random = Random::new(seed);
+    let v = honey(77, 40, 800);
+    for (n, _, counts) in all_counts().filter(|(n, f, _)| *n > 1 && *f == 0) {
+        for (kind, enough) in [(Kind::Echo, counts.quorum), (Kind::Ready, counts.deliver)] {
+            for bit in 0..if enough > 1 { 160 } else { 0 } {
+                let mut houses: Vec<usize> = (0..usize::from(n)).collect();
+                random.shuffle(&mut houses);
+                let [comes, apart] = [houses[0], houses[1]];
+                let mut other = v;
+                other[bit / 8] ^= 0x80 >> (bit % 8);
+                for (stands, is_enough) in [(&other, false), (&v, true)] {
+                    let mut book = fresh([n, 1, 0, 0, 0], SEASON, &open_sheet());
+                    for house in &houses[1..enough] {
+                        let at = slot_at(&book, 0, 0, place_of(kind, n, *house));
+                        put(
+                            &mut book,
+                            at,
+                            Some(if *house == apart { stands } else { &v }),
+                        );
+                    }
+                    let bytes = message(kind as u8, SEASON, 0, 0, &v);
+                    let outcome = library.receive(&mut book, comes as u32, &bytes);
+                    let is_made = match kind {
+                        Kind::Ready => outcome.delivery.is_some(),
+                        _ => outcome.message.is_some(),
+                    };
+                    let which = format!("{kind:?} from {comes} of {n}, {apart} apart by bit {bit}");
+                    assert_eq!((outcome.answer, is_made), (0, is_enough), "{which}");
+                }
             }
         }
     }

@@ -21,7 +21,7 @@ pub type Pair = Both<Linked, Reference>;
 pub type Check = (&'static str, fn(&mut Pair, u64, usize));
 
 /// Checks that are the same at any size, the quickest first; the seed is for noise.
-pub const COUNTED: [Check; 40] = [
+pub const COUNTED: [Check; 41] = [
     ("the rows and run cases of document 01", |pair, _, _| {
         rows::card(pair, 1..=FEW_HOUSES);
         rows::judged(pair);
@@ -154,6 +154,9 @@ pub const COUNTED: [Check; 40] = [
     ("the counts for every n and f", |pair, seed, _| {
         rows::another_f(pair);
         vouchers::every_count(pair, seed);
+    }),
+    ("vouchers that differ in one bit", |pair, seed, _| {
+        vouchers::one_bit_apart(pair, seed);
     }),
     ("every state of one entry", |pair, seed, _| {
         entries::states(pair, seed, 5);
