@@ -21,10 +21,10 @@
 /* The version: the first number changes where the bytes of a book or a message change, or a call. A season is finished with the first
  * number that it was opened with, or with one that goes with it: 3 goes with 2, 6 with 5 in a season of at most 16 houses, and 4 with no
  * other (CHANGELOG.md). */
-#define GM_VERSION "6.0.0"
+#define GM_VERSION "6.0.1"
 #define GM_VERSION_MAJOR 6
 #define GM_VERSION_MINOR 0
-#define GM_VERSION_PATCH 0
+#define GM_VERSION_PATCH 1
 
 #ifdef __cplusplus
 extern "C" {
