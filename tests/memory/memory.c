@@ -12,7 +12,7 @@
 #include <sys/mman.h>
 #include <unistd.h>
 
-enum { FEW_HOUSES = 4, DEEPEST = 1024, SEASON = 2026, DOWN = 0, LIMIT = 2 };
+enum { FEW_HOUSES = 4, DEEPEST = 768, SEASON = 2026, DOWN = 0, LIMIT = 2 };
 _Static_assert(DEEPEST < 21 * (2 * GM_MOST_HOUSES + 3), "the slots of one entry are more than a call may take");
 
 static int wrong;

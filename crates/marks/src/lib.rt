@@ -23,10 +23,10 @@ pub fn record_answer(book: &[u8], at: usize, d: [u8; 20]) -> u8
     requires { ⌜ at + slotLength ≤ length (now book) ⌝ }
     ensures { λ r. ⌜ r ≡ recording (slotAt (now (book .entry)) at) d ⌝ }
 {
-    if vouchers::count_same(book, at, 1, d) == 1 {
-        return 7;
-    }
     if slots::is_full(book, at) {
+        if vouchers::count_same(book, at, 1, d) == 1 {
+            return 7;
+        }
         return 13;
     }
     0
