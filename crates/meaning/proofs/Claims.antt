@@ -13,6 +13,7 @@ use Rattle.meaning.proofs.Lengths.{length-largest, longest, length-answ
 use Rattle.meaning.proofs.OneForm.{same-bytes}
 use Rattle.meaning.proofs.Every.{written-legal, written-bytes, written-meant, legal-exactly}
 use Rattle.meaning.proofs.Opening.{opened-refused, opened-legal, opened-bytes, opened-meant}
+use Rattle.meaning.proofs.Legality.{legal-facts, legal-head}
 use Rattle.meaning.proofs.Helped.{help-legal, help-bytes, help-meant}
 
 helped-more : (b : List ℕ) → Lent b → (p : ℕ) → p < nOf b → helpedOf b p < limitOf b
@@ -20,9 +21,13 @@ helped-more : (b : List ℕ) → Lent b → (p : ℕ) → p < nOf b → helpedOf
 unfolding helpedOf
 helped-more b L p l m =
     let low : getD b (helpedPlace p) 0 < limitOf b = rw (lt-ltb p (nOf b) l) at m in
+    let head = legal-head b (L .legal) in
     record {
-      lent = record { legal = help-legal b (L .legal) (L .bytes) p l low; bytes = help-bytes b (L .legal) (L .bytes) p l low };
-      means = help-meant b (L .legal) (L .bytes) p l low;
+      lent = record {
+        legal = help-legal b head (L .bytes) p l low (legal-facts b (L .legal) .slots);
+        bytes = help-bytes b head (L .bytes) p l low;
+      };
+      means = help-meant b head (L .bytes) p l low;
     }
 
 pub claims : Claims

@@ -1,4 +1,4 @@
--- One more help counted in a legal book: it stays legal, and means the same but for that count.
+-- One more help counted in a book with a legal head: the head stays legal, no slot changes, and it means the same but for that count.
 use Prim.Native.Nat.{ℕ, suc, _+_, _≤_, _<_}
 use mathlib.Core.Path.{_≡_, refl, sym, ap, _∙_, fun-ext}
 use mathlib.Core.Logic.{_≢_}
@@ -13,17 +13,16 @@ use borrow.Author.Tests.{eqb-true, eqb-false, lt-ltb}
 use Rattle.words.specs.Words.{Bytes}
 use Rattle.entry.specs.Lists.{upd}
 use Rattle.meaning.specs.Slot.{part, slotAt, slotOk}
-use Rattle.meaning.specs.Layout.{mostLimit, limitPlace, helpedPlace, slotCount, slotPlace, slotLength}
+use Rattle.meaning.specs.Layout.{mostLimit, limitPlace, helpedPlace, slotCount, slotPlace, entrySlot, slotLength}
 use Rattle.meaning.specs.Book.{nOf, numbersOf, ownOf, limitOf, helpedOf, headerOf, helpOf, moreHelp, withHelp, countHelp, slotOf}
-use Rattle.meaning.specs.Book.{meant, write}
-use Rattle.meaning.specs.Legal.{legal, Legal}
-use Rattle.meaning.proofs.Legality.{legal-facts, facts-legal, slots-at, slots-all, header-within}
+use Rattle.meaning.specs.Book.{meant}
+use Rattle.meaning.specs.Legal.{slotsOk, legal, headLegal, entryLegal, Head}
+use Rattle.meaning.proofs.Legality.{head-facts, facts-head, head-legal, slots-at, slots-all, entry-at, entry-all, header-within}
 use Rattle.meaning.proofs.Places.{helped-within, slot-past-header}
 use Rattle.meaning.proofs.Slots.{slot-part, ok-part}
 use Rattle.meaning.proofs.Agree.{agree-n, agree-numbers, agree-own, agree-down}
 use Rattle.meaning.proofs.Header.{same-header, same-sheet-legal}
 use Rattle.meaning.proofs.Entries.{entriesIn, look-is}
-use Rattle.meaning.proofs.OneForm.{written}
 
 part-set : (b : List ℕ) (i x at m : ℕ) → i < at → part (set b i x) at m ≡ part b at m
 part-set b i x at m l =
@@ -32,9 +31,9 @@ part-set b i x at m l =
     (length-drop at (set b i x) ∙ omega (arith, length-set b i x, length-drop at b))
     (λ k h. getD-drop at (set b i x) k 0 ∙ getD-set-other b i (at + k) x 0 (λ e. omega arith) ∙ sym (getD-drop at b k 0)))
 
-module _ (b : List ℕ) (h : legal b ≡ true) (bytes : Bytes b) (p : ℕ) (lp : p < nOf b) (low : getD b (helpedPlace p) 0 < limitOf b) where
-  facts : Legal b
-  facts = legal-facts b h
+module _ (b : List ℕ) (h : headLegal b ≡ true) (bytes : Bytes b) (p : ℕ) (lp : p < nOf b) (low : getD b (helpedPlace p) 0 < limitOf b) where
+  facts : Head b
+  facts = head-facts b h
 
   abbrev more : ℕ
   more = suc (getD b (helpedPlace p) 0)
@@ -80,10 +79,9 @@ module _ (b : List ℕ) (h : legal b ≡ true) (bytes : Bytes b) (p : ℕ) (lp :
       fun-ext (λ k. ap (λ (x : ℕ). slotAt after (slotPlace x k)) n-kept
       ∙ slot-part after (slotPlace (nOf b) k) ∙ ap (λ (l : List ℕ). slotAt l 0) (part-kept k) ∙ sym (slot-part b (slotPlace (nOf b) k)))
 
-  ok-kept : (k : ℕ) → k < slotCount (nOf b) (numbersOf b) → slotOk after (slotPlace (nOf b) k) ≡ true
-  ok-kept k l =
+  ok-kept : (k : ℕ) → slotOk after (slotPlace (nOf b) k) ≡ slotOk b (slotPlace (nOf b) k)
+  ok-kept k =
       ok-part after (slotPlace (nOf b) k) ∙ ap (λ (l : List ℕ). slotOk l 0) (part-kept k) ∙ sym (ok-part b (slotPlace (nOf b) k))
-      ∙ slots-at b (nOf b) (slotCount (nOf b) (numbersOf b)) (facts .slots) k l
 
   helped-kept : (q : ℕ) → q < nOf after → getD after (helpedPlace q) 0 ≤ limitOf after
   helped-kept q l = go (ℕ-discrete q p)
@@ -92,10 +90,10 @@ module _ (b : List ℕ) (h : legal b ≡ true) (bytes : Bytes b) (p : ℕ) (lp :
       go (yes e) = rw e (omega (arith, here, limit-kept, low))
       go (no d) = omega (arith, other (helpedPlace q) (λ e. d (omega arith)), limit-kept, n-kept, facts .helped q (omega (arith, n-kept)))
 
-  pub help-legal : legal (countHelp b p) ≡ true
+  pub help-head : headLegal (countHelp b p) ≡ true
   unfolding countHelp
-  help-legal =
-      facts-legal after
+  help-head =
+      facts-head after
       (record {
         n = rw n-kept (facts .n);
         numbers = rw numbers-kept (facts .numbers);
@@ -105,8 +103,23 @@ module _ (b : List ℕ) (h : legal b ≡ true) (bytes : Bytes b) (p : ℕ) (lp :
         down = rw (n-kept, agree-down after b header-kept) (facts .down);
         limit = rw limit-kept (facts .limit);
         helped = helped-kept;
-        slots = rw (n-kept, numbers-kept) (slots-all after (nOf b) (slotCount (nOf b) (numbersOf b)) ok-kept);
       })
+
+  -- each entry's slots stay as they are
+  pub help-entry : (j c : ℕ) → entryLegal b j c ≡ true → entryLegal (countHelp b p) j c ≡ true
+  unfolding countHelp
+  help-entry j c e =
+      entry-all after j c
+      (λ i l. (λ x. slotOk after (slotPlace (n-kept x) (entrySlot (n-kept x) (numbers-kept x) c j i)))
+      ∙ ok-kept (entrySlot (nOf b) (numbersOf b) c j i) ∙ entry-at b j c e i (rw n-kept at l))
+
+  pub help-legal : slotsOk b (nOf b) (slotCount (nOf b) (numbersOf b)) ≡ true → legal (countHelp b p) ≡ true
+  unfolding countHelp
+  help-legal o =
+      head-legal after (head-facts after help-head)
+      (rw (n-kept, numbers-kept)
+      (slots-all after (nOf b) (slotCount (nOf b) (numbersOf b))
+      (λ k l. ok-kept k ∙ slots-at b (nOf b) (slotCount (nOf b) (numbersOf b)) o k l)))
 
   help-after : helpOf after ≡ moreHelp (helpOf b) p
   unfolding helpOf helpedOf
@@ -138,7 +151,3 @@ module _ (b : List ℕ) (h : legal b ≡ true) (bytes : Bytes b) (p : ℕ) (lp :
       go : Dec (i ≡ helpedPlace p) → getD after i 0 < 256
       go (yes e) = rw e (omega (arith, here, low, facts .limit))
       go (no d) = omega (arith, other i d, bytes i)
-
-  -- one byte form: these are the bytes of that meaning
-  pub help-written : countHelp b p ≡ write (withHelp (meant b) (moreHelp (helpOf b) p))
-  help-written = sym (written (countHelp b p) help-legal help-bytes) ∙ ap write help-meant

@@ -1,6 +1,6 @@
 -- The test for a legal book, as facts: its parts, and its slots one by one.
 use Prim.Native.Nat.{ℕ, zero, suc, _+_, _≤_, _<_}
-use mathlib.Core.Path.{_≡_, refl}
+use mathlib.Core.Path.{_≡_, refl, sym, ap, ap₂, _∙_}
 use mathlib.Core.Bool.{Bool, true, false, _&&_, and-eq-true-iff}
 use mathlib.Core.List.{List}
 use native.Mathlib.Decide.{decLt}
@@ -12,10 +12,19 @@ use Rattle.card.specs.Card.{housesOk, downOk}
 use Rattle.sheet.specs.Kept.{sheetLegalAt}
 use Rattle.meaning.specs.Slot.{slotOk}
 use Rattle.meaning.specs.Layout.{numbersOk, mostLimit, helpedPlace, headLength, slotCount, lengthOf, slotPlace, slotLength}
-use Rattle.meaning.specs.Layout.{sheetPlace}
-use Rattle.meaning.specs.Book.{nOf, numbersOf, ownOf, downOf, limitOf}
-use Rattle.meaning.specs.Legal.{slotsOk, helpsOk, helpOk, legal, Legal}
-use Rattle.meaning.proofs.Places.{length-header, slot-within}
+use Rattle.meaning.specs.Layout.{sheetPlace, placeFrom, perEntry, entrySlot}
+use Rattle.meaning.specs.Book.{nOf, numbersOf, ownOf, downOf, limitOf, placeIn}
+use Rattle.meaning.specs.Legal.{slotsOk, helpsOk, helpOk, legal, Legal, headLegal, Head, rowOk, entryLegal}
+use Rattle.meaning.proofs.Places.{length-header, slot-within, entry-slot-below}
+
+-- where slots lie, counted from another
+place-from : (n k : ℕ) → slotPlace n k ≡ placeFrom (slotPlace n 0) k
+unfolding slotPlace
+place-from n k = omega arith
+
+pub place-in : (b : List ℕ) (j c i : ℕ) → placeFrom (placeIn b j c 0) i ≡ placeIn b j c i
+unfolding slotPlace entrySlot
+place-in b j c i = omega arith
 
 module _ (b : List ℕ) where
   -- the test's parts, from the last to the second
@@ -95,6 +104,71 @@ module _ (b : List ℕ) where
       let long = eq-eqb (length b) (lengthOf (nOf b) (numbersOf b)) (l .long) in
       rw (l .n, l .numbers, own, long, l .sheet, l .down, facts-help (l .limit, l .helped), l .slots)
 
+  -- the head's facts: those of a legal book but its slots
+  pub head-facts : headLegal b ≡ true → Head b
+  unfolding headLegal
+  head-facts h =
+      let last : Bool = downOk (nOf b) (downOf b) && helpOk b in
+      let from-sheet : Bool = sheetLegalAt b sheetPlace && last in
+      let from-long : Bool = eqb (length b) (lengthOf (nOf b) (numbersOf b)) && from-sheet in
+      let from-own : Bool = ltb (ownOf b) (nOf b) && from-long in
+      let p = and-eq-true-iff (housesOk (nOf b)) (numbersOk (numbersOf b) && from-own) .0 h in
+      let q = and-eq-true-iff (numbersOk (numbersOf b)) from-own .0 (p .1) in
+      let r = and-eq-true-iff (ltb (ownOf b) (nOf b)) from-long .0 (q .1) in
+      let s = and-eq-true-iff (eqb (length b) (lengthOf (nOf b) (numbersOf b))) from-sheet .0 (r .1) in
+      let t = and-eq-true-iff (sheetLegalAt b sheetPlace) last .0 (s .1) in
+      let u = and-eq-true-iff (downOk (nOf b) (downOf b)) (helpOk b) .0 (t .1) in
+      let w = help-facts (u .1) in
+      record {
+        n = p .0;
+        numbers = q .0;
+        own = ltb-true (ownOf b) (nOf b) (r .0);
+        long = eqb-true (length b) (lengthOf (nOf b) (numbersOf b)) (s .0);
+        sheet = t .0;
+        down = u .0;
+        limit = w .0;
+        helped = w .1;
+      }
+
+  pub facts-head : Head b → headLegal b ≡ true
+  unfolding headLegal
+  facts-head l =
+      let own = lt-ltb (ownOf b) (nOf b) (l .own) in
+      let long = eq-eqb (length b) (lengthOf (nOf b) (numbersOf b)) (l .long) in
+      rw (l .n, l .numbers, own, long, l .sheet, l .down, facts-help (l .limit, l .helped))
+
+  -- a legal book is a legal head, and its slots
+  pub legal-parts : Legal b → Head b
+  legal-parts l =
+      record {
+        n = l .n;
+        numbers = l .numbers;
+        own = l .own;
+        long = l .long;
+        sheet = l .sheet;
+        down = l .down;
+        limit = l .limit;
+        helped = l .helped;
+      }
+
+  pub legal-head : legal b ≡ true → headLegal b ≡ true
+  legal-head h = facts-head (legal-parts (legal-facts h))
+
+  pub head-legal : Head b → slotsOk b (nOf b) (slotCount (nOf b) (numbersOf b)) ≡ true → legal b ≡ true
+  head-legal l o =
+      facts-legal
+      (record {
+        n = l .n;
+        numbers = l .numbers;
+        own = l .own;
+        long = l .long;
+        sheet = l .sheet;
+        down = l .down;
+        limit = l .limit;
+        helped = l .helped;
+        slots = o;
+      })
+
   pub not-legal : (Legal b → ⊥) → false ≡ legal b
   not-legal f = go (legal b) refl
     where
@@ -115,8 +189,44 @@ module _ (b : List ℕ) where
     slots-all zero f = refl
     slots-all (suc m) f = rw (slots-all m (λ k l. f k (omega arith)), f m (omega arith))
 
-  -- the header and each slot lie within a legal book
-  module _ (l : Legal b) where
+  -- k slots from the one at `at` on
+  module _ (at : ℕ) where
+    pub row-at : (m : ℕ) → rowOk b at m ≡ true → (k : ℕ) → k < m → slotOk b (placeFrom at k) ≡ true
+    unfolding rowOk
+    row-at zero h k l = absurd (omega arith)
+    row-at (suc m) h k l =
+        let both = and-eq-true-iff (rowOk b at m) (slotOk b (placeFrom at m)) .0 h in
+        elim (decLt k m) [ yes a ↦ row-at m (both .0) k a | no f ↦ let e : k ≡ m = omega arith in rw e (both .1) ]
+
+    pub row-all : (m : ℕ) → ((k : ℕ) → k < m → slotOk b (placeFrom at k) ≡ true) → rowOk b at m ≡ true
+    unfolding rowOk
+    row-all zero f = refl
+    row-all (suc m) f = rw (row-all m (λ k l. f k (omega arith)), f m (omega arith))
+
+  -- the slots of a book are a row
+  pub slots-row : (n k : ℕ) → slotsOk b n k ≡ rowOk b (slotPlace n 0) k
+  unfolding slotsOk rowOk
+  slots-row n zero = refl
+  slots-row n (suc k) = ap₂ _&&_ (slots-row n k) (ap (slotOk b) (place-from n k))
+
+  module _ (j c : ℕ) where
+    pub entry-at : entryLegal b j c ≡ true → (i : ℕ) → i < perEntry (nOf b) → slotOk b (placeIn b j c i) ≡ true
+    unfolding entryLegal
+    entry-at h i l = ap (slotOk b) (sym (place-in b j c i)) ∙ row-at (placeIn b j c 0) (perEntry (nOf b)) h i l
+
+    pub entry-all : ((i : ℕ) → i < perEntry (nOf b) → slotOk b (placeIn b j c i) ≡ true) → entryLegal b j c ≡ true
+    unfolding entryLegal
+    entry-all f = row-all (placeIn b j c 0) (perEntry (nOf b)) (λ i l. ap (slotOk b) (place-in b j c i) ∙ f i l)
+
+    -- a legal book's entries are legal
+    pub legal-entry : legal b ≡ true → j < nOf b → c < numbersOf b → entryLegal b j c ≡ true
+    legal-entry h hj hc =
+        entry-all
+        (λ i l. slots-at (nOf b) (slotCount (nOf b) (numbersOf b)) (legal-facts h .slots) (entrySlot (nOf b) (numbersOf b) c j i)
+        (entry-slot-below (nOf b) (numbersOf b) c j i hc hj l))
+
+  -- the header and each slot lie within a book with a legal head
+  module _ (l : Head b) where
     pub header-within : headLength (nOf b) ≤ length b
     header-within = omega (arith, length-header (nOf b) (numbersOf b), l .long)
 

@@ -17,7 +17,7 @@ use Rattle.meaning.specs.Layout.{helpedPlace, perEntry, slotCount, slotP
 use Rattle.meaning.specs.Layout.{deliveredSlot, seasonPlace, sheetPlace}
 use Rattle.meaning.specs.Book.{nOf, numbersOf, ownOf, limitOf, helpedOf, headerOf, helpOf, slotOf, forHouses, look, meant}
 use Rattle.meaning.specs.Legal.{legal, IsSlot, IsEntry, IsHeader, IsHelp, AreEntries, IsBook}
-use Rattle.meaning.proofs.Legality.{legal-facts, header-within, slot-within-book}
+use Rattle.meaning.proofs.Legality.{legal-facts, legal-parts, header-within, slot-within-book}
 use Rattle.meaning.proofs.Places.{send-below, echo-below, ready-below, ready-sent-below, delivered-below, entry-slot-below}
 use Rattle.meaning.proofs.Places.{published-slot-below}
 use Rattle.meaning.proofs.Slots.{slot-is-slot}
@@ -99,7 +99,7 @@ module _ (n s own : ℕ) (slot : ℕ → Option Decl) where
 module _ (b : List ℕ) (h : legal b ≡ true) (bytes : Bytes b) where
   slots-are-slots : (k : ℕ) → k < slotCount (nOf b) (numbersOf b) → IsSlot (slotOf b k)
   unfolding slotOf
-  slots-are-slots k l = slot-is-slot b (slotPlace (nOf b) k) (slot-within-book b (legal-facts b h) k l) bytes
+  slots-are-slots k l = slot-is-slot b (slotPlace (nOf b) k) (slot-within-book b (legal-parts b (legal-facts b h)) k l) bytes
 
   helped-most : (p : ℕ) → helpedOf b p ≤ limitOf b
   unfolding helpedOf
@@ -121,7 +121,7 @@ module _ (b : List ℕ) (h : legal b ≡ true) (bytes : Bytes b) where
         cap = wordAt-small b bytes sheetPlace;
         moisture = gate-fits (keptAt b (sheetPlace + 4));
         conductivity = gate-fits (keptAt b (sheetPlace + 13));
-        sheet = header-sheet-legal b (header-within b f) bytes (f .sheet);
+        sheet = header-sheet-legal b (header-within b (legal-parts b f)) bytes (f .sheet);
         down = f .down;
       }
 

@@ -11,7 +11,7 @@ use Rattle.meaning.specs.Layout.{headLength, slotCount, lengthOf, slotPl
 use Rattle.meaning.specs.Book.{nOf, numbersOf, headerOf, helpOf, slotOf, look, meant, rows, write}
 use Rattle.meaning.specs.Legal.{legal, Legal}
 use Rattle.meaning.proofs.Parts.{part-all, part-add}
-use Rattle.meaning.proofs.Legality.{legal-facts, slots-at, header-within, slot-within-book}
+use Rattle.meaning.proofs.Legality.{legal-facts, legal-parts, slots-at, header-within, slot-within-book}
 use Rattle.meaning.proofs.Slots.{ok-bytes}
 use Rattle.meaning.proofs.Header.{header-bytes}
 use Rattle.meaning.proofs.Stores.{Stored}
@@ -31,7 +31,7 @@ module _ (b : List ℕ) (h : legal b ≡ true) (bytes : Bytes b) where
       rows-parts slotLength b (headLength (nOf b)) (slotCount (nOf b) (numbersOf b)) (λ k. slotBytes (slotOf b k))
       (λ k l.
       let e : headLength (nOf b) + slotLength * k ≡ headLength (nOf b) + k * slotLength = omega arith in
-      ok-bytes b (slotPlace (nOf b) k) (slot-within-book b facts k l)
+      ok-bytes b (slotPlace (nOf b) k) (slot-within-book b (legal-parts b facts) k l)
       (slots-at b (nOf b) (slotCount (nOf b) (numbersOf b)) (facts .slots) k l)
       ∙ ap (λ (at : ℕ). part b at slotLength) e)
 
@@ -40,7 +40,7 @@ module _ (b : List ℕ) (h : legal b ≡ true) (bytes : Bytes b) where
   written =
       let e : headLength (nOf b) ≡ 0 + (headLength (nOf b)) = omega arith in
       write-slots (headerOf b) (helpOf b) (slotOf b) (facts .own)
-      ∙ ap₂ _++_ (header-bytes b (header-within b facts) bytes (facts .sheet)) slots-part
+      ∙ ap₂ _++_ (header-bytes b (header-within b (legal-parts b facts)) bytes (facts .sheet)) slots-part
       ∙ ap (λ (k : ℕ). part b 0 (headLength (nOf b)) ++ part b k (slotCount (nOf b) (numbersOf b) * slotLength)) e
       ∙ sym (part-add b 0 (headLength (nOf b)) (slotCount (nOf b) (numbersOf b) * slotLength))
       ∙ part-all b (headLength (nOf b) + slotCount (nOf b) (numbersOf b) * slotLength) (omega (arith, facts .long))

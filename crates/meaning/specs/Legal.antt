@@ -12,8 +12,8 @@ use Rattle.sheet.specs.Sheet.{GateFits, sheetLegal}
 use Rattle.sheet.specs.Kept.{sheetLegalAt}
 use Rattle.entry.specs.Entry.{Decl, Entry, fresh, PerEntry}
 use Rattle.meaning.specs.Slot.{slotOk}
-use Rattle.meaning.specs.Layout.{numbersOk, mostLimit, sheetPlace, helpedPlace, slotCount, lengthOf, slotPlace}
-use Rattle.meaning.specs.Book.{Header, Help, Meaning, nOf, numbersOf, ownOf, downOf, limitOf}
+use Rattle.meaning.specs.Layout.{numbersOk, mostLimit, sheetPlace, helpedPlace, slotCount, lengthOf, slotPlace, perEntry, placeFrom}
+use Rattle.meaning.specs.Book.{Header, Help, Meaning, nOf, numbersOf, ownOf, downOf, limitOf, placeIn}
 
 -- the first k slots of a book of n houses have one byte form per meaning
 unfoldable pub slotsOk : List ℕ → (n k : ℕ) → Bool
@@ -52,16 +52,52 @@ pub record Legal (b : List ℕ) : Type 0 where
   pub helped : (p : ℕ) → p < nOf b → getD b (helpedPlace p) 0 ≤ limitOf b
   pub slots : slotsOk b (nOf b) (slotCount (nOf b) (numbersOf b)) ≡ true
 
+-- ---- what receiving by entry tests: the head, and the slots of one entry
+
+-- all that is asked of a legal book but its slots
+unfoldable pub headLegal : List ℕ → Bool
+unfolding helpOk
+headLegal b =
+    housesOk (nOf b) && (numbersOk (numbersOf b) && (ltb (ownOf b) (nOf b)
+    && (eqb (length b) (lengthOf (nOf b) (numbersOf b)) && (sheetLegalAt b sheetPlace && (downOk (nOf b) (downOf b) && helpOk b)))))
+
+-- the same, as facts
+pub record Head (b : List ℕ) : Type 0 where
+  pub n : housesOk (nOf b) ≡ true
+  pub numbers : numbersOk (numbersOf b) ≡ true
+  pub own : ownOf b < nOf b
+  pub long : length b ≡ lengthOf (nOf b) (numbersOf b)
+  pub sheet : sheetLegalAt b sheetPlace ≡ true
+  pub down : downOk (nOf b) (downOf b) ≡ true
+  pub limit : limitOf b ≤ mostLimit
+  pub helped : (p : ℕ) → p < nOf b → getD b (helpedPlace p) 0 ≤ limitOf b
+
+-- the k slots from the one at `at` on have one byte form per meaning
+unfoldable pub rowOk : List ℕ → (at k : ℕ) → Bool
+unfolding slotOk
+rowOk b at zero = true
+rowOk b at (suc k) = rowOk b at k && slotOk b (placeFrom at k)
+
+-- each slot of the entry of sender j and number c has one byte form per meaning
+unfoldable pub entryLegal : List ℕ → (sender number : ℕ) → Bool
+unfolding rowOk perEntry
+entryLegal b j c = rowOk b (placeIn b j c 0) (perEntry (nOf b))
+
 -- lent bytes that are a legal book
 pub record Lent (b : List ℕ) : Type 0 where
   pub legal : legal b ≡ true
   pub bytes : Bytes b
 
--- a legal book that has the entry of sender j and number c
+-- a book with a legal head that has the entry of sender j and number c
 pub record Has (b : List ℕ) (j c : ℕ) : Type 0 where
-  pub is-legal : legal b ≡ true
+  pub head : headLegal b ≡ true
   pub sender : j < nOf b
   pub number : c < numbersOf b
+
+-- and that entry's slots have one byte form per meaning
+pub record Fits (b : List ℕ) (j c : ℕ) : Type 0 where
+  pub has : Has b j c
+  pub entry : entryLegal b j c ≡ true
 
 -- any 20 bytes may stand as a recorded declaration
 pub record IsDecl (v : Decl) : Type 0 where
