@@ -20,3 +20,4 @@ pub mod Helped
 pub mod Claims
 pub mod Seen
 pub mod Room
+pub mod Row

@@ -33,7 +33,7 @@ module _ (b : List ℕ) (n s : ℕ) (en : nOf b ≡ n) (es : numbersOf b ≡ s) 
   abbrev slot : ℕ → Option Decl
   slot i = slotAt b (slotPlace n (entrySlot n s c j i))
 
-  look-at : look b j c ≡ entryFrom n slot (cond (eqb j (ownOf b)) (slotNo b n c) none)
+  pub look-at : look b j c ≡ entryFrom n slot (cond (eqb j (ownOf b)) (slotNo b n c) none)
   look-at = subst₂ (LooksAt b) en es (looks-at b) j c hj hc
 
   pub look-heard : (k : Kind) (p : ℕ) → p < n → heard k p (look b j c) ≡ slot (heardSlot n k p)

@@ -118,7 +118,7 @@ module _ (b : List ℕ) (at : ℕ) (v : Decl) (fits : at + slotLength ≤ length
       bytes-append (take at b) ((1 ∷ v) ++ drop (at + slotLength) b) (bytes-take at b p)
       (bytes-append (1 ∷ v) (drop (at + slotLength) b) (bytes-cons 1 v (omega arith) q) (bytes-drop (at + slotLength) b p))
 
-  part-elsewhere : (k m : ℕ) → (k + m ≤ at) ⊎ (at + slotLength ≤ k) → part (putSlot b at v) k m ≡ part b k m
+  pub part-elsewhere : (k m : ℕ) → (k + m ≤ at) ⊎ (at + slotLength ≤ k) → part (putSlot b at v) k m ≡ part b k m
   unfolding putSlot
   part-elsewhere k m (inl l) =
       part-before (take at b) ((1 ∷ v) ++ drop (at + slotLength) b) k m (omega (arith, taken))

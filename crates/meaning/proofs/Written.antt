@@ -23,7 +23,7 @@ in-houses : (n : ℕ) (f : ℕ → Option Decl) (p : ℕ) → p < n → f p ≡ 
 in-houses n f p l = rw (lt-ltb p n l)
 
 -- the entry's bytes are its row's
-entry-rows : (n : ℕ) (row : ℕ → Option Decl) (o : Option Decl)
+pub entry-rows : (n : ℕ) (row : ℕ → Option Decl) (o : Option Decl)
     → entryBytes n (entryFrom n row o) ≡ rows (perEntry n) (λ i. slotBytes (row i))
 unfolding entryBytes perEntry rows
 entry-rows n row o =

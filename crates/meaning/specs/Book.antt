@@ -4,7 +4,7 @@ use mathlib.Core.Bool.{cond, _&&_}
 use mathlib.Core.List.{List, [], _∷_, _++_}
 use mathlib.Core.Option.{Option, none}
 use lib.Dec.{eqb, ltb}
-use lib.ListN.{getD, set}
+use lib.ListN.{getD, set, take, drop}
 use Rattle.words.specs.Words.{be32, wordAt}
 use Rattle.sheet.specs.declared.Sheet.{Sheet}
 use Rattle.sheet.specs.Kept.{sheetBytes, sheetAt}
@@ -12,7 +12,7 @@ use Rattle.entry.specs.Entry.{Decl, Entry, fresh, PerEntry}
 use Rattle.entry.specs.Lists.{upd}
 use Rattle.meaning.specs.Slot.{slotBytes, slotAt}
 use Rattle.meaning.specs.Layout.{nPlace, numbersPlace, ownPlace, seasonPlace, sheetPlace, downPlace, limitPlace, helpedPlace}
-use Rattle.meaning.specs.Layout.{slotPlace, publishedSlot, entrySlot, sendSlot, echoSlot, readySlot, readySentSlot, deliveredSlot}
+use Rattle.meaning.specs.Layout.{slotPlace, perEntry, publishedSlot, entrySlot, sendSlot, echoSlot, readySlot, readySentSlot, deliveredSlot}
 
 -- n, S, own number, season, sheet and f: all that publishing, and receiving a message, read beside the entry
 pub record Header : Type 0 where
@@ -159,3 +159,8 @@ write B =
     head h (B .help)
     ++ (rows (h .numbers) (λ c. slotBytes (B .entries (h .own) c .published))
     ++ rows (h .numbers) (λ c. rows (h .n) (λ j. entryBytes (h .n) (B .entries j c))))
+
+-- the bytes with e as the entry of sender j and number c: its row of slots is written, and every other byte stays
+unfoldable pub withRow : List ℕ → (sender number : ℕ) → Entry → List ℕ
+unfolding entryBytes
+withRow b j c e = take (placeIn b j c 0) b ++ (entryBytes (nOf b) e ++ drop (placeIn b j c (perEntry (nOf b))) b)
