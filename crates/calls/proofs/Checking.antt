@@ -80,7 +80,7 @@ module _ (b : List ℕ) (j c p : ℕ) (k : Kind) (v : Decl) where
             → result r b ≡ called b a
         recorded-refused n e f r q = called-refused b a n r (e ∙ sym answer-past) f q
 
-        step-takes : recording (heard k p (look b j c)) v ≡ 0 → stepOf b a ≡ takes (rulesBy (headerOf b)) k p v (look b j c)
+        pub step-takes : recording (heard k p (look b j c)) v ≡ 0 → stepOf b a ≡ takes (rulesBy (headerOf b)) k p v (look b j c)
         unfolding stepOf rulesBy rulesOf meant
         step-takes z =
             accepted-is (rulesBy (headerOf b)) (numbersOf b) (ownOf b) p k j c v (look b) (has .sender) (has .number)

@@ -28,6 +28,7 @@ use Rattle.meaning.proofs.Entries.{same-entry}
 use Rattle.meaning.proofs.Stores.{Stored, stored-none}
 use Rattle.meaning.proofs.OneForm.{stored-meant}
 use Rattle.meaning.proofs.Meant.{meant-is-book}
+use Rattle.meaning.proofs.Legality.{legal-facts, legal-head}
 use Rattle.meaning.proofs.Helped.{help-legal, help-bytes, help-meant}
 use Rattle.meaning.proofs.Every.{written-legal, written-bytes, written-meant}
 use Rattle.calls.specs.declared.Outcome.{Outcome}
@@ -173,15 +174,15 @@ module _ (b : List ℕ) (h : legal b ≡ true) (bytes : Bytes b) where
 
     -- an accepted request's bytes mean the book with one more help for the asker
     pub helped-meant : accepted → meant (countHelp b p) ≡ withHelp (meant b) (moreHelp (helpOf b) p)
-    helped-meant z = help-meant b h bytes p (request-from b p season z) (request-low b p season z)
+    helped-meant z = help-meant b (legal-head b h) bytes p (request-from b p season z) (request-low b p season z)
 
     pub helped-keeps : accepted → Keeps b (countHelp b p)
     unfolding meant helpOf
     helped-keeps z =
         let M = helped-meant z in
         record {
-          legal = help-legal b h bytes p (request-from b p season z) (request-low b p season z);
-          bytes = help-bytes b h bytes p (request-from b p season z) (request-low b p season z);
+          legal = help-legal b (legal-head b h) bytes p (request-from b p season z) (request-low b p season z) (legal-facts b h .slots);
+          bytes = help-bytes b (legal-head b h) bytes p (request-from b p season z) (request-low b p season z);
           header = ap (λ (B : Meaning). B .header) M;
           limit = ap (λ (B : Meaning). B .help .limit) M;
           helped = λ q. subst (λ (f : ℕ → ℕ). helpedOf b q ≤ f q) (sym (ap (λ (B : Meaning). B .help .helped) M))

@@ -14,4 +14,5 @@ pub mod Between
 pub mod Silent
 pub mod Ordered
 pub mod Conflict
+pub mod ByEntry
 pub mod Claims

@@ -17,6 +17,7 @@ use Rattle.protocol.proofs.Recording.{recording-none, recording-same, recording
 use Rattle.protocol.specs.Book.{Call, publishing, receiving, senderOf, numberOf}
 use Rattle.meaning.specs.Layout.{helpedPlace}
 use Rattle.meaning.specs.Book.{nOf, numbersOf, ownOf, seasonOf, limitOf, helpedOf, countHelp, look, sheetOf}
+use Rattle.meaning.proofs.Legality.{legal-head}
 use Rattle.meaning.specs.Legal.{legal, Has}
 use Rattle.calls.specs.Entered.{helping, okBy, kindNumber, kindOf, entered}
 use Rattle.calls.specs.Call.{refusal, stepOf, called, published, requestAnswer, requested, received}
@@ -108,7 +109,7 @@ module _ (b : List ℕ) where
 
         module _ (I : Inside b p m) where
           has : Has b j c
-          has = record { is-legal = R .legal; sender = I .sender; number = I .number }
+          has = record { head = legal-head b (R .legal); sender = I .sender; number = I .number }
 
           module _ (t : okBy (sheetOf b) v ≡ true) (from : may j k p ≡ true) where
             -- what recording answers of what was heard

@@ -12,6 +12,7 @@ use Rattle.protocol.specs.Thresholds.{rulesOf}
 use Rattle.meaning.specs.Slot.{slotAt}
 use Rattle.meaning.specs.Layout.{slotPlace}
 use Rattle.meaning.specs.Book.{nOf, numbersOf, ownOf, look, meant, headerOf, sheetOf}
+use Rattle.meaning.proofs.Legality.{legal-head}
 use Rattle.meaning.specs.Legal.{legal, IsDecl}
 use Rattle.calls.specs.declared.Outcome.{Outcome}
 use Rattle.calls.specs.Entered.{Result, result, handed, okBy, rulesBy, entered, publishedAt}
@@ -62,7 +63,7 @@ module _ (b : List ℕ) (h : legal b ≡ true) (c : ℕ) (v : Decl) where
       step-publishes e = ordered .accepted l ok e
 
       seen : look b (ownOf b) c .published ≡ slotAt b (slotPlace (nOf b) c)
-      seen = published-seen b (ownOf b) c (record { is-legal = h; sender = own-below b h; number = l }) refl
+      seen = published-seen b (ownOf b) c (record { head = legal-head b h; sender = own-below b h; number = l }) refl
 
       module _ (t : Bool) (et : t ≡ isSome (slotAt b (slotPlace (nOf b) c))) where
         -- 8

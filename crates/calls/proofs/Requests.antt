@@ -11,8 +11,8 @@ use borrow.Author.Tests.{eq-eqb, ne-eqb, lt-ltb, le-ltb}
 use Rattle.protocol.specs.Run.{helpAnswer}
 use Rattle.meaning.specs.Layout.{mostLimit, helpedPlace}
 use Rattle.meaning.specs.Book.{nOf, seasonOf, limitOf, helpedOf, countHelp}
-use Rattle.meaning.specs.Legal.{legal}
-use Rattle.meaning.proofs.Legality.{legal-facts}
+use Rattle.meaning.specs.Legal.{headLegal}
+use Rattle.meaning.proofs.Legality.{head-facts}
 use Rattle.calls.specs.declared.Outcome.{Outcome}
 use Rattle.calls.specs.Entered.{result, handed, helping}
 use Rattle.calls.specs.Call.{requestAnswer, requested}
@@ -86,6 +86,6 @@ module _ (b : List ℕ) (p : ℕ) where
     unfolding requested
     request-helped m r q d e = rw (eq-eqb _ _ (sym (request-accepted b p (seasonOf b) refl l m))) (λ i. result (q i) (e i))
 
-  pub low-byte : legal b ≡ true → getD b (helpedPlace p) 0 < limitOf b → getD b (helpedPlace p) 0 < 255
+  pub low-byte : headLegal b ≡ true → getD b (helpedPlace p) 0 < limitOf b → getD b (helpedPlace p) 0 < 255
   unfolding mostLimit
-  low-byte h m = omega (arith, m, legal-facts b h .limit)
+  low-byte h m = omega (arith, m, head-facts b h .limit)

@@ -8,4 +8,5 @@ pub mod Between
 pub mod Keeps
 pub mod Silent
 pub mod Answers
+pub mod ByEntry
 pub mod Claims

@@ -171,10 +171,10 @@ module _ (b : List ℕ) (j c : ℕ) (fits : Fits b j c) where
       abbrev b₂ : List ℕ
       b₂ = cond r (putSlot b₁ (at (readySentSlot (nOf b))) v) b₁
 
-      abbrev b₃ : List ℕ
-      b₃ = cond t (putSlot b₂ (at (deliveredSlot (nOf b))) v) b₂
+      abbrev pub laid : List ℕ
+      laid = cond t (putSlot b₂ (at (deliveredSlot (nOf b))) v) b₂
 
-      pub rowed-taken : Rowed b b₃ j c (marked r t v (recorded k p v (look b j c)))
+      pub rowed-taken : Rowed b laid j c (marked r t v (recorded k p v (look b j c)))
       rowed-taken =
           let h = inside (heardSlot (nOf b) k p) heard-below in
           let s = inside (readySentSlot (nOf b)) (ready-sent-below (nOf b)) in
@@ -186,5 +186,5 @@ module _ (b : List ℕ) (j c : ℕ) (fits : Fits b j c) where
           record {
             stored = stored-taken (firstOf b j c) (pastOf b j c) b (fits-sound b j c fits bytes) v d (nOf b) (numbersOf b) refl refl j c
                 (has .sender) (has .number) k p hp r t;
-            apart = apart-then first past b b₂ b₃ both three;
+            apart = apart-then first past b b₂ laid both three;
           }
