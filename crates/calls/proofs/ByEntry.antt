@@ -18,13 +18,14 @@ use Rattle.protocol.specs.Thresholds.{rulesOf}
 use Rattle.meaning.specs.Layout.{slotCount}
 use Rattle.meaning.specs.Book.{nOf, numbersOf, ownOf, seasonOf, sheetOf, headerOf, look, withRow, meant}
 use Rattle.meaning.specs.Legal.{legal, Fits, IsDecl}
-use Rattle.meaning.proofs.Stores.{Stored, stored-whole, stored-taken, legal-sound}
-use Rattle.meaning.proofs.Row.{Rowed, rowed-bytes, rowed-taken, rowed-look, laid}
+use Rattle.meaning.proofs.Stores.{Stored, stored-none, stored-whole, stored-taken, legal-sound}
+use Rattle.meaning.proofs.Row.{Rowed, rowed-bytes, rowed-taken, rowed-none, laid}
 use Rattle.calls.specs.declared.Outcome.{Outcome}
 use Rattle.calls.specs.Entered.{Result, result, handed, letters, okBy, rulesBy, entered}
 use Rattle.calls.specs.Call.{refusal, stepOf, called}
 use Rattle.calls.specs.ByEntry.{enteredIn, calledIn}
 use Rattle.calls.proofs.Entered.{entered-is}
+use Rattle.calls.proofs.Fits.{outcome-refused}
 use Rattle.calls.proofs.Checking.{missing, not-plausible, not-sender, answer-past, step-takes}
 use Rattle.calls.proofs.Keeps.{plausible-decl}
 
@@ -104,3 +105,38 @@ module _ (b : List ℕ) (j c : ℕ) (fits : Fits b j c) (bytes : Bytes b) (p : �
             → cond t (enteredIn b j c o) (refusal (o .answer) b) ≡ cond t (entered b j c o) (refusal (o .answer) b)
         go true e = entered-is b j c o (withRow b j c (o .entry)) (row-left (eqb-true (o .answer) 0 e) .stored h)
         go false e = refl
+
+    -- the step's answer, message and delivery, and the entry that it leaves
+    refused-is : (o .answer ≡ 0 → ⊥) → o ≡ refused (o .answer) (look b j c)
+    unfolding stepOf meant
+    refused-is = outcome-refused R (numbersOf b) (ownOf b) (look b) (receiving p k j c v)
+
+    pub called-left : Left b (calledIn b (receiving p k j c v) .book) j c (o .entry)
+    unfolding calledIn enteredIn
+    called-left = go (eqb (o .answer) 0) refl
+      where
+        go : (t : Bool) → eqb (o .answer) 0 ≡ t → Left b (cond t (enteredIn b j c o) (refusal (o .answer) b) .book) j c (o .entry)
+        go true e = row-left (eqb-true (o .answer) 0 e)
+        go false e =
+            rw (refused-is (eqb-false (o .answer) 0 e))
+            (record { rowed = rowed-none b j c fits bytes; stored = λ h. stored-none b j c h bytes })
+
+-- what is given needs no bytes
+module _ (b : List ℕ) (j c p : ℕ) (v : Decl) (k : Kind) where
+  pub given-is : calledIn b (receiving p k j c v) .given
+      ≡ handed (stepOf b (receiving p k j c v) .answer) (letters (seasonOf b) j c (stepOf b (receiving p k j c v) .message))
+      (stepOf b (receiving p k j c v) .delivery)
+  unfolding calledIn enteredIn stepOf meant
+  given-is = go (eqb (x .answer) 0) refl
+    where
+      x : Out
+      x = stepOf b (receiving p k j c v)
+
+      gives : Out → Outcome
+      gives o = handed (o .answer) (letters (seasonOf b) j c (o .message)) (o .delivery)
+
+      go : (t : Bool) → eqb (x .answer) 0 ≡ t → cond t (enteredIn b j c x) (refusal (x .answer) b) .given ≡ gives x
+      go true e = refl
+      go false e =
+          sym (ap gives (outcome-refused (rulesBy (headerOf b)) (numbersOf b) (ownOf b) (look b) (receiving p k j c v)
+          (eqb-false (x .answer) 0 e)))

@@ -16,6 +16,7 @@ use Rattle.calls.proofs.Ordered.{publishing-ordered, receiving-ordered}
 use Rattle.calls.proofs.Conflict.{conflict-only}
 use Rattle.calls.proofs.Silent.{silent}
 use Rattle.calls.proofs.Between.{between}
+use Rattle.calls.proofs.Known.{by-entry}
 
 requested-meant : (b : List ℕ) → Lent b → (p season : ℕ) → requestAnswer b p season ≡ 0
     → meant (requested b p season .book) ≡ withHelp (meant b) (moreHelp (helpOf b) p)
@@ -38,6 +39,7 @@ claims =
       earliest-exactly = search.earliest-exactly;
       none-exactly = search.none-exactly;
       between = between;
+      by-entry = by-entry;
       settled = record {
         publish-settled = λ b number v r r' after after' p q.
             let e = p ∙ sym q in

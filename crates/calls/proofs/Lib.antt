@@ -15,4 +15,5 @@ pub mod Silent
 pub mod Ordered
 pub mod Conflict
 pub mod ByEntry
+pub mod Known
 pub mod Claims

@@ -23,7 +23,7 @@ use Rattle.calls.specs.Again.{returned, sending, sentOn, sentAs, sentOf}
 use Rattle.calls.specs.Silent.{Refuses, Silent}
 
 module _ (b : List ℕ) where
-  refuses : (n : ℕ) → Refuses b (refusal n b)
+  pub refuses : (n : ℕ) → Refuses b (refusal n b)
   refuses n = record { book = refl; gives = refl; message = refl; delivers = refl; declaration = refl; helps = refl }
 
   abbrev Silently : Result → Type 0
@@ -49,7 +49,7 @@ module _ (b : List ℕ) where
       go true f = called-silent (publishing c v) f
       go false f = refuses 1
 
-  requested-silent : (p season : ℕ) → Silently (requested b p season)
+  pub requested-silent : (p season : ℕ) → Silently (requested b p season)
   unfolding requested
   requested-silent p season = go (eqb (requestAnswer b p season) 0)
     where

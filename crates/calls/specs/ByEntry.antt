@@ -111,7 +111,7 @@ pub record ByEntry : Type 0 where
   pub keeps-head : (b : List ℕ) → Bytes b → (house : ℕ) (message : List ℕ) → headLegal b ≡ true
       → headLegal (receivedEntry b house message .book) ≡ true
   pub keeps-header : (b : List ℕ) → Bytes b → (house : ℕ) (message : List ℕ) → headerOf (receivedEntry b house message .book) ≡ headerOf b
-  pub keeps-entry : (b : List ℕ) → Bytes b → (house : ℕ) (message : List ℕ) (j c : ℕ) → headLegal b ≡ true → j < nOf b → c < numbersOf b
+  pub keeps-entry : (b : List ℕ) → Bytes b → (house : ℕ) (message : List ℕ) (j c : ℕ)
       → entryLegal b j c ≡ true → entryLegal (receivedEntry b house message .book) j c ≡ true
   -- The contract settles its outcome, in what is handed back and in each byte of the lent buffer.
   pub settled : (b : List ℕ) (house : ℕ) (message : List ℕ)

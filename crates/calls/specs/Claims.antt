@@ -26,6 +26,7 @@ use Rattle.calls.specs.Answers.{Publishing, Reads, Conflict, Receiving}
 use Rattle.calls.specs.Between.{Between}
 use Rattle.calls.specs.Keeps.{Keeps}
 use Rattle.calls.specs.Silent.{Silent}
+use Rattle.calls.specs.ByEntry.{ByEntry}
 
 -- Two outcomes that meet a call's contract are equal, in what is handed back and in each byte of the lent buffer.
 pub record Settles : Type 0 where
@@ -67,5 +68,7 @@ pub record Claims : Type 0 where
       → (earliest b ≡ none) ↔ ((sender number : ℕ) → sender < nOf b → number < numbersOf b → waits b sender number ≡ false)
   -- The rule between entries.
   pub between : Between
+  -- Receiving by entry.
+  pub by-entry : ByEntry
   -- The contracts settle their outcome.
   pub settled : Settles

@@ -4,8 +4,9 @@ use mathlib.Core.Path.{_≡_, refl, sym, ap, ap₂, _∙_, subst₂}
 use mathlib.Core.Logic.{_⊎_, inl, inr, ⊎-elim}
 use mathlib.Core.Bool.{Bool, true, false, cond}
 use mathlib.Core.List.{List, _++_}
+use native.Mathlib.Decide.{decLt}
 use native.Mathlib.Omega.{arith}
-use lib.ListN.{length, take, drop, length-drop, take-append-drop}
+use lib.ListN.{length, getD, take, drop, length-drop, take-append-drop}
 use lib.Seq.{take-all, drop-drop}
 use Rattle.words.specs.Words.{Bytes}
 use Rattle.entry.specs.Entry.{Decl, Entry, Kind, SEND, ECHO, READY, recorded, marked}
@@ -13,15 +14,16 @@ use Rattle.meaning.specs.Slot.{part, slotAt, slotOk, slotBytes, putSlot}
 use Rattle.meaning.specs.Layout.{slotLength, perEntry, slotPlace, entrySlot, heardSlot, readySentSlot, deliveredSlot}
 use Rattle.meaning.specs.Book.{nOf, numbersOf, ownOf, headerOf, look, placeIn, entryBytes, withRow}
 use Rattle.meaning.specs.Legal.{Has, Fits, IsDecl, entryLegal}
-use Rattle.meaning.proofs.Legality.{entry-at}
+use Rattle.meaning.proofs.Legality.{entry-at, entry-all}
+use Rattle.meaning.proofs.Parts.{getD-first}
 use Rattle.meaning.proofs.Agree.{agree-n, agree-numbers}
 use Rattle.meaning.proofs.Places.{send-below, echo-below, ready-below, ready-sent-below, delivered-below}
 use Rattle.meaning.proofs.Room.{entry-room}
-use Rattle.meaning.proofs.Stores.{Sound, StoredIn, firstOf, pastOf, fits-sound, sound-entry, stored-in-entry, stored-taken}
+use Rattle.meaning.proofs.Stores.{Sound, StoredIn, firstOf, pastOf, fits-sound, sound-entry, stored-in-entry, stored-nothing, stored-taken}
 use Rattle.meaning.proofs.Rows.{rows-parts}
 use Rattle.meaning.proofs.Written.{entry-rows}
 use Rattle.meaning.proofs.Look.{look-at}
-use Rattle.meaning.proofs.Slots.{ok-bytes, put-length, part-elsewhere}
+use Rattle.meaning.proofs.Slots.{ok-bytes, ok-part, put-length, part-elsewhere}
 
 -- bytes a agree with bytes b in every part before place `first` and from place `past` on
 pub record Apart (first past : ℕ) (b a : List ℕ) : Type 0 where
@@ -83,7 +85,7 @@ module _ (b a : List ℕ) (j c : ℕ) (has : Has a j c) (ok : entryLegal a j c �
 
 -- ---- a message's stores, all in one row
 
-pub apart-none : (first past : ℕ) (b : List ℕ) → Apart first past b b
+apart-none : (first past : ℕ) (b : List ℕ) → Apart first past b b
 apart-none first past b = record { long = refl; same = λ k m l. refl }
 
 apart-then : (first past : ℕ) (b a d : List ℕ) → Apart first past b a → Apart first past a d → Apart first past b d
@@ -138,6 +140,14 @@ module _ (b : List ℕ) (j c : ℕ) (fits : Fits b j c) where
     pub rowed-bytes : a ≡ withRow b j c e
     rowed-bytes = apart-row b a j c rowed-has rowed-entry (s .header) (r .apart) ∙ ap (withRow b j c) rowed-look
 
+  -- nothing stored
+  pub rowed-none : Bytes b → Rowed b b j c (look b j c)
+  rowed-none bytes =
+      record {
+        stored = stored-nothing b j c (firstOf b j c) (pastOf b j c) (fits-sound b j c fits bytes);
+        apart = apart-none (placeIn b j c 0) (placeIn b j c (perEntry (nOf b))) b;
+      }
+
   module _ (bytes : Bytes b) (v : Decl) (d : IsDecl v) (k : Kind) (p : ℕ) (hp : p < nOf b) where
     abbrev at : ℕ → ℕ
     at i = placeIn b j c i
@@ -188,3 +198,41 @@ module _ (b : List ℕ) (j c : ℕ) (fits : Fits b j c) where
                 (has .sender) (has .number) k p hp r t;
             apart = apart-then first past b b₂ laid both three;
           }
+
+-- what a change of one entry's row keeps
+module _ (b a : List ℕ) (j c : ℕ) (e : Entry) (r : Rowed b a j c e) where
+  -- each byte outside it
+  pub rowed-same : (i : ℕ) → (i < placeIn b j c 0) ⊎ (placeIn b j c (perEntry (nOf b)) ≤ i) → getD a i 0 ≡ getD b i 0
+  rowed-same i w =
+      let u : (i + 1 ≤ placeIn b j c 0) ⊎ (placeIn b j c (perEntry (nOf b)) ≤ i) =
+      ⊎-elim (λ (l : i < placeIn b j c 0). inl (omega arith)) (λ l. inr l) w
+      in
+      getD-first a i 1 (omega arith) ∙ ap (λ (p : List ℕ). getD p 0 0) (r .apart .same i 1 u) ∙ sym (getD-first b i 1 (omega arith))
+
+  -- each slot that had its one form
+  slot-kept : (m : ℕ) → slotOk b (slotPlace (nOf b) m) ≡ true → slotOk a (slotPlace (nOf b) m) ≡ true
+  unfolding slotPlace
+  slot-kept m o =
+      elim (decLt m (firstOf b j c)) [
+        | yes l ↦ elsewhere (inl (omega arith))
+        | no f ↦ elim (decLt m (pastOf b j c)) [
+            | yes l ↦ ap (λ (x : ℕ). slotOk a (slotPlace x m)) (sym (agree-n a b (r .stored .header)))
+                ∙ r .stored .sound .slots m (omega arith) l
+            | no g ↦ elsewhere (inr (omega arith))
+          ]
+      ]
+    where
+      elsewhere : (slotPlace (nOf b) m + slotLength ≤ placeIn b j c 0) ⊎ (placeIn b j c (perEntry (nOf b)) ≤ slotPlace (nOf b) m)
+          → slotOk a (slotPlace (nOf b) m) ≡ true
+      elsewhere w =
+          ok-part a (slotPlace (nOf b) m) ∙ ap (λ (p : List ℕ). slotOk p 0) (r .apart .same (slotPlace (nOf b) m) slotLength w)
+          ∙ sym (ok-part b (slotPlace (nOf b) m)) ∙ o
+
+  -- and so each entry that was legal
+  pub rowed-others : (j₂ c₂ : ℕ) → entryLegal b j₂ c₂ ≡ true → entryLegal a j₂ c₂ ≡ true
+  rowed-others j₂ c₂ o =
+      let n = agree-n a b (r .stored .header) in
+      let s = agree-numbers a b (r .stored .header) in
+      entry-all a j₂ c₂
+      (λ i l. (λ x. slotOk a (slotPlace (n x) (entrySlot (n x) (s x) c₂ j₂ i)))
+      ∙ slot-kept (entrySlot (nOf b) (numbersOf b) c₂ j₂ i) (entry-at b j₂ c₂ o i (rw n at l)))

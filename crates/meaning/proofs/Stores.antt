@@ -138,7 +138,7 @@ module _ (b : List ℕ) (j c : ℕ) where
     pub stored-in-entry : (a : List ℕ) (e : Entry) → StoredIn from to b a j c e → look a j c ≡ e
     stored-in-entry a e s = placed a e (s .entries)
 
-    stored-nothing : Sound from to b → StoredIn from to b b j c (look b j c)
+    pub stored-nothing : Sound from to b → StoredIn from to b b j c (look b j c)
     stored-nothing s = record { sound = s; header = refl; help = refl; entries = place-same (look b) j c }
 
     -- what the second makes of the entry after the first
