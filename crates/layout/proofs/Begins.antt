@@ -1,4 +1,4 @@
--- An entry of a legal book begins where its first slot stands, and lies within the book, slot by slot.
+-- An entry of a book with a legal head begins where its first slot stands, and lies within the book, slot by slot.
 use Prim.Native.Nat.{ℕ, _+_, _-_, _<_, _≤_, _*_}
 use mathlib.Core.Path.{_≡_, _∙_}
 use mathlib.Core.List.{List}
@@ -7,9 +7,9 @@ use lib.ListN.{length}
 use Rattle.meaning.specs.Layout.{perEntry, slotLength, placeFrom, slotPlace, entrySlot, echoSlot, readySlot}
 use Rattle.meaning.specs.Book.{nOf, numbersOf, placeIn}
 use Rattle.meaning.specs.Legal.{Has}
-use Rattle.meaning.proofs.Legality.{legal-facts}
+use Rattle.meaning.proofs.Legality.{head-facts}
 use Rattle.layout.specs.Places.{Within, Begins}
-use Rattle.meaning.proofs.Room.{header-room, entry-room}
+use Rattle.meaning.proofs.Room.{head-room, entry-room}
 
 pub begins : (b : List ℕ) (j c n s k r : ℕ) → Has b j c → n ≡ nOf b → s ≡ numbersOf b → k ≡ entrySlot n s c j 0
     → r ≡ slotPlace n k → r < 4294967296 → Begins b j c r
@@ -18,9 +18,9 @@ begins b j c n s k r has en es ek er small =
     record {
       is = is;
       within = record {
-        n = legal-facts b (has .is-legal) .n;
-        down = legal-facts b (has .is-legal) .down;
-        some = omega (arith, header-room b (has .is-legal));
+        n = head-facts b (has .head) .n;
+        down = head-facts b (has .head) .down;
+        some = omega (arith, head-room b (has .head));
         room = omega (arith, entry-room b j c has);
         small = small;
       };

@@ -1,7 +1,7 @@
-// Numbers of 32 bits as four bytes, big-endian, and a declaration as its 20.
+// Numbers of 32 bits as four bytes, big-endian, a declaration as its 20, and 20 bytes as they stand.
 ghost use mathlib.Core.Path.{_≡_};
 ghost use Prim.Native.Nat.{_+_, _<_};
-ghost use lib.ListN.{length};
+ghost use lib.ListN.{length, take, drop};
 ghost use Rattle.words.specs.Words.{quadOf, wordAt};
 ghost use Rattle.lot.specs.Declaration.{declarationAt, bytesOf};
 use lot::Declaration;
@@ -80,4 +80,16 @@ pub fn bytes_of(d: Declaration) -> [u8; 20]
         e.c,
         e.d,
     ]
+}
+
+// The 20 bytes that stand at i, copied in one piece.
+pub fn twenty_at(bytes: &[u8], i: usize) -> [u8; 20]
+    requires { ⌜ i + 19 < length (now bytes) ⌝ }
+    ensures { λ r. ⌜ r ≡ take 20 (drop i (now (bytes .entry))) ⌝ }
+{
+    let mut twenty: [u8; 20] = [0; 20];
+    for k in 0..20 {
+        twenty[k] = bytes[i + k];
+    }
+    twenty
 }

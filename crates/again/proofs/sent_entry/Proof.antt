@@ -3,7 +3,7 @@ use Rattle.again.proofs.Sent.{sent-send, sent-other, sent-echo, sent-re
 use Rattle.meaning.specs.Layout.{slotPlace, publishedSlot}
 use Rattle.layout.proofs.Begins.{slot-room}
 use Rattle.meaning.proofs.Places.{send-below, ready-sent-below}
-use Rattle.meaning.proofs.Room.{header-room, published-room}
+use Rattle.meaning.proofs.Room.{head-room, published-room}
 use denote.Ref.{now}
 use native.Mathlib.Omega.{arith}
 use Prim.Native.Nat.{ℕ}
@@ -15,7 +15,7 @@ use Rattle.again.proofs.sent_entry.Tie as tie
 n-of-requires : tie.Need-n-of-requires
 n-of-requires c κs =
     let start = c .before in
-    let h = header-room _ (start .pre .is-legal) in omega arith
+    let h = head-room _ (start .pre .head) in omega arith
 
 entry-at-requires : tie.Need-entry-at-requires
 entry-at-requires c κs = search needs
@@ -31,8 +31,8 @@ sent-in-requires c κs =
     let at-n-of = c .before .before .before .before .before in
     let start = at-n-of .before .before in
     let a = start .args in
-    let h = header-room _ (start .pre .is-legal) in
-    let room = published-room (now (a .book)) (a .number) (start .pre .is-legal) (start .pre .number) in (
+    let h = head-room _ (start .pre .head) in
+    let room = published-room (now (a .book)) (a .number) (start .pre .head) (start .pre .number) in (
       omega (arith, c .published-at .ensures, ap (λ (x : ℕ). slotPlace x (publishedSlot (a .number))) (at-n-of .n-of .ensures .0)),
       omega arith,
     )
@@ -62,7 +62,7 @@ sent-in-requires-2 c κs =
     let at-n-of = at-entry-at .before in
     let start = at-n-of .before .before in
     let a = start .args in
-    let h = header-room _ (start .pre .is-legal) in (
+    let h = head-room _ (start .pre .head) in (
       omega (
         arith,
         slot-room _ _ _ (at-entry-at .entry-at .ensures .within) (send-below _),
@@ -81,7 +81,7 @@ sent-in-requires-3 c κs =
     let at-n-of = at-entry-at .before in
     let start = at-n-of .before .before in
     let a = start .args in
-    let h = header-room _ (start .pre .is-legal) in (
+    let h = head-room _ (start .pre .head) in (
       omega (
         arith,
         slot-room _ _ _ (at-entry-at .entry-at .ensures .within) (ready-sent-below _),

@@ -1,5 +1,5 @@
 -- `layout::entry_at` meets its contract.
-use Rattle.meaning.proofs.Room.{header-room}
+use Rattle.meaning.proofs.Room.{head-room}
 use Rattle.layout.proofs.Begins.{begins}
 use native.Mathlib.Omega.{arith}
 use borrow.Author.Needs.{needs}
@@ -7,10 +7,10 @@ use Rattle.layout.proofs.entry_at.Statement.{statement}
 use Rattle.layout.proofs.entry_at.Tie as tie
 
 n-of-requires : tie.Need-n-of-requires
-n-of-requires c κs = let h = header-room _ (c .before .pre .is-legal) in omega arith
+n-of-requires c κs = let h = head-room _ (c .before .pre .head) in omega arith
 
 numbers-of-requires : tie.Need-numbers-of-requires
-numbers-of-requires c κs = let h = header-room _ (c .before .before .pre .is-legal) in omega arith
+numbers-of-requires c κs = let h = head-room _ (c .before .before .pre .head) in omega arith
 
 entry-slot-requires : tie.Need-entry-slot-requires
 entry-slot-requires c κs = search needs

@@ -6,6 +6,7 @@ use Rattle.meaning.specs.Layout.{slotPlace, publishedSlot}
 use Rattle.meaning.specs.Slot.{slotAt}
 use Rattle.entry.specs.Entry.{isSome}
 use Prim.Native.Nat.{ℕ}
+use Rattle.meaning.proofs.Legality.{legal-head}
 use denote.Ref.{now}
 use native.Mathlib.Omega.{arith}
 use mathlib.Core.Path.{ap, _∙_}
@@ -31,7 +32,7 @@ is-full-requires c κs =
     let start = at-n-of .before .before .before in
     let n = at-n-of .n-of .ensures .0 in
     let place = at-published-at .published-at .ensures ∙ ap (λ (x : ℕ). slotPlace x (publishedSlot (start .args .number))) n in
-    omega (arith, published-room _ (start .args .number) (start .pre .0) (start .pre .1), place)
+    omega (arith, published-room _ (start .args .number) (legal-head _ (start .pre .0)) (start .pre .1), place)
 
 refuse-requires : tie.Need-refuse-requires
 refuse-requires c κs = search needs
@@ -69,7 +70,7 @@ put-slot-requires c κs =
     let start = at-n-of .before .before .before in
     let n = at-n-of .n-of .ensures .0 in
     let place = at-published-at .published-at .ensures ∙ ap (λ (x : ℕ). slotPlace x (publishedSlot (start .args .number))) n in
-    omega (arith, published-room _ (start .args .number) (start .pre .0) (start .pre .1), place)
+    omega (arith, published-room _ (start .args .number) (legal-head _ (start .pre .0)) (start .pre .1), place)
 
 cast-accept : tie.Need-cast-accept
 cast-accept c = search needs

@@ -33,7 +33,7 @@ waits-at-requires : tie.Need-waits-at-requires Inv-loop μ-loop Inv-search μ-se
 waits-at-requires c κs =
     let start = c .before .before .before .before .before in
     record {
-      is-legal = start .pre .0;
+      head = legal-head _ (start .pre .0);
       sender = omega (arith, start .pre .1, c .loop-test .taken);
       number = omega (arith, start .pre .2, c .before .before .search-test .taken);
     }
