@@ -7,14 +7,15 @@ use mathlib.Core.Logic.{_↔_}
 use mathlib.Core.Option.{Option, none, some}
 use native.Mathlib.Omega.{arith}
 use lib.Dec.{eqb}
-use lib.ListN.{getD}
+use lib.ListN.{getD, set, take, drop}
 use borrow.Author.Tests.{eqb-true}
 use Rattle.words.specs.Words.{Bytes}
 use Rattle.words.proofs.Laws.{word-be, be-wordAt}
 use Rattle.words.proofs.Listed.{listed-is}
 use Rattle.lot.specs.Declaration.{declarationAt, bytesOf}
 use Rattle.lot.proofs.Declared.{numbers-of-bytes}
-use Rattle.message.specs.Message.{Five, Told, isKind, wire, fieldAt, tagged, wellFormed, fiveAt, readAs, malformed, readOf}
+use Rattle.words.specs.Words.{wordAt}
+use Rattle.message.specs.Message.{Five, Told, isKind, fields, wire, fieldAt, tagged, wellFormed, fiveAt, readAs, malformed, readOf}
 use Rattle.message.proofs.Form.{sized, known-kind, tags}
 
 -- ---- reading undoes writing
@@ -66,6 +67,18 @@ module _ (s : List ℕ) (bytes : Bytes s) where
         ∙ (λ i.
         x i ++ (getD s 3 0 ∷ y i ++ (w 7 i ++ (getD s 11 0 ∷ getD s 12 0 ∷ z i
         ++ (w 16 i ++ (w 20 i ++ (w 24 i ++ (w 28 i ++ w 32 i)))))))))
+
+    -- its declaration's bytes, as they stand
+    pub lot-bytes : take 20 (drop 16 s) ≡ bytesOf (declarationAt s 16)
+    unfolding wire fiveAt bytesOf declarationAt
+    lot-bytes = ap (λ (l : List ℕ). take 20 (drop 16 l)) (sym wire-of-five)
+
+    -- the same message with another kind
+    pub other-kind : (k : ℕ) → set s 3 k ≡ fields k (wordAt s 7) (getD s 11 0) (getD s 12 0) (take 20 (drop 16 s))
+    unfolding wire fiveAt bytesOf declarationAt
+    other-kind k =
+        ap (λ (l : List ℕ). set l 3 k) (sym wire-of-five)
+        ∙ ap (fields k (wordAt s 7) (getD s 11 0) (getD s 12 0)) (sym lot-bytes)
 
   pub wire-of-read : (m : Five) → readOf s ≡ readAs m → (s ≡ wire m) × (isKind (m .kind) ≡ true)
   unfolding readOf
