@@ -13,9 +13,9 @@ use Rattle.lot.specs.Declaration.{declarationAt}
 use Rattle.sheet.specs.Sheet.{plausible}
 use Rattle.message.specs.Message.{Five, wire}
 use Rattle.entry.specs.Entry.{Decl, Kind, SEND, ECHO, READY, Entry, putAt}
-use Rattle.protocol.specs.Steps.{Rules, Say, say, Out, publishes, takes}
+use Rattle.protocol.specs.Steps.{Rules, Say, say, Out, publishes}
 use Rattle.protocol.specs.Thresholds.{rulesOf}
-use Rattle.meaning.specs.Book.{Header, Meaning, headerOf, meant, look, write, ownOf, seasonOf, sheetOf}
+use Rattle.meaning.specs.Book.{Header, Meaning, meant, look, write, ownOf, seasonOf, sheetOf}
 use Rattle.meaning.specs.Legal.{IsDecl}
 use Rattle.calls.specs.declared.Outcome.{Outcome}
 
@@ -119,11 +119,6 @@ entered b j c o =
       given = handed (o .answer) (letters (seasonOf b) j c (o .message)) (o .delivery);
       book = write (withEntry (meant b) j c (o .entry));
     }
-
--- an accepted message of the kind from house p, on the entry of sender j and number c
-unfoldable pub taken : List ℕ → (house : ℕ) → Kind → (sender number : ℕ) → Decl → Result
-unfolding entered rulesBy
-taken b p k j c v = entered b j c (takes (rulesBy (headerOf b)) k p v (look b j c))
 
 -- an accepted publication at number c
 unfoldable pub publishedAt : List ℕ → (number : ℕ) → Decl → Result

@@ -14,8 +14,8 @@ use Rattle.protocol.specs.Thresholds.{rulesOf}
 use Rattle.meaning.specs.Slot.{slotAt, putSlot}
 use Rattle.meaning.specs.Layout.{slotLength, heardSlot, slotPlace, entrySlot, echoSlot, readySlot, readySentSlot, deliveredSlot}
 use Rattle.meaning.specs.Book.{headerOf, downOf, nOf, numbersOf, look, placeIn}
-use Rattle.meaning.specs.Legal.{legal, IsDecl, Has}
-use Rattle.meaning.proofs.Stores.{Stored, stored-entry, stored-heard}
+use Rattle.meaning.specs.Legal.{IsDecl, Has, Fits}
+use Rattle.meaning.proofs.Row.{Rowed, rowed-has, rowed-look, rowed-taken}
 use Rattle.marks.specs.declared.Marks.{Marks}
 use Rattle.calls.specs.Entered.{rulesBy}
 use Rattle.layout.specs.Places.{slotFrom}
@@ -57,32 +57,27 @@ module _ (b : List ℕ) (j c : ℕ) (has : Has b j c) (base : ℕ) (at : base �
 
 -- ---- a voucher taken: recorded, and marked as the vouchers now say
 
-module _ (b : List ℕ) (h : legal b ≡ true) (bytes : Bytes b) (j c p : ℕ) (has : Has b j c) (hp : p < nOf b) (v : Decl) (dv : IsDecl v) where
+module _ (b : List ℕ) (bytes : Bytes b) (j c p : ℕ) (fits : Fits b j c) (hp : p < nOf b) (v : Decl) (dv : IsDecl v) where
   abbrev R : Rules
   R = rulesBy (headerOf b)
 
   abbrev pub heard-in : Kind → List ℕ
   heard-in k = putSlot b (placeIn b j c (heardSlot (nOf b) k p)) v
 
-  one : (k : Kind) → Stored b (heard-in k) j c (recorded k p v (look b j c))
-  one k = stored-heard b h bytes v dv (nOf b) (numbersOf b) refl refl j c (has .sender) (has .number) k p hp
+  one : (k : Kind) → Rowed b (heard-in k) j c (recorded k p v (look b j c))
+  one k = rowed-taken b j c fits bytes v dv k p hp false false
 
   n-one : (k : Kind) → nOf (heard-in k) ≡ nOf b
-  n-one k = agree-n (heard-in k) b (one k .header)
+  n-one k = agree-n (heard-in k) b (one k .stored .header)
 
   numbers-one : (k : Kind) → numbersOf (heard-in k) ≡ numbersOf b
-  numbers-one k = agree-numbers (heard-in k) b (one k .header)
+  numbers-one k = agree-numbers (heard-in k) b (one k .stored .header)
 
   down-one : (k : Kind) → downOf (heard-in k) ≡ downOf b
-  down-one k = agree-down (heard-in k) b (one k .header)
+  down-one k = agree-down (heard-in k) b (one k .stored .header)
 
   pub has-one : (k : Kind) → Has (heard-in k) j c
-  has-one k =
-      record {
-        is-legal = one k .legal;
-        sender = omega (arith, n-one k, has .sender);
-        number = omega (arith, numbers-one k, has .number);
-      }
+  has-one k = rowed-has b j c fits (heard-in k) (recorded k p v (look b j c)) (one k)
 
   pub base-one : (k : Kind) → placeIn b j c 0 ≡ placeIn (heard-in k) j c 0
   base-one k = sym (λ i. slotPlace (n-one k i) (entrySlot (n-one k i) (numbers-one k i) c j 0))
@@ -100,7 +95,7 @@ module _ (b : List ℕ) (h : legal b ≡ true) (bytes : Bytes b) (j c p : ℕ) (
   pub echo-taken : taking ECHO (echoMark (heard-in ECHO) (placeIn b j c 0) v) false ≡ takes R ECHO p v (look b j c)
   unfolding takesEcho rulesBy rulesOf countsOf headerOf
   echo-taken =
-      let e = stored-entry b j c (heard-in ECHO) (recorded ECHO p v (look b j c)) (one ECHO) in
+      let e = rowed-look b j c fits (heard-in ECHO) (recorded ECHO p v (look b j c)) (one ECHO) in
       let n = n-one ECHO in
       let f = down-one ECHO in
       ap (λ (g : Bool). taking ECHO g false)
@@ -111,7 +106,7 @@ module _ (b : List ℕ) (h : legal b ≡ true) (bytes : Bytes b) (j c p : ℕ) (
       → taking READY (m .gives) (m .delivers) ≡ takes R READY p v (look b j c)
   unfolding takesReady rulesBy rulesOf countsOf headerOf
   ready-taken m em =
-      let e = stored-entry b j c (heard-in READY) (recorded READY p v (look b j c)) (one READY) in
+      let e = rowed-look b j c fits (heard-in READY) (recorded READY p v (look b j c)) (one READY) in
       let n = n-one READY in
       let f = down-one READY in
       ap (λ (m : Marks). taking READY (m .gives) (m .delivers))

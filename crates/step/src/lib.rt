@@ -1,80 +1,82 @@
-// One step on the bytes: what an entry of a legal book records, marks, gives and delivers, past every answer but the last.
+// One step on the bytes: what the entry that a message names records, marks, gives and delivers, past every answer but the last.
 ghost use mathlib.Core.Path.{_≡_};
-ghost use mathlib.Core.Bool.{true};
 ghost use Prim.Native.Nat.{_<_};
 ghost use Rattle.entry.specs.Entry.{SEND, ECHO, READY};
-ghost use Rattle.protocol.specs.Book.{receiving};
 ghost use Rattle.meaning.specs.Book.{nOf};
-ghost use Rattle.meaning.specs.Legal.{Has};
-ghost use Rattle.calls.specs.Entered.{Plausible, result};
-ghost use Rattle.calls.specs.Call.{called};
-ghost use Rattle.layout.specs.Places.{Begins};
-use calls::Outcome;
+ghost use Rattle.calls.specs.Entered.{result};
+ghost use Rattle.calls.specs.ByEntry.{calledIn};
+ghost use Rattle.reply.specs.Handed.{senderIn, outcomeOf};
+ghost use Rattle.step.specs.Carries.{askedBy, Carries};
 use fields::ECHO;
 use fields::READY;
+use reply::Step;
+
+// Where the declaration's 20 bytes stand in a message.
+const LOT: usize = 16;
 
 // A SEND from the entry's sender: recorded, and answered with an ECHO of it.
-pub fn hear_send(book: &mut [u8], sender: u8, number: u8, base: usize, d: [u8; 20]) -> Outcome
-    requires { ⌜ Has (now book) sender number × Begins (now book) sender number base × Plausible (now book) d ⌝ }
-    ensures { λ r. ⌜ result r (now (book .exit)) ≡ called (now (book .entry)) (receiving sender SEND sender number d) ⌝ }
+pub fn hear_send(book: &mut [u8], base: usize, message: &[u8]) -> Step
+    requires { ⌜ Carries (now book) (now message) base ⌝ }
+    ensures { λ r. ⌜ result (outcomeOf r (now (message .entry))) (now (book .exit))
+        ≡ calledIn (now (book .entry)) (askedBy (senderIn (now (message .entry))) SEND (now (message .entry))) ⌝ }
 {
     let at = layout::send_at(base);
-    let answer = marks::record_answer(book, at, d);
+    let answer = marks::record_answer(book, at, octets::twenty_at(message, LOT));
     if answer == 0 {
-        let season = layout::season_of(book);
-        slots::put_slot(book, at, d);
-        return reply::accept(true, ECHO, season, sender, number, false, d);
+        slots::put_slot(book, at, octets::twenty_at(message, LOT));
+        return Step {
+            answer: 0,
+            gives: true,
+            kind: ECHO,
+            delivers: false,
+        };
     }
-    reply::refuse(answer)
+    reply::refused(answer)
 }
 
 // An ECHO: recorded; at the quorum a READY is marked and given.
-pub fn hear_echo(
-    book: &mut [u8],
-    house: usize,
-    sender: u8,
-    number: u8,
-    base: usize,
-    d: [u8; 20],
-) -> Outcome
-    requires { ⌜ Has (now book) sender number × Begins (now book) sender number base × Plausible (now book) d × (house < nOf (now book)) ⌝ }
-    ensures { λ r. ⌜ result r (now (book .exit)) ≡ called (now (book .entry)) (receiving house ECHO sender number d) ⌝ }
+pub fn hear_echo(book: &mut [u8], house: usize, base: usize, message: &[u8]) -> Step
+    requires { ⌜ Carries (now book) (now message) base × (house < nOf (now book)) ⌝ }
+    ensures { λ r. ⌜ result (outcomeOf r (now (message .entry))) (now (book .exit))
+        ≡ calledIn (now (book .entry)) (askedBy house ECHO (now (message .entry))) ⌝ }
 {
     let n = layout::n_of(book);
     let at = layout::echo_at(base, house);
-    let answer = marks::record_answer(book, at, d);
+    let answer = marks::record_answer(book, at, octets::twenty_at(message, LOT));
     if answer == 0 {
-        let season = layout::season_of(book);
-        slots::put_slot(book, at, d);
-        let gives = marks::echo_mark(book, base, d);
-        marks::mark(book, layout::ready_sent_at(base, n), gives, d);
-        return reply::accept(gives, READY, season, sender, number, false, d);
+        slots::put_slot(book, at, octets::twenty_at(message, LOT));
+        let gives = marks::echo_mark(book, base, octets::twenty_at(message, LOT));
+        marks::mark(book, layout::ready_sent_at(base, n), gives, octets::twenty_at(message, LOT));
+        return Step {
+            answer: 0,
+            gives,
+            kind: READY,
+            delivers: false,
+        };
     }
-    reply::refuse(answer)
+    reply::refused(answer)
 }
 
 // A READY: recorded; at t+1 a READY is marked and given, at 2t+f+1 the declaration marked and delivered.
-pub fn hear_ready(
-    book: &mut [u8],
-    house: usize,
-    sender: u8,
-    number: u8,
-    base: usize,
-    d: [u8; 20],
-) -> Outcome
-    requires { ⌜ Has (now book) sender number × Begins (now book) sender number base × Plausible (now book) d × (house < nOf (now book)) ⌝ }
-    ensures { λ r. ⌜ result r (now (book .exit)) ≡ called (now (book .entry)) (receiving house READY sender number d) ⌝ }
+pub fn hear_ready(book: &mut [u8], house: usize, base: usize, message: &[u8]) -> Step
+    requires { ⌜ Carries (now book) (now message) base × (house < nOf (now book)) ⌝ }
+    ensures { λ r. ⌜ result (outcomeOf r (now (message .entry))) (now (book .exit))
+        ≡ calledIn (now (book .entry)) (askedBy house READY (now (message .entry))) ⌝ }
 {
     let n = layout::n_of(book);
     let at = layout::ready_at(base, n, house);
-    let answer = marks::record_answer(book, at, d);
+    let answer = marks::record_answer(book, at, octets::twenty_at(message, LOT));
     if answer == 0 {
-        let season = layout::season_of(book);
-        slots::put_slot(book, at, d);
-        let m = marks::ready_marks(book, base, d);
-        marks::mark(book, layout::ready_sent_at(base, n), m.gives, d);
-        marks::mark(book, layout::delivered_at(base, n), m.delivers, d);
-        return reply::accept(m.gives, READY, season, sender, number, m.delivers, d);
+        slots::put_slot(book, at, octets::twenty_at(message, LOT));
+        let m = marks::ready_marks(book, base, octets::twenty_at(message, LOT));
+        marks::mark(book, layout::ready_sent_at(base, n), m.gives, octets::twenty_at(message, LOT));
+        marks::mark(book, layout::delivered_at(base, n), m.delivers, octets::twenty_at(message, LOT));
+        return Step {
+            answer: 0,
+            gives: m.gives,
+            kind: READY,
+            delivers: m.delivers,
+        };
     }
-    reply::refuse(answer)
+    reply::refused(answer)
 }

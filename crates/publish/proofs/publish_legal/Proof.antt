@@ -1,7 +1,8 @@
 -- `publish::publish_legal` meets its contract.
 use Rattle.calls.proofs.Published.{number-refused, lot-refused}
 use Rattle.calls.proofs.Declarations.{plausible-ok}
-use Rattle.calls.proofs.Checking.{book-sheet}
+use Rattle.calls.proofs.Checking.{head-sheet}
+use Rattle.meaning.proofs.Legality.{legal-head}
 use Rattle.meaning.specs.Book.{sheetOf}
 use Rattle.meaning.proofs.Room.{header-room}
 use denote.Ref.{now}
@@ -31,7 +32,7 @@ is-plausible-requires : tie.Need-is-plausible-requires
 is-plausible-requires c κs =
     let at-sheet-of = c .before .before in
     let start = at-sheet-of .before .before .before .before .before .before in
-    book-sheet (now (start .args .book)) _ (start .pre .0) (at-sheet-of .sheet-of .ensures)
+    head-sheet (now (start .args .book)) _ (legal-head _ (start .pre .0)) (at-sheet-of .sheet-of .ensures)
 
 enter-publication-requires : tie.Need-enter-publication-requires
 enter-publication-requires c κs =

@@ -1,13 +1,11 @@
 -- `step::hear_echo` meets its contract.
-use Rattle.step.proofs.Entered.{slot-checked, heard-within, echo-entered}
-use Rattle.calls.proofs.Checking.{recorded-refused, message-taken}
-use Rattle.entry.specs.Entry.{ECHO}
 use Rattle.meaning.specs.Book.{nOf}
 use Rattle.meaning.proofs.Places.{echo-below, ready-sent-below}
+use Rattle.message.proofs.Form.{sized}
 use Rattle.layout.proofs.Begins.{slot-room}
+use Rattle.step.proofs.Heard.{echo-refused, echo-within, echo-heard}
 use denote.Ref.{now}
 use native.Mathlib.Omega.{arith}
-use mathlib.Core.Path.{refl, sym, _∙_}
 use borrow.Author.Needs.{needs}
 use Rattle.step.proofs.hear_echo.Statement.{statement}
 use Rattle.step.proofs.hear_echo.Tie as tie
@@ -18,107 +16,112 @@ n-of-requires c κs = search needs
 echo-at-requires : tie.Need-echo-at-requires
 echo-at-requires c κs = search needs
 
+twenty-at-requires : tie.Need-twenty-at-requires
+twenty-at-requires c κs =
+    let start = c .before .before .before .before .before .before in
+    omega (arith, sized (now (start .args .message)) (start .pre .0 .formed))
+
 record-answer-requires : tie.Need-record-answer-requires
 record-answer-requires c κs =
-    let at-echo-at = c .before in
+    let at-echo-at = c .before .before in
     let at-n-of = at-echo-at .before in
-    let start = at-n-of .before .before .before in
-    let n = at-n-of .n-of .ensures .0 in
-    omega (
-      arith,
-      slot-room _ _ _ (start .pre .1 .within)
-          (echo-below (nOf (now (start .args .book))) (start .args .house) (start .pre .3)),
-      at-echo-at .echo-at .ensures,
-      n,
-    )
+    let start = at-n-of .before .before .before .before in
+    omega (arith, slot-room _ _ _ (start .pre .0 .begins .within) (echo-below (nOf (now (start .args .book))) (start .args .house) (start .pre .1)), at-echo-at .echo-at .ensures, at-n-of .n-of .ensures .0)
 
-season-of-requires : tie.Need-season-of-requires
-season-of-requires c κs = search needs
+twenty-at-requires-2 : tie.Need-twenty-at-requires-2
+twenty-at-requires-2 c κs =
+    let start = c .before .before .before .before .before .before .before .before .before .before in
+    omega (arith, sized (now (start .args .message)) (start .pre .0 .formed))
 
 put-slot-requires : tie.Need-put-slot-requires
 put-slot-requires c κs =
     let at-echo-at = c .before .before .before .before .before .before in
     let at-n-of = at-echo-at .before in
-    let start = at-n-of .before .before .before in
-    let n = at-n-of .n-of .ensures .0 in
-    omega (
-      arith,
-      slot-room _ _ _ (start .pre .1 .within)
-          (echo-below (nOf (now (start .args .book))) (start .args .house) (start .pre .3)),
-      at-echo-at .echo-at .ensures,
-      n,
-    )
+    let start = at-n-of .before .before .before .before in
+    omega (arith, slot-room _ _ _ (start .pre .0 .begins .within) (echo-below (nOf (now (start .args .book))) (start .args .house) (start .pre .1)), at-echo-at .echo-at .ensures, at-n-of .n-of .ensures .0)
+
+twenty-at-requires-3 : tie.Need-twenty-at-requires-3
+twenty-at-requires-3 c κs =
+    let start = c .before .before .before .before .before .before .before .before .before .before .before .before .before .before .before in
+    omega (arith, sized (now (start .args .message)) (start .pre .0 .formed))
 
 echo-mark-requires : tie.Need-echo-mark-requires
 echo-mark-requires c κs =
-    let at-put-slot = c .before .before .before in
-    let at-echo-at = at-put-slot .before .before .before .before .before .before .before in
-    let known = at-echo-at .before .before .before in
+    let at-put-slot = c .before .before .before .before in
+    let at-twenty-at2 = at-put-slot .before in
+    let at-record-answer = at-twenty-at2 .before .before .before in
+    let at-twenty-at = at-record-answer .before in
+    let at-echo-at = at-twenty-at .before .before in
+    let at-n-of = at-echo-at .before in
+    let known = at-n-of .before .before .before in
     let start = known .before in
     let a = start .args in
-    let has = start .pre .0 in
-    heard-within (now (a .book)) (has .is-legal) (λ i. omega (arith, known .slice-known .given i)) (a .sender) (a .number) (a .house) has
-    (start .pre .3) (a .d) (start .pre .2 .decl) ECHO (a .base) _ _ (start .pre .1) (at-echo-at .echo-at .ensures)
-    (at-put-slot .put-slot .ensures)
+    echo-within (now (a .book)) (now (a .message)) (a .base) (start .pre .0) (a .house) (start .pre .1) _ _ _ _ (at-n-of .n-of .ensures .0)
+    (at-twenty-at .twenty-at .ensures) (at-record-answer .record-answer .ensures) (λ i. omega (arith, known .slice-known .given i)) _
+    (at-twenty-at2 .twenty-at2 .ensures) _ (at-put-slot .put-slot .ensures) (at-echo-at .echo-at .ensures)
 
 ready-sent-at-requires : tie.Need-ready-sent-at-requires
 ready-sent-at-requires c κs = search needs
 
+twenty-at-requires-4 : tie.Need-twenty-at-requires-4
+twenty-at-requires-4 c κs =
+    let start = c .before .before .before .before .before .before .before .before .before .before .before .before .before .before .before .before .before .before .before in
+    omega (arith, sized (now (start .args .message)) (start .pre .0 .formed))
+
 mark-requires : tie.Need-mark-requires
 mark-requires c κs =
-    let at-n-of = c .before .before .before .before .before .before .before .before .before .before .before .before .before .before in
-    let start = at-n-of .before .before .before in
-    let n = at-n-of .n-of .ensures .0 in
-    omega (arith, slot-room _ _ _ (start .pre .1 .within) (ready-sent-below (nOf (now (start .args .book)))), c .ready-sent-at .ensures, n)
-
-accept-requires : tie.Need-accept-requires
-accept-requires c κs = search needs
+    let at-ready-sent-at = c .before in
+    let at-book = at-ready-sent-at .before .before .before .before .before .before in
+    let at-n-of = at-book .before .before .before .before .before .before .before .before .before in
+    let start = at-n-of .before .before .before .before in
+    omega (arith, at-book .book .given, slot-room _ _ _ (start .pre .0 .begins .within) (ready-sent-below (nOf (now (start .args .book)))),
+    at-ready-sent-at .ready-sent-at .ensures, at-n-of .n-of .ensures .0)
 
 same-length : tie.Need-same-length
 same-length c = search needs
 
 returns : tie.Need-returns
 returns c =
-    let at-mark = c .before .before .before in
-    let at-ready-sent-at = at-mark .before in
+    let at-mark = c .before .before in
+    let at-twenty-at4 = at-mark .before in
+    let at-ready-sent-at = at-twenty-at4 .before in
     let at-echo-mark = at-ready-sent-at .before .before in
-    let at-put-slot = at-echo-mark .before .before .before .before in
-    let at-season-of = at-put-slot .before .before in
-    let at-if1 = at-season-of .before .before in
+    let at-twenty-at3 = at-echo-mark .before in
+    let at-put-slot = at-twenty-at3 .before .before .before .before in
+    let at-twenty-at2 = at-put-slot .before in
+    let at-if1 = at-twenty-at2 .before .before in
     let at-record-answer = at-if1 .before in
-    let at-echo-at = at-record-answer .before .before in
+    let at-twenty-at = at-record-answer .before in
+    let at-echo-at = at-twenty-at .before .before in
     let at-n-of = at-echo-at .before in
-    let known = at-n-of .before .before in
+    let known = at-n-of .before .before .before in
     let start = known .before in
     let a = start .args in
-    let b = now (a .book) in
-    let has = start .pre .0 in
-    let z = sym (slot-checked b (a .sender) (a .number) (a .house) ECHO (a .d) has (start .pre .3) (a .base) _ _ (start .pre .1 .is)
-    (at-echo-at .echo-at .ensures) (at-record-answer .record-answer .ensures)) ∙ at-if1 .if1 .taken in
-    echo-entered b (has .is-legal) (λ i. omega (arith, known .slice-known .given i)) (a .sender) (a .number) (a .house) has (start .pre .3)
-    (a .d) (start .pre .2 .decl) (a .base) _ _ _ _ _ _ _ (start .pre .1) (at-n-of .n-of .ensures .0)
-    (at-ready-sent-at .ready-sent-at .ensures)
-    (at-season-of .season-of .ensures) (at-echo-at .echo-at .ensures) (at-put-slot .put-slot .ensures) _ (at-echo-mark .echo-mark .ensures)
-    (at-mark .mark .ensures) (c .accept .ensures)
-    ∙ message-taken b (a .sender) (a .number) (a .house) ECHO (a .d) has (start .pre .3) (start .pre .2 .ok) refl z
+    echo-heard (now (a .book)) (now (a .message)) (a .base) (start .pre .0) (a .house) (start .pre .1) _ _ _ _ (at-n-of .n-of .ensures .0)
+    (at-twenty-at .twenty-at .ensures) (at-record-answer .record-answer .ensures) (λ i. omega (arith, known .slice-known .given i)) _
+    (at-twenty-at2 .twenty-at2 .ensures) _ (at-put-slot .put-slot .ensures) _ (at-ready-sent-at .ready-sent-at .ensures) _ _
+    (at-twenty-at3 .twenty-at3 .ensures) (at-twenty-at4 .twenty-at4 .ensures) _ (at-if1 .if1 .taken) (at-echo-at .echo-at .ensures) _
+    (at-echo-mark .echo-mark .ensures) (at-mark .mark .ensures)
 
-refuse-requires : tie.Need-refuse-requires
-refuse-requires c κs = search needs
+refused-requires : tie.Need-refused-requires
+refused-requires c κs = search needs
 
 same-length-2 : tie.Need-same-length-2
 same-length-2 c = search needs
 
 returns-2 : tie.Need-returns-2
 returns-2 c =
-    let at-if1 = c .before in
+    let at-refused = c in
+    let at-if1 = at-refused .before in
     let at-record-answer = at-if1 .before in
-    let at-echo-at = at-record-answer .before .before in
-    let start = at-echo-at .before .before .before .before in
+    let at-twenty-at = at-record-answer .before in
+    let at-echo-at = at-twenty-at .before .before in
+    let at-n-of = at-echo-at .before in
+    let start = at-n-of .before .before .before .before in
     let a = start .args in
-    let b = now (a .book) in
-    recorded-refused b (a .sender) (a .number) (a .house) ECHO (a .d) (start .pre .0) (start .pre .3) (start .pre .2 .ok) refl _
-    (slot-checked b (a .sender) (a .number) (a .house) ECHO (a .d) (start .pre .0) (start .pre .3) (a .base) _ _ (start .pre .1 .is)
-    (at-echo-at .echo-at .ensures) (at-record-answer .record-answer .ensures)) (at-if1 .if1 .left) _ (c .refuse .ensures)
+    echo-refused (now (a .book)) (now (a .message)) (a .base) (start .pre .0) (a .house) (start .pre .1) _ _ _ _ (at-n-of .n-of .ensures .0)
+    (at-twenty-at .twenty-at .ensures) (at-record-answer .record-answer .ensures) (at-echo-at .echo-at .ensures) (at-if1 .if1 .left) _
+    (at-refused .refused .ensures)
 
 pub hear-echo-spec : {M : Type 1} → statement M
 hear-echo-spec =
@@ -126,15 +129,17 @@ hear-echo-spec =
     (tie.spec
     n-of-requires
     echo-at-requires
+    twenty-at-requires
     record-answer-requires
-    season-of-requires
+    twenty-at-requires-2
     put-slot-requires
+    twenty-at-requires-3
     echo-mark-requires
     ready-sent-at-requires
+    twenty-at-requires-4
     mark-requires
-    accept-requires
     same-length
     returns
-    refuse-requires
+    refused-requires
     same-length-2
     returns-2)

@@ -1,15 +1,11 @@
 -- `step::hear_ready` meets its contract.
-use Rattle.meaning.specs.Layout.{readySlot}
-use Rattle.meaning.specs.Layout.{placeFrom}
-use Rattle.step.proofs.Entered.{slot-checked, heard-within, ready-entered}
-use Rattle.calls.proofs.Checking.{recorded-refused, message-taken}
-use Rattle.entry.specs.Entry.{READY}
 use Rattle.meaning.specs.Book.{nOf}
 use Rattle.meaning.proofs.Places.{ready-below, ready-sent-below, delivered-below}
+use Rattle.message.proofs.Form.{sized}
 use Rattle.layout.proofs.Begins.{slot-room}
+use Rattle.step.proofs.Heard.{ready-refused, ready-within, ready-heard}
 use denote.Ref.{now}
 use native.Mathlib.Omega.{arith}
-use mathlib.Core.Path.{refl, sym, ap, _∙_}
 use borrow.Author.Needs.{needs}
 use Rattle.step.proofs.hear_ready.Statement.{statement}
 use Rattle.step.proofs.hear_ready.Tie as tie
@@ -20,129 +16,136 @@ n-of-requires c κs = search needs
 ready-at-requires : tie.Need-ready-at-requires
 ready-at-requires c κs = search needs
 
+twenty-at-requires : tie.Need-twenty-at-requires
+twenty-at-requires c κs =
+    let start = c .before .before .before .before .before .before in
+    omega (arith, sized (now (start .args .message)) (start .pre .0 .formed))
+
 record-answer-requires : tie.Need-record-answer-requires
 record-answer-requires c κs =
-    let at-ready-at = c .before in
+    let at-ready-at = c .before .before in
     let at-n-of = at-ready-at .before in
-    let start = at-n-of .before .before .before in
-    let n = at-n-of .n-of .ensures .0 in
-    omega (
-      arith,
-      slot-room _ _ _ (start .pre .1 .within)
-          (ready-below (nOf (now (start .args .book))) (start .args .house) (start .pre .3)),
-      at-ready-at .ready-at .ensures,
-      n,
-    )
+    let start = at-n-of .before .before .before .before in
+    omega (arith, slot-room _ _ _ (start .pre .0 .begins .within) (ready-below (nOf (now (start .args .book))) (start .args .house) (start .pre .1)), at-ready-at .ready-at .ensures, at-n-of .n-of .ensures .0)
 
-season-of-requires : tie.Need-season-of-requires
-season-of-requires c κs = search needs
+twenty-at-requires-2 : tie.Need-twenty-at-requires-2
+twenty-at-requires-2 c κs =
+    let start = c .before .before .before .before .before .before .before .before .before .before in
+    omega (arith, sized (now (start .args .message)) (start .pre .0 .formed))
 
 put-slot-requires : tie.Need-put-slot-requires
 put-slot-requires c κs =
     let at-ready-at = c .before .before .before .before .before .before in
     let at-n-of = at-ready-at .before in
-    let start = at-n-of .before .before .before in
-    let n = at-n-of .n-of .ensures .0 in
-    omega (
-      arith,
-      slot-room _ _ _ (start .pre .1 .within)
-          (ready-below (nOf (now (start .args .book))) (start .args .house) (start .pre .3)),
-      at-ready-at .ready-at .ensures,
-      n,
-    )
+    let start = at-n-of .before .before .before .before in
+    omega (arith, slot-room _ _ _ (start .pre .0 .begins .within) (ready-below (nOf (now (start .args .book))) (start .args .house) (start .pre .1)), at-ready-at .ready-at .ensures, at-n-of .n-of .ensures .0)
+
+twenty-at-requires-3 : tie.Need-twenty-at-requires-3
+twenty-at-requires-3 c κs =
+    let start = c .before .before .before .before .before .before .before .before .before .before .before .before .before .before .before in
+    omega (arith, sized (now (start .args .message)) (start .pre .0 .formed))
 
 ready-marks-requires : tie.Need-ready-marks-requires
 ready-marks-requires c κs =
-    let at-put-slot = c .before .before .before in
-    let at-ready-at = at-put-slot .before .before .before .before .before .before .before in
+    let at-put-slot = c .before .before .before .before in
+    let at-twenty-at2 = at-put-slot .before in
+    let at-record-answer = at-twenty-at2 .before .before .before in
+    let at-twenty-at = at-record-answer .before in
+    let at-ready-at = at-twenty-at .before .before in
     let at-n-of = at-ready-at .before in
-    let known = at-n-of .before .before in
+    let known = at-n-of .before .before .before in
     let start = known .before in
     let a = start .args in
-    let has = start .pre .0 in
-    heard-within (now (a .book)) (has .is-legal) (λ i. omega (arith, known .slice-known .given i)) (a .sender) (a .number) (a .house) has
-    (start .pre .3) (a .d) (start .pre .2 .decl) READY (a .base) _ _ (start .pre .1)
-    (at-ready-at .ready-at .ensures ∙ ap (λ x. placeFrom (a .base) (readySlot x (a .house))) (at-n-of .n-of .ensures .0))
-    (at-put-slot .put-slot .ensures)
+    ready-within (now (a .book)) (now (a .message)) (a .base) (start .pre .0) (a .house) (start .pre .1) _ _ _ _ (at-n-of .n-of .ensures .0)
+    (at-twenty-at .twenty-at .ensures) (at-record-answer .record-answer .ensures) (λ i. omega (arith, known .slice-known .given i)) _
+    (at-twenty-at2 .twenty-at2 .ensures) _ (at-put-slot .put-slot .ensures) (at-ready-at .ready-at .ensures)
 
 ready-sent-at-requires : tie.Need-ready-sent-at-requires
 ready-sent-at-requires c κs = search needs
 
+twenty-at-requires-4 : tie.Need-twenty-at-requires-4
+twenty-at-requires-4 c κs =
+    let start = c .before .before .before .before .before .before .before .before .before .before .before .before .before .before .before .before .before .before .before in
+    omega (arith, sized (now (start .args .message)) (start .pre .0 .formed))
+
 mark-requires : tie.Need-mark-requires
 mark-requires c κs =
-    let at-n-of = c .before .before .before .before .before .before .before .before .before .before .before .before .before .before in
-    let start = at-n-of .before .before .before in
-    let n = at-n-of .n-of .ensures .0 in
-    omega (arith, slot-room _ _ _ (start .pre .1 .within) (ready-sent-below (nOf (now (start .args .book)))), c .ready-sent-at .ensures, n)
+    let at-ready-sent-at = c .before in
+    let at-book = at-ready-sent-at .before .before .before .before .before .before in
+    let at-n-of = at-book .before .before .before .before .before .before .before .before .before in
+    let start = at-n-of .before .before .before .before in
+    omega (arith, at-book .book .given, slot-room _ _ _ (start .pre .0 .begins .within) (ready-sent-below (nOf (now (start .args .book)))),
+    at-ready-sent-at .ready-sent-at .ensures, at-n-of .n-of .ensures .0)
 
 delivered-at-requires : tie.Need-delivered-at-requires
-delivered-at-requires c κs = search needs
+delivered-at-requires c κs =
+    let at-n-of = c .before .before .before .before .before .before .before .before .before .before .before .before .before .before .before .before .before .before .before .before in
+    let start = at-n-of .before .before .before .before in
+    (start .pre .0 .begins .within .small, at-n-of .n-of .ensures .1)
+
+twenty-at-requires-5 : tie.Need-twenty-at-requires-5
+twenty-at-requires-5 c κs =
+    let start = c .before .before .before .before .before .before .before .before .before .before .before .before .before .before .before .before .before .before .before .before .before .before .before .before .before in
+    omega (arith, sized (now (start .args .message)) (start .pre .0 .formed))
 
 mark-requires-2 : tie.Need-mark-requires-2
 mark-requires-2 c κs =
-    let halfway = c .before .before .before .before .before .before .before .before .before in
-    let at-n-of = halfway .before .before .before .before .before .before .before .before .before .before in
-    let start = at-n-of .before .before .before in
-    let n = at-n-of .n-of .ensures .0 in
-    omega (arith, slot-room _ _ _ (start .pre .1 .within) (delivered-below (nOf (now (start .args .book)))), c .delivered-at .ensures, n)
-
-accept-requires : tie.Need-accept-requires
-accept-requires c κs =
-    let halfway = c .before .before .before .before .before .before .before .before .before .before .before .before in
-    let start = halfway .before .before .before .before .before .before .before .before .before .before .before .before .before in
-    start .pre .2 .decl
+    let at-delivered-at = c .before in
+    let at-book2 = at-delivered-at .before .before .before in
+    let at-book = at-book2 .before .before .before .before .before .before .before .before .before in
+    let at-n-of = at-book .before .before .before .before .before .before .before .before .before in
+    let start = at-n-of .before .before .before .before in
+    omega (arith, at-book .book .given, at-book2 .book2 .given, slot-room _ _ _ (start .pre .0 .begins .within) (delivered-below (nOf (now (start .args .book)))),
+    at-delivered-at .delivered-at .ensures, at-n-of .n-of .ensures .0)
 
 same-length : tie.Need-same-length
 same-length c = search needs
 
 returns : tie.Need-returns
 returns c =
-    let at-mark2 = c .before .before .before in
-    let at-delivered-at = at-mark2 .before in
+    let at-mark2 = c .before .before in
+    let at-twenty-at5 = at-mark2 .before in
+    let at-delivered-at = at-twenty-at5 .before in
     let at-mark = at-delivered-at .before .before .before .before in
-    let at-ready-sent-at = at-mark .before in
+    let at-twenty-at4 = at-mark .before in
+    let at-ready-sent-at = at-twenty-at4 .before in
     let at-ready-marks = at-ready-sent-at .before .before in
-    let at-put-slot = at-ready-marks .before .before .before .before in
-    let at-season-of = at-put-slot .before .before in
-    let at-if1 = at-season-of .before .before in
+    let at-twenty-at3 = at-ready-marks .before in
+    let at-put-slot = at-twenty-at3 .before .before .before .before in
+    let at-twenty-at2 = at-put-slot .before in
+    let at-if1 = at-twenty-at2 .before .before in
     let at-record-answer = at-if1 .before in
-    let at-ready-at = at-record-answer .before .before in
+    let at-twenty-at = at-record-answer .before in
+    let at-ready-at = at-twenty-at .before .before in
     let at-n-of = at-ready-at .before in
-    let known = at-n-of .before .before in
+    let known = at-n-of .before .before .before in
     let start = known .before in
     let a = start .args in
-    let b = now (a .book) in
-    let has = start .pre .0 in
-    let z = sym (slot-checked b (a .sender) (a .number) (a .house) READY (a .d) has (start .pre .3) (a .base) _ _ (start .pre .1 .is)
-    (at-ready-at .ready-at .ensures ∙ ap (λ x. placeFrom (a .base) (readySlot x (a .house))) (at-n-of .n-of .ensures .0))
-    (at-record-answer .record-answer .ensures)) ∙ at-if1 .if1 .taken in
-    ready-entered b (has .is-legal) (λ i. omega (arith, known .slice-known .given i)) (a .sender) (a .number) (a .house) has (start .pre .3)
-    (a .d) (start .pre .2 .decl) (a .base) _ _ _ _ _ _ _ (start .pre .1) (at-n-of .n-of .ensures .0)
-    (at-ready-sent-at .ready-sent-at .ensures)
-    (at-season-of .season-of .ensures) _ (at-delivered-at .delivered-at .ensures) (at-ready-at .ready-at .ensures)
-    (at-put-slot .put-slot .ensures) _
-    (at-ready-marks .ready-marks .ensures) (at-mark .mark .ensures) _ (at-mark2 .mark2 .ensures) (c .accept .ensures)
-    ∙ message-taken b (a .sender) (a .number) (a .house) READY (a .d) has (start .pre .3) (start .pre .2 .ok) refl z
+    ready-heard (now (a .book)) (now (a .message)) (a .base) (start .pre .0) (a .house) (start .pre .1) _ _ _ _ (at-n-of .n-of .ensures .0)
+    (at-twenty-at .twenty-at .ensures) (at-record-answer .record-answer .ensures) (λ i. omega (arith, known .slice-known .given i)) _
+    (at-twenty-at2 .twenty-at2 .ensures) _ (at-put-slot .put-slot .ensures) _ (at-ready-sent-at .ready-sent-at .ensures) _ _
+    (at-twenty-at3 .twenty-at3 .ensures) (at-twenty-at4 .twenty-at4 .ensures) _ (at-if1 .if1 .taken) (at-ready-at .ready-at .ensures) _
+    (at-ready-marks .ready-marks .ensures) (at-mark .mark .ensures) _ (at-delivered-at .delivered-at .ensures) _ (at-twenty-at5 .twenty-at5 .ensures) _ (at-mark2 .mark2 .ensures)
 
-refuse-requires : tie.Need-refuse-requires
-refuse-requires c κs = search needs
+refused-requires : tie.Need-refused-requires
+refused-requires c κs = search needs
 
 same-length-2 : tie.Need-same-length-2
 same-length-2 c = search needs
 
 returns-2 : tie.Need-returns-2
 returns-2 c =
-    let at-if1 = c .before in
+    let at-refused = c in
+    let at-if1 = at-refused .before in
     let at-record-answer = at-if1 .before in
-    let at-ready-at = at-record-answer .before .before in
+    let at-twenty-at = at-record-answer .before in
+    let at-ready-at = at-twenty-at .before .before in
     let at-n-of = at-ready-at .before in
-    let start = at-n-of .before .before .before in
+    let start = at-n-of .before .before .before .before in
     let a = start .args in
-    let b = now (a .book) in
-    recorded-refused b (a .sender) (a .number) (a .house) READY (a .d) (start .pre .0) (start .pre .3) (start .pre .2 .ok) refl _
-    (slot-checked b (a .sender) (a .number) (a .house) READY (a .d) (start .pre .0) (start .pre .3) (a .base) _ _ (start .pre .1 .is)
-    (at-ready-at .ready-at .ensures ∙ ap (λ x. placeFrom (a .base) (readySlot x (a .house))) (at-n-of .n-of .ensures .0))
-    (at-record-answer .record-answer .ensures)) (at-if1 .if1 .left) _ (c .refuse .ensures)
+    ready-refused (now (a .book)) (now (a .message)) (a .base) (start .pre .0) (a .house) (start .pre .1) _ _ _ _ (at-n-of .n-of .ensures .0)
+    (at-twenty-at .twenty-at .ensures) (at-record-answer .record-answer .ensures) (at-ready-at .ready-at .ensures) (at-if1 .if1 .left) _
+    (at-refused .refused .ensures)
 
 pub hear-ready-spec : {M : Type 1} → statement M
 hear-ready-spec =
@@ -150,17 +153,20 @@ hear-ready-spec =
     (tie.spec
     n-of-requires
     ready-at-requires
+    twenty-at-requires
     record-answer-requires
-    season-of-requires
+    twenty-at-requires-2
     put-slot-requires
+    twenty-at-requires-3
     ready-marks-requires
     ready-sent-at-requires
+    twenty-at-requires-4
     mark-requires
     delivered-at-requires
+    twenty-at-requires-5
     mark-requires-2
-    accept-requires
     same-length
     returns
-    refuse-requires
+    refused-requires
     same-length-2
     returns-2)
