@@ -48,7 +48,7 @@ pub fn is_full(b: &[u8], at: usize) -> bool
 }
 
 // Whether the slot at `at` has the one byte form of its meaning: it holds something, or its bytes 0 to 7, 8 to 15 and 13 to 20 are zero.
-pub fn is_slot_ok(b: &[u8], at: usize) -> bool
+fn is_slot_ok(b: &[u8], at: usize) -> bool
     requires { ⌜ at + slotLength ≤ length (now b) ⌝ }
     ensures { λ r. ⌜ r ≡ slotOk (now (b .entry)) at ⌝ }
 {
