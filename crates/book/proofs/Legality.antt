@@ -20,7 +20,6 @@ use Rattle.meaning.specs.Legal.{helpsOk, helpOk, legal, headLegal, rowOk}
 use Rattle.meaning.specs.Opening.{allowed}
 use Rattle.meaning.proofs.Legality.{legal-facts, legal-head, head-legal, head-facts, slots-row}
 use Rattle.meaning.proofs.Room.{head-room}
-use Rattle.layout.specs.Places.{Within}
 use Rattle.book.specs.Parts.{sized}
 
 -- ---- the help given, one more
@@ -171,11 +170,6 @@ module _ (b : List ℕ) where
 
 -- ---- the slots of an entry
 
-module _ (b : List ℕ) (base n : ℕ) (u : n ≡ nOf b) where
-  pub entry-room : Within b base → placeFrom base (2 * n + 3) ≤ length b
-  unfolding perEntry
-  entry-room w = omega (arith, w .room)
-
-  pub entry-is : (r : Bool) → r ≡ rowOk b base (2 * n + 3) → r ≡ rowOk b base (perEntry (nOf b))
-  unfolding perEntry
-  entry-is r e = e ∙ ap (λ (m : ℕ). rowOk b base (2 * m + 3)) u
+pub entry-is : (b : List ℕ) (base n : ℕ) (r : Bool) → n ≡ nOf b → r ≡ rowOk b base (2 * n + 3) → r ≡ rowOk b base (perEntry (nOf b))
+unfolding perEntry
+entry-is b base n r u e = e ∙ ap (λ (m : ℕ). rowOk b base (2 * m + 3)) u

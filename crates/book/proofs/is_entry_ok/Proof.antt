@@ -1,5 +1,6 @@
 -- `book::is_entry_ok` meets its contract.
-use Rattle.book.proofs.Legality.{entry-room, entry-is}
+use Rattle.meaning.specs.Layout.{perEntry}
+use Rattle.book.proofs.Legality.{entry-is}
 use borrow.Author.Needs.{needs}
 use Rattle.book.proofs.is_entry_ok.Statement.{statement}
 use Rattle.book.proofs.is_entry_ok.Tie as tie
@@ -14,7 +15,8 @@ add-are-slots-ok : tie.Need-add-are-slots-ok
 add-are-slots-ok c = search needs
 
 are-slots-ok-requires : tie.Need-are-slots-ok-requires
-are-slots-ok-requires c κs = search entry-room
+unfolding perEntry
+are-slots-ok-requires c κs = search needs
 
 returns : tie.Need-returns
 returns c = search entry-is

@@ -1,4 +1,5 @@
 -- `book::is_head_legal` meets its contract.
+use native.Mathlib.Omega.{arith}
 use Rattle.book.proofs.Legality.{sized-room, helps-room, head-unsized, head-bad-help, head-sheet}
 use borrow.Author.Needs.{needs}
 use Rattle.book.proofs.is_head_legal.Statement.{statement}
@@ -14,7 +15,10 @@ n-of-requires : tie.Need-n-of-requires
 n-of-requires c κs = search (needs, sized-room)
 
 are-helps-ok-requires : tie.Need-are-helps-ok-requires
-are-helps-ok-requires c κs = (search needs, search helps-room)
+are-helps-ok-requires c κs =
+    let sized = c .before .before .before in
+    let h = helps-room _ _ _ (sized .is-sized .ensures) (c .before .before .if1 .taken) (c .n-of .ensures .0) in
+    (search needs, omega arith)
 
 is-sheet-at-requires : tie.Need-is-sheet-at-requires
 is-sheet-at-requires c κs = search (needs, sized-room)
