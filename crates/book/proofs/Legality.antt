@@ -1,53 +1,26 @@
--- Legality, part by part: the numbers and the length, the sheet, the slots.
-use Prim.Native.Nat.{ℕ, zero, suc, _+_, _<_, _≤_}
+-- Legality, part by part: the numbers and the length, the help given, the sheet; the slots, and those of an entry.
+use Prim.Native.Nat.{ℕ, zero, suc, _+_, _*_, _<_, _≤_}
 use mathlib.Core.Path.{_≡_, refl, sym, ap, ap₂, _∙_}
-use mathlib.Core.Bool.{Bool, true, false, not, _&&_, and-eq-true-iff}
+use mathlib.Core.Bool.{Bool, true, false, _&&_, and-eq-true-iff}
 use mathlib.Core.List.{List}
 use native.Mathlib.Decide.{decLt}
 use native.Mathlib.Omega.{arith}
 use native.Mathlib.Numerals.{add-one}
 use lib.Dec.{eqb, leb, ltb}
 use lib.ListN.{length, getD}
-use borrow.Author.Tests.{eqb-true, ne-eqb, not-true, not-false, le-leb, lt-leb}
+use borrow.Author.Tests.{eqb-true, ne-eqb, le-leb, lt-leb}
 use Rattle.card.specs.Card.{housesOk, downOk}
 use Rattle.sheet.specs.Kept.{sheetLegalAt}
-use Rattle.entry.proofs.Basics.{and-l, and-r, and-mk, and-false}
+use Rattle.entry.proofs.Basics.{T-of, true-of, and-l, and-r, and-mk, and-false}
 use Rattle.entry.proofs.Basics as basics
-use Rattle.meaning.specs.Slot.{slotOk}
 use Rattle.meaning.specs.Layout.{numbersOk, mostLimit, helpedPlace, headLength, slotCount, lengthOf, slotPlace, limitPlace, sheetPlace}
+use Rattle.meaning.specs.Layout.{placeFrom, perEntry}
 use Rattle.meaning.specs.Book.{nOf, numbersOf, ownOf, downOf, limitOf}
-use Rattle.meaning.specs.Legal.{slotsOk, helpsOk, helpOk, legal}
+use Rattle.meaning.specs.Legal.{helpsOk, helpOk, legal, headLegal, rowOk}
 use Rattle.meaning.specs.Opening.{allowed}
+use Rattle.meaning.proofs.Legality.{legal-facts, legal-head, head-legal, head-facts, slots-row}
+use Rattle.meaning.proofs.Room.{head-room}
 use Rattle.book.specs.Parts.{sized}
-
--- ---- the slots, one more
-
-module _ (b : List ℕ) (n : ℕ) where
-  pub slots-none : slotsOk b n 0 ≡ true
-  unfolding slotsOk
-  slots-none = refl
-
-  slots-more : (k : ℕ) → slotsOk b n (k + 1) ≡ slotsOk b n k && slotOk b (slotPlace n k)
-  unfolding slotsOk
-  slots-more k = rw (add-one k)
-
-  slots-at : (m k : ℕ) → slotsOk b n m ≡ true → k < m → slotOk b (slotPlace n k) ≡ true
-  unfolding slotsOk
-  slots-at zero k h l = absurd (omega arith)
-  slots-at (suc m) k h l =
-      let t = and-eq-true-iff (slotsOk b n m) (slotOk b (slotPlace n m)) .0 h in
-      elim (decLt k m) [ yes a ↦ slots-at m k (t .0) a | no g ↦ let e : k ≡ m = omega arith in rw e (t .1) ]
-
-  module _ (k at : ℕ) (r : Bool) (p : at ≡ slotPlace n k) (e : r ≡ slotOk b at) where
-    pub slots-hit : slotsOk b n k ≡ true → not r ≡ false → slotsOk b n (k + 1) ≡ true
-    slots-hit h t = rw (slots-more k, h, ← p, ← e) (not-false r t)
-
-    pub slots-miss : (m : ℕ) → k < m → not r ≡ true → false ≡ slotsOk b n m
-    slots-miss m l t = go (slotsOk b n m) refl
-      where
-        go : (x : Bool) → slotsOk b n m ≡ x → false ≡ x
-        go true q = sym (not-true r t) ∙ e ∙ ap (slotOk b) p ∙ slots-at m k q l
-        go false q = refl
 
 -- ---- the help given, one more
 
@@ -100,15 +73,6 @@ module _ (b : List ℕ) where
   unfolding lengthOf headLength
   helps-room n r e t u = let l = sized-long (sym e ∙ t) in omega arith
 
-  -- and for every slot
-  pub slots-room : (n s k : ℕ) (r : Bool) → r ≡ sized b → r ≡ true → n ≡ nOf b → s ≡ numbersOf b → k ≡ slotCount n s
-      → slotPlace n k ≤ length b
-  unfolding lengthOf slotPlace
-  slots-room n s k r e t u v w =
-      let l = sized-long (sym e ∙ t) in
-      let q : k ≡ slotCount (nOf b) (numbersOf b) = w ∙ ap₂ slotCount u v in
-      omega (arith, ap headLength u)
-
   pub not-sized : length b ≤ limitPlace → false ≡ sized b
   unfolding sized lengthOf headLength
   not-sized l =
@@ -128,56 +92,84 @@ module _ (b : List ℕ) where
     unfolding sized
     sized-is l t q = rw (← allowed-is, t, q, e0, e1)
 
--- ---- all parts
+-- ---- the head, and the slots
 
 module _ (b : List ℕ) where
-  abbrev slots : Bool
-  slots = slotsOk b (nOf b) (slotCount (nOf b) (numbersOf b))
-
   abbrev helps : Bool
   helps = helpsOk b (limitOf b) (nOf b)
 
-  legal-is : legal b ≡ sized b && (slots && (helps && sheetLegalAt b sheetPlace))
-  unfolding legal sized allowed helpOk
-  legal-is =
+  head-is : headLegal b ≡ sized b && (helps && sheetLegalAt b sheetPlace)
+  unfolding headLegal sized allowed helpOk
+  head-is =
       go (housesOk (nOf b)) (numbersOk (numbersOf b)) (ltb (ownOf b) (nOf b)) (eqb (length b) (lengthOf (nOf b) (numbersOf b)))
-      (sheetLegalAt b sheetPlace) (downOk (nOf b) (downOf b)) (leb (limitOf b) mostLimit) helps slots
+      (sheetLegalAt b sheetPlace) (downOk (nOf b) (downOf b)) (leb (limitOf b) mostLimit) helps
     where
-      last : (x y a l e z : Bool) → (x && (y && (a && ((l && e) && z)))) ≡ ((a && l) && x) && (z && (e && y))
-      last x y a l e z =
-          basics.both (x && (y && (a && ((l && e) && z)))) (((a && l) && x) && (z && (e && y)))
-          (λ t. let t₁ = and-r x _ t in let t₂ = and-r y _ t₁ in let t₃ = and-r a _ t₂ in let t₄ = and-l (l && e) z t₃ in
-          and-mk ((a && l) && x) _ (and-mk (a && l) x (and-mk a l (and-l a _ t₂) (and-l l e t₄)) (and-l x _ t))
-          (and-mk z _ (and-r (l && e) z t₃) (and-mk e y (and-r l e t₄) (and-l y _ t₁))))
+      last : (x y a l e : Bool) → (x && (y && (a && (l && e)))) ≡ ((a && l) && x) && (e && y)
+      last x y a l e =
+          basics.both (x && (y && (a && (l && e)))) (((a && l) && x) && (e && y))
+          (λ t. let t₁ = and-r x _ t in let t₂ = and-r y _ t₁ in let t₃ = and-r a _ t₂ in
+          and-mk ((a && l) && x) _ (and-mk (a && l) x (and-mk a l (and-l a _ t₂) (and-l l e t₃)) (and-l x _ t))
+          (and-mk e y (and-r l e t₃) (and-l y _ t₁)))
           (λ t. let p = and-l ((a && l) && x) _ t in let q = and-r ((a && l) && x) _ t in let o = and-l (a && l) x p in
-          and-mk x _ (and-r (a && l) x p) (and-mk y _ (and-r e y (and-r z _ q))
-          (and-mk a _ (and-l a l o) (and-mk (l && e) z (and-mk l e (and-r a l o) (and-l e y (and-r z _ q))) (and-l z _ q)))))
+          and-mk x _ (and-r (a && l) x p) (and-mk y _ (and-r e y q) (and-mk a _ (and-l a l o) (and-mk l e (and-r a l o) (and-l e y q)))))
 
-      go : (u v w x y a l e z : Bool) → (u && (v && (w && (x && (y && (a && ((l && e) && z)))))))
-          ≡ (u && (v && (w && (a && l))) && x) && (z && (e && y))
-      go true true true x y a l e z = last x y a l e z
-      go true true false x y a l e z = refl
-      go true false w x y a l e z = refl
-      go false v w x y a l e z = refl
+      go : (u v w x y a l e : Bool) → (u && (v && (w && (x && (y && (a && (l && e)))))))
+          ≡ (u && (v && (w && (a && l))) && x) && (e && y)
+      go true true true x y a l e = last x y a l e
+      go true true false x y a l e = refl
+      go true false w x y a l e = refl
+      go false v w x y a l e = refl
 
-  -- the answers of `is_legal`, by what its parts answered
-  pub legal-unsized : (r : Bool) → r ≡ sized b → r ≡ false → false ≡ legal b
-  legal-unsized r e f = rw (legal-is, ← e, f)
+  abbrev slots : Bool
+  slots = rowOk b (slotPlace (nOf b) 0) (slotCount (nOf b) (numbersOf b))
 
-  module _ (r y : Bool) (n s k : ℕ) (e : r ≡ sized b) (t : r ≡ true) (u : n ≡ nOf b) (v : s ≡ numbersOf b) (w : k ≡ slotCount n s)
-      (z : y ≡ slotsOk b n k) where
-    slots-are : y ≡ slotsOk b (nOf b) (slotCount (nOf b) (numbersOf b))
-    slots-are = z ∙ (λ i. slotsOk b (u i) ((w ∙ ap₂ slotCount u v) i))
+  legal-is : legal b ≡ headLegal b && slots
+  legal-is =
+      let row = slots-row b (nOf b) (slotCount (nOf b) (numbersOf b)) in
+      basics.both (legal b) (headLegal b && slots)
+      (λ t.
+      let h = true-of (legal b) t in
+      and-mk (headLegal b) slots (T-of (legal-head b h)) (T-of (sym row ∙ legal-facts b h .slots)))
+      (λ t.
+      T-of (head-legal b (head-facts b (true-of (headLegal b) (and-l (headLegal b) slots t)))
+      (row ∙ true-of slots (and-r (headLegal b) slots t))))
 
-    pub legal-bad-slot : y ≡ false → false ≡ legal b
-    legal-bad-slot f = rw (legal-is, ← e, t, ← slots-are, f)
+  -- the answers of `is_head_legal`, by what its parts answered
+  pub head-unsized : (r : Bool) → r ≡ sized b → r ≡ false → false ≡ headLegal b
+  head-unsized r e f = rw (head-is, ← e, f)
 
-    module _ (g : y ≡ true) (d : ℕ) (o : Bool) (ed : d ≡ limitOf b) (eo : o ≡ helpsOk b d n) where
-      helps-are : o ≡ helpsOk b (limitOf b) (nOf b)
-      helps-are = eo ∙ (λ i. helpsOk b (ed i) (u i))
+  module _ (r o : Bool) (n d : ℕ) (e : r ≡ sized b) (t : r ≡ true) (u : n ≡ nOf b) (v : d ≡ limitOf b) (w : o ≡ helpsOk b d n) where
+    helps-are : o ≡ helps
+    helps-are = w ∙ (λ i. helpsOk b (v i) (u i))
 
-      pub legal-bad-help : o ≡ false → false ≡ legal b
-      legal-bad-help f = rw (legal-is, ← e, t, ← slots-are, g, ← helps-are, f)
+    pub head-bad-help : o ≡ false → false ≡ headLegal b
+    head-bad-help f = rw (head-is, ← e, t, ← helps-are, f)
 
-      pub legal-sheet : (x : Bool) → o ≡ true → x ≡ sheetLegalAt b sheetPlace → x ≡ legal b
-      legal-sheet x f q = rw (legal-is, ← e, t, ← slots-are, g, ← helps-are, f) q
+    pub head-sheet : (x : Bool) → o ≡ true → x ≡ sheetLegalAt b sheetPlace → x ≡ headLegal b
+    head-sheet x f q = rw (head-is, ← e, t, ← helps-are, f) q
+
+  -- those of `is_legal`
+  pub legal-bad-head : (r : Bool) → r ≡ headLegal b → r ≡ false → false ≡ legal b
+  legal-bad-head r e f = rw (legal-is, ← e, f)
+
+  module _ (r : Bool) (e : r ≡ headLegal b) (t : r ≡ true) where
+    pub head-places : (k : ℕ) → k ≤ limitPlace → k < length b
+    head-places k h = omega (arith, head-room b (sym e ∙ t))
+
+    module _ (n s at k : ℕ) (u : n ≡ nOf b) (v : s ≡ numbersOf b) (p : at ≡ slotPlace n 0) (w : k ≡ slotCount n s) where
+      pub slots-room : placeFrom at k ≤ length b
+      unfolding lengthOf slotPlace
+      slots-room =
+          let l = head-facts b (sym e ∙ t) .long in
+          let q : k ≡ slotCount (nOf b) (numbersOf b) = w ∙ ap₂ slotCount u v in
+          omega (arith, ap headLength u)
+
+      pub legal-slots : (y : Bool) → y ≡ rowOk b at k → y ≡ legal b
+      legal-slots y z =
+          rw (legal-is, ← e, t) (z ∙ (λ i. rowOk b ((p ∙ ap (λ (m : ℕ). slotPlace m 0) u) i) ((w ∙ ap₂ slotCount u v) i)))
+
+-- ---- the slots of an entry
+
+pub entry-is : (b : List ℕ) (base n : ℕ) (r : Bool) → n ≡ nOf b → r ≡ rowOk b base (2 * n + 3) → r ≡ rowOk b base (perEntry (nOf b))
+unfolding perEntry
+entry-is b base n r u e = e ∙ ap (λ (m : ℕ). rowOk b base (2 * m + 3)) u

@@ -1,23 +1,12 @@
-// Which bytes are a legal book.
+// Which bytes are a legal book, which have a legal head, and which entries have slots of one form each.
 ghost use mathlib.Core.Path.{_≡_};
 ghost use Prim.Native.Nat.{_<_, _≤_};
 ghost use lib.ListN.{length};
-ghost use Rattle.meaning.specs.Layout.{helpedPlace, slotPlace};
-ghost use Rattle.meaning.specs.Legal.{slotsOk, helpsOk, legal};
+ghost use Rattle.meaning.specs.Layout.{helpedPlace, perEntry};
+ghost use Rattle.meaning.specs.Book.{nOf};
+ghost use Rattle.meaning.specs.Legal.{helpsOk, legal, headLegal, rowOk};
+ghost use Rattle.layout.specs.Places.{Within};
 ghost use Rattle.book.specs.Parts.{sized};
-
-// The first k slots have one byte form per meaning.
-fn are_slots_ok(b: &[u8], n: usize, k: usize) -> bool
-    requires { ⌜ (slotPlace n k ≤ length (now b)) × (n < 256) × (k < 134217728) ⌝ }
-    ensures { λ r. ⌜ r ≡ slotsOk (now (b .entry)) n k ⌝ }
-{
-    for i in 0..k {
-        if !slots::is_slot_ok(b, layout::slot_place(n, i)) {
-            return false;
-        }
-    }
-    true
-}
 
 // Each of the first k askers was helped at most d times.
 fn are_helps_ok(b: &[u8], d: usize, k: usize) -> bool
@@ -52,17 +41,37 @@ fn is_sized(b: &[u8]) -> bool
     false
 }
 
-// Whether the bytes are a legal book. The sheet comes last: the loop over the slots is then a test of its own, and runs tighter.
-pub fn is_legal(b: &[u8]) -> bool
-    ensures { λ r. ⌜ r ≡ legal (now (b .entry)) ⌝ }
+// Whether the head is a legal book's: all but the slots.
+pub fn is_head_legal(b: &[u8]) -> bool
+    ensures { λ r. ⌜ r ≡ headLegal (now (b .entry)) ⌝ }
 {
     if is_sized(b) {
-        let n = layout::n_of(b);
-        if are_slots_ok(b, n, layout::slot_count(n, layout::numbers_of(b))) {
-            if are_helps_ok(b, layout::limit_of(b), n) {
-                return judge::is_sheet_at(b, layout::SHEET);
-            }
+        if are_helps_ok(b, layout::limit_of(b), layout::n_of(b)) {
+            return judge::is_sheet_at(b, layout::SHEET);
         }
     }
     false
+}
+
+// Whether the bytes are a legal book.
+pub fn is_legal(b: &[u8]) -> bool
+    ensures { λ r. ⌜ r ≡ legal (now (b .entry)) ⌝ }
+{
+    if is_head_legal(b) {
+        let n = layout::n_of(b);
+        return slots::are_slots_ok(
+            b,
+            layout::slot_place(n, 0),
+            layout::slot_count(n, layout::numbers_of(b)),
+        );
+    }
+    false
+}
+
+// Whether each slot of the entry that begins at `base` has its one form.
+pub fn is_entry_ok(b: &[u8], base: usize) -> bool
+    requires { ⌜ Within (now b) base ⌝ }
+    ensures { λ r. ⌜ r ≡ rowOk (now (b .entry)) base (perEntry (nOf (now (b .entry)))) ⌝ }
+{
+    slots::are_slots_ok(b, base, 2 * layout::n_of(b) + 3)
 }

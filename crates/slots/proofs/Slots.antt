@@ -1,6 +1,6 @@
--- What the presence byte says of a slot, and the bytes after a slot is filled.
+-- What the presence byte and the numbers of a slot say of it, and the bytes after a slot is filled.
 use Prim.Native.Nat.{ℕ, _+_, _<_, _≤_}
-use mathlib.Core.Path.{_≡_, refl}
+use mathlib.Core.Path.{_≡_, refl, sym, ap, _∙_}
 use mathlib.Core.Bool.{Bool, true, false, cond}
 use mathlib.Core.List.{List, _∷_, append-assoc}
 use mathlib.Core.Option.{none, some}
@@ -10,9 +10,15 @@ use lib.Dec.{eqb}
 use lib.ListN.{length, getD, take, drop, set, replicate}
 use lib.Seq.{paste, take-suc-set, drop-set-lt, take-all, append-snoc}
 use borrow.Author.Tests.{eq-eqb, ne-eqb}
-use Rattle.entry.specs.Entry.{same, isSome}
+use Rattle.words.specs.Words.{Bytes}
+use Rattle.words.proofs.Bytes.{bytes-zeros}
+use Rattle.entry.specs.Entry.{isSome}
+use Rattle.entry.proofs.Basics.{T-of, true-of, both, and-false}
 use Rattle.meaning.specs.Layout.{slotLength}
-use Rattle.meaning.specs.Slot.{part, slotAt, slotOk, putSlot}
+use Rattle.meaning.specs.Slot.{part, slotAt, slotOk, slotBytes, putSlot}
+use Rattle.meaning.proofs.Slots.{ok-part, ok-of-bytes, ok-bytes}
+use Rattle.slots.proofs.Eight.{eight}
+use Rattle.slots.proofs.Alike.{alike, is-v, of-v}
 
 -- a slot, by its presence byte
 module _ (b : List ℕ) (at : ℕ) where
@@ -28,13 +34,33 @@ module _ (b : List ℕ) (at : ℕ) where
   unfolding slotOk
   ok-full e = rw (eq-eqb _ _ e)
 
-  pub ok-empty : (r : Bool) → (getD b at 0 ≡ 1 → ⊥) → getD b at 0 ≡ 0 → r ≡ same (part b (at + 1) 20) (replicate 20 0) → r ≡ slotOk b at
-  unfolding slotOk
-  ok-empty r f e q = rw (ne-eqb _ _ f, eq-eqb _ _ e) q
+-- a slot that is not full has its one form exactly when three numbers are zero: of its bytes 0 to 7, 8 to 15, 13 to 20
+module _ (b : List ℕ) (at : ℕ) (fits : at + slotLength ≤ length b) (x : Bytes b) (empty : getD b at 0 ≡ 1 → ⊥) where
+  zeros-ok : alike 8 b at 0 0 0 ≡ slotOk b at
+  unfolding slotAt slotBytes
+  zeros-ok =
+      let zeros : List ℕ = replicate slotLength 0 in
+      let y : Bytes zeros = bytes-zeros slotLength in
+      let none-here : slotAt b at ≡ none = rw (ne-eqb _ _ empty) in
+      both (alike 8 b at 0 0 0) (slotOk b at)
+      (λ t.
+      T-of (ok-part b at
+      ∙ ap (λ (p : List ℕ). slotOk p 0) (is-v 8 (omega arith) (omega arith) b zeros at fits refl x y t)
+      ∙ ok-of-bytes none))
+      (λ t.
+      of-v 8 (omega arith) (omega arith) b zeros at fits refl x y
+      (sym (ok-bytes b at fits (true-of (slotOk b at) t)) ∙ ap slotBytes none-here))
 
-  pub ok-neither : (getD b at 0 ≡ 1 → ⊥) → (getD b at 0 ≡ 0 → ⊥) → false ≡ slotOk b at
-  unfolding slotOk
-  ok-neither f e = rw (ne-eqb _ _ f, ne-eqb _ _ e)
+  module _ (r : ℕ) where
+    pub first-not-zero : r ≡ eight b at → (r ≡ 0 → ⊥) → false ≡ slotOk b at
+    first-not-zero e f = rw (← zeros-ok, ne-eqb _ _ (λ (q : eight b at ≡ 0). f (e ∙ q)))
+
+    pub second-not-zero : r ≡ eight b (at + 8) → (r ≡ 0 → ⊥) → false ≡ slotOk b at
+    second-not-zero e f =
+        sym (and-false (eqb (eight b at) 0) _ (rw (ne-eqb _ _ (λ (q : eight b (at + 8) ≡ 0). f (e ∙ q))))) ∙ zeros-ok
+
+    pub third-decides : (s t : ℕ) → r ≡ eight b at → s ≡ eight b (at + 8) → t ≡ eight b (at + 13) → r ≡ 0 → s ≡ 0 → eqb t 0 ≡ slotOk b at
+    third-decides s t d e f p q = rw (← zeros-ok, f, eq-eqb _ _ (sym d ∙ p), eq-eqb _ _ (sym e ∙ q))
 
 -- the presence byte is stored, and then the 20 bytes after it
 pub put-done : (b : List ℕ) (at : ℕ) (d : List ℕ) → at + slotLength ≤ length b → length d ≡ 20

@@ -16,12 +16,13 @@ use Rattle.entry.specs.Entry.{holds}
 use Rattle.entry.proofs.Basics.{and-false}
 use Rattle.meaning.specs.Layout.{slotLength, placeFrom}
 use Rattle.meaning.specs.Slot.{slotAt, putSlot}
-use Rattle.vouchers.proofs.Eight.{eight}
-use Rattle.vouchers.proofs.Alike.{alike, are-alike, alike-holds}
+use Rattle.slots.proofs.Eight.{eight}
+use Rattle.slots.proofs.Alike.{alike, are-alike}
+use Rattle.vouchers.proofs.Alike.{alike-holds}
 
 -- how many of the first p slots from `at` on have these numbers
 abbrev pub so-many : List ℕ → (at x y z p : ℕ) → ℕ
-so-many b at x y z p = count (λ i. alike b (placeFrom at i) x y z) p
+so-many b at x y z p = count (λ i. alike 5 b (placeFrom at i) x y z) p
 
 -- one slot more, by what the three tests say of it
 module _ (b : List ℕ) (at x y z p n m : ℕ) (more : p < n) (so-far : (p ≤ n) × ((m ≡ so-many b at x y z p) × (m ≤ p))) where
@@ -31,10 +32,10 @@ module _ (b : List ℕ) (at x y z p n m : ℕ) (more : p < n) (so-far : (p ≤ n
   abbrev Next : ℕ → Type 0
   Next k = (p + 1 ≤ n) × ((k ≡ so-many b at x y z (p + 1)) × (k ≤ p + 1))
 
-  hit : (k : ℕ) → alike b here x y z ≡ true → k ≡ m + 1 → Next k
+  hit : (k : ℕ) → alike 5 b here x y z ≡ true → k ≡ m + 1 → Next k
   hit k t q = (omega arith, (rw (add-one p, t) (omega (arith, so-far .1 .0)), omega (arith, so-far .1 .1)))
 
-  miss : (k : ℕ) → alike b here x y z ≡ false → k ≡ m → Next k
+  miss : (k : ℕ) → alike 5 b here x y z ≡ false → k ≡ m → Next k
   miss k t q = (omega arith, (rw (add-one p, t) (omega (arith, so-far .1 .0)), omega (arith, so-far .1 .1)))
 
   module _ (k r : ℕ) where
@@ -52,7 +53,7 @@ module _ (b : List ℕ) (at x y z p n m : ℕ) (more : p < n) (so-far : (p ≤ n
 
     pub none-differs : (s t : ℕ) → r ≡ eight b here → s ≡ eight b (here + 5) → t ≡ eight b (here + 13) → r ≡ x → s ≡ y → t ≡ z
         → k ≡ m + 1 → Next k
-    none-differs s t d e f x′ y′ z′ = hit k (are-alike b here x y z (sym d ∙ x′) (sym e ∙ y′) (sym f ∙ z′))
+    none-differs s t d e f x′ y′ z′ = hit k (are-alike 5 b here x y z (sym d ∙ x′) (sym e ∙ y′) (sym f ∙ z′))
 
 -- so far no more are found than slots were looked at, so that one more fits where n does
 pub one-more : (found p n most : ℕ) → found ≤ p → p < n → n < most → found + 1 < most
@@ -66,7 +67,7 @@ module _ (b d s : List ℕ) (at n p m x y z : ℕ) (within : placeFrom at n ≤ 
       let q : p ≡ n = omega (arith, so-far .0) in (
         so-far .1 .0
             ∙ ap (so-many b at x y z) q
-            ∙ card.count-same (λ i. alike b (placeFrom at i) x y z) (λ i. holds (slotAt b (placeFrom at i)) d) n
+            ∙ card.count-same (λ i. alike 5 b (placeFrom at i) x y z) (λ i. holds (slotAt b (placeFrom at i)) d) n
             (λ i h.
             rw (ex, ey, ez, e) (alike-holds b d (placeFrom at i) (omega (arith, mul-le-mul-left 21 h)) long u v)),
         omega (arith, so-far .1 .1),
