@@ -3,7 +3,7 @@ use Prim.Native.Nat.{ℕ, _<_}
 use mathlib.Core.Path.{_≡_, refl, ap, ap₂, _∙_}
 use mathlib.Core.Bool.{true, false}
 use mathlib.Core.List.{List}
-use mathlib.Core.Option.{Option, none}
+use mathlib.Core.Option.{Option, none, some}
 use Rattle.words.specs.Words.{Bytes}
 use Rattle.lot.specs.Declaration.{declarationAt}
 use Rattle.entry.specs.Entry.{Decl, SEND}
@@ -20,7 +20,7 @@ use Rattle.calls.proofs.Entered.{letter-wired, entered-is}
 -- the own entry marked, and its SEND given
 pub publication-entered : (b : List ℕ) → legal b ≡ true → Bytes b → (c : ℕ) → c < numbersOf b → (v : Decl) → IsDecl v
     → (n at own season : ℕ) (b₁ : List ℕ) (o : Outcome) → n ≡ nOf b → at ≡ slotPlace n c → own ≡ ownOf b → season ≡ seasonOf b
-    → b₁ ≡ putSlot b at v → o ≡ handed 0 (onlyIf true (wired 1 season own c (declarationAt v 0))) (onlyIf false v)
+    → b₁ ≡ putSlot b at v → o ≡ handed 0 (some (wired 1 season own c (declarationAt v 0))) none
     → result o b₁ ≡ publishedAt b c v
 unfolding publishedAt publishes
 publication-entered b h bytes c l v dv n at own season b₁ o en ea eo es e₁ eq =

@@ -9,7 +9,6 @@ ghost use Rattle.meaning.specs.Legal.{legal, IsDecl};
 ghost use Rattle.calls.specs.Entered.{Plausible, result};
 ghost use Rattle.calls.specs.Call.{called, published};
 use calls::Outcome;
-use fields::SEND;
 
 // A publication at a number of the book: 8, else the own entry is marked and a SEND given.
 fn enter_publication(book: &mut [u8], number: u32, d: [u8; 20]) -> Outcome
@@ -23,7 +22,7 @@ fn enter_publication(book: &mut [u8], number: u32, d: [u8; 20]) -> Outcome
     let own = layout::own_of(book);
     let season = layout::season_of(book);
     slots::put_slot(book, at, d);
-    reply::accept(true, SEND, season, own as u8, number as u8, false, d)
+    reply::announce(season, own as u8, number as u8, d)
 }
 
 // 4, 5, then the step, which answers 8 where a publication stands.

@@ -1,6 +1,6 @@
 -- `help::hear_request` meets its contract.
 use Rattle.calls.proofs.Requests.{asker-refused, enough-refused, request-helped, low-byte}
-use Rattle.meaning.proofs.Room.{header-room}
+use Rattle.meaning.proofs.Room.{head-room}
 use denote.Ref.{now}
 use native.Mathlib.Omega.{arith}
 use borrow.Author.Needs.{needs}
@@ -10,20 +10,20 @@ use Rattle.help.proofs.hear_request.Tie as tie
 n-of-requires : tie.Need-n-of-requires
 n-of-requires c κs =
     let start = c .before .before in
-    let h = header-room _ (start .pre) in omega arith
+    let h = head-room _ (start .pre) in omega arith
 
 helped-at-requires : tie.Need-helped-at-requires
 helped-at-requires c κs =
     let at-if1 = c .before in
     let at-n-of = at-if1 .before in
     let start = at-n-of .before .before .before in
-    let h = header-room _ (start .pre) in let n = at-n-of .n-of .ensures in
+    let h = head-room _ (start .pre) in let n = at-n-of .n-of .ensures in
     omega (arith, n .0, n .1, at-if1 .if1 .taken)
 
 limit-of-requires : tie.Need-limit-of-requires
 limit-of-requires c κs =
     let start = c .before .before .before .before .before .before .before in
-    let h = header-room _ (start .pre) in omega arith
+    let h = head-room _ (start .pre) in omega arith
 
 count-help-requires : tie.Need-count-help-requires
 count-help-requires c κs =
@@ -33,7 +33,7 @@ count-help-requires c κs =
     let at-if1 = at-helped-at .before .before in
     let at-n-of = at-if1 .before in
     let start = at-n-of .before .before .before in
-    let h = header-room _ (start .pre) in let n = at-n-of .n-of .ensures in
+    let h = head-room _ (start .pre) in let n = at-n-of .n-of .ensures in
     let low = low-byte (now (start .args .book)) (start .args .house) (start .pre)
     (omega (arith, at-helped-at .helped-at .ensures .0, at-limit-of .limit-of .ensures .0, at-if2 .if2 .taken)) in
     (omega (arith, n .0, n .1, at-if1 .if1 .taken), omega (arith, n .0, at-if1 .if1 .taken), low)

@@ -72,16 +72,16 @@ put-slot-requires c κs =
     let place = at-published-at .published-at .ensures ∙ ap (λ (x : ℕ). slotPlace x (publishedSlot (start .args .number))) n in
     omega (arith, published-room _ (start .args .number) (legal-head _ (start .pre .0)) (start .pre .1), place)
 
-cast-accept : tie.Need-cast-accept
-cast-accept c = search needs
+cast-announce : tie.Need-cast-announce
+cast-announce c = search needs
 
-cast-accept-2 : tie.Need-cast-accept-2
-cast-accept-2 c =
+cast-announce-2 : tie.Need-cast-announce-2
+cast-announce-2 c =
     let start = c .before .before .before .before .before .before .before .before .before .before .before .before .before .before .before in
     let s = numbers-small _ (start .pre .0) in omega (arith, start .pre .1)
 
-accept-requires : tie.Need-accept-requires
-accept-requires c κs = search needs
+announce-requires : tie.Need-announce-requires
+announce-requires c κs = search needs
 
 same-length-2 : tie.Need-same-length-2
 same-length-2 c = search needs
@@ -102,7 +102,7 @@ returns-2 c =
     (at-n-of .n-of .ensures .0) in
     publication-entered (now (a .book)) (start .pre .0) (λ i. omega (arith, known .slice-known .given i)) (a .number) (start .pre .1) (a .d)
     (start .pre .2 .decl) _ _ _ _ _ _ (at-n-of .n-of .ensures .0) (at-published-at .published-at .ensures) (at-own-of .own-of .ensures .0)
-    (at-season-of .season-of .ensures) (at-put-slot .put-slot .ensures) (c .accept .ensures)
+    (at-season-of .season-of .ensures) (at-put-slot .put-slot .ensures) (c .announce .ensures)
     ∙ publication-called (now (a .book)) (start .pre .0) (a .number) (a .d) (start .pre .1) (start .pre .2 .ok) _
     (at-is-full .is-full .ensures ∙ ap (λ (x : ℕ). isSome (slotAt (now (a .book)) x)) place) (at-if1 .if1 .left)
 
@@ -119,8 +119,8 @@ enter-publication-spec =
     own-of-requires
     season-of-requires
     put-slot-requires
-    cast-accept
-    cast-accept-2
-    accept-requires
+    cast-announce
+    cast-announce-2
+    announce-requires
     same-length-2
     returns-2)
