@@ -32,7 +32,7 @@ unfolding okBy
 plausible-ok s z v d t i es ed et = rw (decl-true v i) (et ∙ (λ i. plausible (es i) (ed i)))
 
 -- the numbers read from bytes have 20 bytes
-read-decl : (s : List ℕ) (i : ℕ) → Bytes s → IsDecl (bytesOf (declarationAt s i))
+pub read-decl : (s : List ℕ) (i : ℕ) → Bytes s → IsDecl (bytesOf (declarationAt s i))
 unfolding bytesOf
 read-decl s i b = record { long = refl; bytes = bytes-are-bytes s i b }
 

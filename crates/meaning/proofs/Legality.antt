@@ -218,6 +218,11 @@ module _ (b : List ℕ) where
     unfolding entryLegal
     entry-all f = row-all (placeIn b j c 0) (perEntry (nOf b)) (λ i l. ap (slotOk b) (place-in b j c i) ∙ f i l)
 
+    -- the row from where the entry begins
+    pub entry-row : (base : ℕ) → base ≡ placeIn b j c 0 → rowOk b base (perEntry (nOf b)) ≡ entryLegal b j c
+    unfolding entryLegal
+    entry-row base e = ap (λ (x : ℕ). rowOk b x (perEntry (nOf b))) e
+
     -- a legal book's entries are legal
     pub legal-entry : legal b ≡ true → j < nOf b → c < numbersOf b → entryLegal b j c ≡ true
     legal-entry h hj hc =

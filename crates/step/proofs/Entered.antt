@@ -49,9 +49,9 @@ module _ (b m : List ℕ) (base : ℕ) (C : Carries b m base) where
 
   pub kind-wired : (k : ℕ) → withKind k m ≡ wired k (seasonOf b) (senderIn m) (numberIn m) (declarationAt lot 0)
   kind-wired k =
-      other-kind m (C .bytes) (C .formed) k
+      other-kind m (C .comes .bytes) (C .comes .formed) k
       ∙ letter-bytes k (wordAt m 7) (senderIn m) (numberIn m) lot (C .plausible .decl)
-      ∙ ap (λ (x : ℕ). wired k x (senderIn m) (numberIn m) (declarationAt lot 0)) (C .season)
+      ∙ ap (λ (x : ℕ). wired k x (senderIn m) (numberIn m) (declarationAt lot 0)) (C .comes .season)
 
   pub outcome-wired : (s : Step) → outcomeOf s m
       ≡ handed (s .answer) (onlyIf (s .gives) (wired (s .kind) (seasonOf b) (senderIn m) (numberIn m) (declarationAt lot 0)))

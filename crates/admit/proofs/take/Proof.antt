@@ -1,5 +1,5 @@
 -- `admit::take` meets its contract.
-use Rattle.admit.proofs.Heard.{send-heard, echo-heard, ready-heard, another-heard, no-other-kind}
+use Rattle.admit.proofs.Heard.{send-taken, echo-taken, ready-taken, another-heard, no-other-kind}
 use denote.Ref.{now}
 use borrow.Author.Needs.{needs}
 use Rattle.admit.proofs.take.Statement.{statement}
@@ -16,13 +16,13 @@ returns c =
     let at-hear-send = c .before .before in
     let at-if1 = at-hear-send .before .before in
     let at-match = at-if1 .before in
-    let start = at-match .before .before in
+    let start = at-match .before .before .before in
     let a = start .args in
-    send-heard (now (a .book)) (a .house) (a .kind) (a .sender) (a .number) (a .d) (at-match .match .keys1) (at-if1 .if1 .taken) _
-    (at-hear-send .hear-send .ensures)
+    send-taken (now (a .book)) (now (a .message)) (start .pre .0 .comes) (a .house) (a .kind) (start .pre .2) (a .sender) (start .pre .3)
+    (at-match .match .keys1) (at-if1 .if1 .taken) _ (at-hear-send .hear-send .ensures)
 
-refuse-requires : tie.Need-refuse-requires
-refuse-requires c κs = search needs
+refused-requires : tie.Need-refused-requires
+refused-requires c κs = search needs
 
 hear-echo-requires : tie.Need-hear-echo-requires
 hear-echo-requires c κs = search needs
@@ -30,18 +30,19 @@ hear-echo-requires c κs = search needs
 hear-ready-requires : tie.Need-hear-ready-requires
 hear-ready-requires c κs = search needs
 
-refuse-requires-2 : tie.Need-refuse-requires-2
-refuse-requires-2 c κs = search needs
+refused-requires-2 : tie.Need-refused-requires-2
+refused-requires-2 c κs = search needs
 
 returns-2 : tie.Need-returns-2
 returns-2 c =
-    let at-if1 = c .before in
+    let at-refused = c in
+    let at-if1 = at-refused .before in
     let at-match = at-if1 .before in
-    let start = at-match .before .before in
+    let start = at-match .before .before .before in
     let a = start .args in
-    another-heard (now (a .book)) (a .house) (a .kind) (a .sender) (a .number) (a .d) (start .pre .0) (start .pre .3) (start .pre .2 .ok)
-    (at-match .match .keys1)
-    (at-if1 .if1 .left) _ (c .refuse .ensures)
+    another-heard (now (a .book)) (now (a .message)) (start .pre .0 .comes) (a .house) (a .kind) (start .pre .2) (start .pre .0 .fits .has)
+    (start .pre .1) (start .pre .0 .plausible .ok) (a .sender) (start .pre .3) (at-match .match .keys1) (at-if1 .if1 .left) _
+    (at-refused .refused .ensures)
 
 same-length-2 : tie.Need-same-length-2
 same-length-2 c = search needs
@@ -50,9 +51,9 @@ returns-3 : tie.Need-returns-3
 returns-3 c =
     let at-hear-echo = c .before .before in
     let at-match = at-hear-echo .before .before in
-    let start = at-match .before .before in
+    let start = at-match .before .before .before in
     let a = start .args in
-    echo-heard (now (a .book)) (a .house) (a .kind) (a .sender) (a .number) (a .d) (at-match .match .keys2) _
+    echo-taken (now (a .book)) (now (a .message)) (start .pre .0 .comes) (a .house) (a .kind) (start .pre .2) (at-match .match .keys2) _
     (at-hear-echo .hear-echo .ensures)
 
 same-length-3 : tie.Need-same-length-3
@@ -62,17 +63,19 @@ returns-4 : tie.Need-returns-4
 returns-4 c =
     let at-hear-ready = c .before .before in
     let at-match = at-hear-ready .before .before in
-    let start = at-match .before .before in
+    let start = at-match .before .before .before in
     let a = start .args in
-    ready-heard (now (a .book)) (a .house) (a .kind) (a .sender) (a .number) (a .d) (at-match .match .keys3) _
+    ready-taken (now (a .book)) (now (a .message)) (start .pre .0 .comes) (a .house) (a .kind) (start .pre .2) (at-match .match .keys3) _
     (at-hear-ready .hear-ready .ensures)
 
 returns-5 : tie.Need-returns-5
 returns-5 c =
     let at-match = c .before in
-    let start = at-match .before .before in
+    let start = at-match .before .before .before in
+    let a = start .args in
     let rest = at-match .match .rest in
-    absurd (no-other-kind (start .args .kind) (start .pre .4) (rest .0 .0 .1) (rest .0 .1) (rest .1))
+    absurd (no-other-kind (now (a .book)) (now (a .message)) (start .pre .0 .comes) (a .house) (a .kind) (start .pre .2) (rest .0 .0 .1)
+    (rest .0 .1) (rest .1))
 
 pub take-spec : {M : Type 1} → statement M
 take-spec =
@@ -81,10 +84,10 @@ take-spec =
     hear-send-requires
     same-length
     returns
-    refuse-requires
+    refused-requires
     hear-echo-requires
     hear-ready-requires
-    refuse-requires-2
+    refused-requires-2
     returns-2
     same-length-2
     returns-3

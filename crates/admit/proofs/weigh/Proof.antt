@@ -1,51 +1,53 @@
 -- `admit::weigh` meets its contract.
-use Rattle.admit.proofs.Heard.{implausible-heard}
-use Rattle.calls.proofs.Declarations.{plausible-ok}
-use Rattle.calls.proofs.Checking.{book-sheet}
-use Rattle.meaning.specs.Book.{sheetOf}
+use Rattle.admit.proofs.Heard.{lot-decl, lot-plausible, stranger-heard, implausible-heard}
+use Rattle.calls.proofs.Checking.{head-sheet}
+use Rattle.meaning.proofs.Room.{head-room}
 use denote.Ref.{now}
+use native.Mathlib.Omega.{arith}
 use mathlib.Core.Path.{sym, _∙_}
 use borrow.Author.Needs.{needs}
 use Rattle.admit.proofs.weigh.Statement.{statement}
 use Rattle.admit.proofs.weigh.Tie as tie
 
-entry-at-requires : tie.Need-entry-at-requires
-entry-at-requires c κs = search needs
+n-of-requires : tie.Need-n-of-requires
+n-of-requires c κs =
+    let start = c .before .before .before in
+    let h = head-room _ (start .pre .0 .head) in omega arith
 
 sheet-of-requires : tie.Need-sheet-of-requires
-sheet-of-requires c κs = search needs
-
-slice-aggregate-declaration-at : tie.Need-slice-aggregate-declaration-at
-slice-aggregate-declaration-at c = search needs
-
-declaration-at-requires : tie.Need-declaration-at-requires
-declaration-at-requires c κs = search needs
+sheet-of-requires c κs =
+    let start = c .before .before .before .before .before .before in
+    let h = head-room _ (start .pre .0 .head) in omega arith
 
 is-plausible-requires : tie.Need-is-plausible-requires
 is-plausible-requires c κs =
-    let at-sheet-of = c .before .before in
-    let start = at-sheet-of .before .before .before .before .before in
-    book-sheet (now (start .args .book)) _ (start .pre .0 .is-legal) (at-sheet-of .sheet-of .ensures)
+    let at-sheet-of = c in
+    let start = at-sheet-of .before .before .before .before .before .before .before in
+    head-sheet (now (start .args .book)) _ (start .pre .0 .head) (at-sheet-of .sheet-of .ensures)
 
 take-requires : tie.Need-take-requires
 take-requires c κs =
-    let at-if1 = c .before in
-    let at-is-plausible = at-if1 .before in
-    let at-declaration-at = at-is-plausible .before in
-    let at-sheet-of = at-declaration-at .before .before in
-    let at-entry-at = at-sheet-of .before .before in
-    let start = at-entry-at .before .before .before in
-    let a = start .args in (
-      start .pre .0,
-      at-entry-at .entry-at .ensures,
+    let at-if2 = c .before in
+    let at-is-plausible = at-if2 .before in
+    let at-sheet-of = at-is-plausible .before in
+    let at-if1 = at-sheet-of .before .before in
+    let at-n-of = at-if1 .before in
+    let start = at-n-of .before .before .before .before in
+    let a = start .args in
+    let b = now (a .book) in
+    let m = now (a .message) in
+    let ok = lot-plausible b m (start .pre .0) _ (a .d) _ (at-sheet-of .sheet-of .ensures) (start .pre .5)
+    (at-is-plausible .is-plausible .ensures) in
+    (
       record {
-        decl = start .pre .1;
-        ok = sym (plausible-ok _ (sheetOf (now (a .book))) (a .t6) _ _ (start .pre .1)
-            (at-sheet-of .sheet-of .ensures) (at-declaration-at .declaration-at .ensures) (at-is-plausible .is-plausible .ensures)) ∙
-            at-if1 .if1 .taken;
+        comes = start .pre .0;
+        fits = start .pre .1;
+        begins = start .pre .2;
+        plausible = record { decl = lot-decl b m (start .pre .0); ok = sym ok ∙ at-if2 .if2 .taken };
       },
-      start .pre .2,
+      omega (arith, at-n-of .n-of .ensures .0, at-if1 .if1 .taken),
       start .pre .3,
+      start .pre .4,
     )
 
 same-length : tie.Need-same-length
@@ -54,36 +56,58 @@ same-length c = search needs
 returns : tie.Need-returns
 returns c = search needs
 
-refuse-requires : tie.Need-refuse-requires
-refuse-requires c κs = search needs
+refused-requires : tie.Need-refused-requires
+refused-requires c κs = search needs
 
 same-length-2 : tie.Need-same-length-2
 same-length-2 c = search needs
 
 returns-2 : tie.Need-returns-2
 returns-2 c =
-    let at-if1 = c .before in
-    let at-is-plausible = at-if1 .before in
-    let at-declaration-at = at-is-plausible .before in
-    let at-sheet-of = at-declaration-at .before .before in
-    let start = at-sheet-of .before .before .before .before .before in
+    let at-refused = c in
+    let at-if2 = at-refused .before in
+    let at-is-plausible = at-if2 .before in
+    let at-sheet-of = at-is-plausible .before in
+    let at-if1 = at-sheet-of .before .before in
+    let at-n-of = at-if1 .before in
+    let start = at-n-of .before .before .before .before in
     let a = start .args in
-    implausible-heard (now (a .book)) (a .house) (a .kind) (a .sender) (a .number) (a .t6) (start .pre .3) (start .pre .0) (start .pre .2)
-    (sym (plausible-ok _ (sheetOf (now (a .book))) (a .t6) _ _ (start .pre .1) (at-sheet-of .sheet-of .ensures)
-    (at-declaration-at .declaration-at .ensures) (at-is-plausible .is-plausible .ensures)) ∙ at-if1 .if1 .left) _ (c .refuse .ensures)
+    let b = now (a .book) in
+    let m = now (a .message) in
+    let ok = lot-plausible b m (start .pre .0) _ (a .d) _ (at-sheet-of .sheet-of .ensures) (start .pre .5)
+    (at-is-plausible .is-plausible .ensures) in
+    implausible-heard b m (start .pre .0) (a .house) (start .pre .1 .has) (omega (arith, at-n-of .n-of .ensures .0, at-if1 .if1 .taken))
+    (sym ok ∙ at-if2 .if2 .left) _ (at-refused .refused .ensures)
+
+refused-requires-2 : tie.Need-refused-requires-2
+refused-requires-2 c κs = search needs
+
+same-length-3 : tie.Need-same-length-3
+same-length-3 c = search needs
+
+returns-3 : tie.Need-returns-3
+returns-3 c =
+    let at-refused2 = c in
+    let at-if1 = at-refused2 .before in
+    let at-n-of = at-if1 .before in
+    let start = at-n-of .before .before .before .before in
+    let a = start .args in
+    stranger-heard (now (a .book)) (now (a .message)) (start .pre .0) (a .house) (omega (arith, at-n-of .n-of .ensures .0, at-if1 .if1 .left))
+    _ (at-refused2 .refused2 .ensures)
 
 pub weigh-spec : {M : Type 1} → statement M
 weigh-spec =
     tie.close
     (tie.spec
-    entry-at-requires
+    n-of-requires
     sheet-of-requires
-    slice-aggregate-declaration-at
-    declaration-at-requires
     is-plausible-requires
     take-requires
     same-length
     returns
-    refuse-requires
+    refused-requires
     same-length-2
-    returns-2)
+    returns-2
+    refused-requires-2
+    same-length-3
+    returns-3)

@@ -19,7 +19,7 @@ echo-at-requires c κs = search needs
 twenty-at-requires : tie.Need-twenty-at-requires
 twenty-at-requires c κs =
     let start = c .before .before .before .before .before .before in
-    omega (arith, sized (now (start .args .message)) (start .pre .0 .formed))
+    omega (arith, sized (now (start .args .message)) (start .pre .0 .comes .formed))
 
 record-answer-requires : tie.Need-record-answer-requires
 record-answer-requires c κs =
@@ -31,7 +31,7 @@ record-answer-requires c κs =
 twenty-at-requires-2 : tie.Need-twenty-at-requires-2
 twenty-at-requires-2 c κs =
     let start = c .before .before .before .before .before .before .before .before .before .before in
-    omega (arith, sized (now (start .args .message)) (start .pre .0 .formed))
+    omega (arith, sized (now (start .args .message)) (start .pre .0 .comes .formed))
 
 put-slot-requires : tie.Need-put-slot-requires
 put-slot-requires c κs =
@@ -43,7 +43,7 @@ put-slot-requires c κs =
 twenty-at-requires-3 : tie.Need-twenty-at-requires-3
 twenty-at-requires-3 c κs =
     let start = c .before .before .before .before .before .before .before .before .before .before .before .before .before .before .before in
-    omega (arith, sized (now (start .args .message)) (start .pre .0 .formed))
+    omega (arith, sized (now (start .args .message)) (start .pre .0 .comes .formed))
 
 echo-mark-requires : tie.Need-echo-mark-requires
 echo-mark-requires c κs =
@@ -66,7 +66,7 @@ ready-sent-at-requires c κs = search needs
 twenty-at-requires-4 : tie.Need-twenty-at-requires-4
 twenty-at-requires-4 c κs =
     let start = c .before .before .before .before .before .before .before .before .before .before .before .before .before .before .before .before .before .before .before in
-    omega (arith, sized (now (start .args .message)) (start .pre .0 .formed))
+    omega (arith, sized (now (start .args .message)) (start .pre .0 .comes .formed))
 
 mark-requires : tie.Need-mark-requires
 mark-requires c κs =

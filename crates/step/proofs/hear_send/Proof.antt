@@ -16,7 +16,7 @@ send-at-requires c κs = search needs
 twenty-at-requires : tie.Need-twenty-at-requires
 twenty-at-requires c κs =
     let start = c .before .before .before .before in
-    omega (arith, sized (now (start .args .message)) (start .pre .formed))
+    omega (arith, sized (now (start .args .message)) (start .pre .comes .formed))
 
 record-answer-requires : tie.Need-record-answer-requires
 record-answer-requires c κs =
@@ -27,7 +27,7 @@ record-answer-requires c κs =
 twenty-at-requires-2 : tie.Need-twenty-at-requires-2
 twenty-at-requires-2 c κs =
     let start = c .before .before .before .before .before .before .before .before in
-    omega (arith, sized (now (start .args .message)) (start .pre .formed))
+    omega (arith, sized (now (start .args .message)) (start .pre .comes .formed))
 
 put-slot-requires : tie.Need-put-slot-requires
 put-slot-requires c κs =
