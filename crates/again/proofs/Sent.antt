@@ -18,7 +18,7 @@ use Rattle.meaning.specs.Book.{nOf, numbersOf, ownOf, seasonOf, slotOf, look}
 use Rattle.meaning.specs.Legal.{legal, Has}
 use Rattle.meaning.proofs.Meant.{others-published}
 use Rattle.meaning.proofs.Entries.{look-is}
-use Rattle.slots.proofs.Same.{part-numbers}
+use Rattle.again.proofs.Same.{part-numbers}
 use Rattle.calls.specs.Entered.{kindOf, letter, letters, kindNumber}
 use Rattle.layout.specs.Places.{Begins}
 use Rattle.entry.proofs.Fullness.{empty-holds}

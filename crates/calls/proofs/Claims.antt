@@ -47,6 +47,9 @@ claims =
         receive-settled = λ b house message r r' after after' p q.
             let e = p ∙ sym q in
             (ap (λ (x : Result). x .given) e, ap (λ (x : Result). x .book) e);
+        receive-entry-settled = λ b house message r r' after after' p q.
+            let e = p ∙ sym q in
+            (ap (λ (x : Result). x .given) e, ap (λ (x : Result). x .book) e);
         waiting-settled = λ b r r' p q. p ∙ sym q;
         return-settled = λ b r r' p q. p ∙ sym q;
         sent-settled = λ b kind sender number r r' p q. p ∙ sym q;

@@ -333,7 +333,4 @@ by-entry =
       keeps-head = λ b bytes p message. received-kept b bytes p message .head;
       keeps-header = λ b bytes p message. received-kept b bytes p message .header;
       keeps-entry = λ b bytes p message j c e. received-kept b bytes p message .entry j c e;
-      settled = λ b house message r r' after after' p q.
-          let e = p ∙ sym q in
-          (ap (λ (x : Result). x .given) e, ap (λ (x : Result). x .book) e);
     }

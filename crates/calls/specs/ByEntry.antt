@@ -9,7 +9,6 @@ use mathlib.Core.Option.{Option, none, some}
 use lib.Dec.{eqb, ltb}
 use lib.ListN.{length, getD}
 use Rattle.words.specs.Words.{Bytes}
-use Rattle.words.specs.Settled.{SettledWith}
 use Rattle.lot.specs.Declaration.{bytesOf}
 use Rattle.message.specs.Message.{Five, readAs, malformed, readOf, requestOf, isRequest}
 use Rattle.entry.specs.Entry.{Kind}
@@ -18,8 +17,7 @@ use Rattle.protocol.specs.Book.{Call, receiving, senderOf, numberOf}
 use Rattle.meaning.specs.Layout.{perEntry, helpedPlace}
 use Rattle.meaning.specs.Book.{nOf, numbersOf, ownOf, seasonOf, headerOf, look, placeIn, withRow}
 use Rattle.meaning.specs.Legal.{headLegal, entryLegal, Lent, Fits}
-use Rattle.calls.specs.declared.Outcome.{Outcome}
-use Rattle.calls.specs.Entered.{Result, result, handed, letters, kindOf}
+use Rattle.calls.specs.Entered.{Result, handed, letters, kindOf}
 use Rattle.calls.specs.Call.{refusal, stepOf, asked, requested, received}
 use Rattle.calls.specs.Silent.{Refuses}
 
@@ -113,6 +111,3 @@ pub record ByEntry : Type 0 where
   pub keeps-header : (b : List ℕ) → Bytes b → (house : ℕ) (message : List ℕ) → headerOf (receivedEntry b house message .book) ≡ headerOf b
   pub keeps-entry : (b : List ℕ) → Bytes b → (house : ℕ) (message : List ℕ) (j c : ℕ)
       → entryLegal b j c ≡ true → entryLegal (receivedEntry b house message .book) j c ≡ true
-  -- The contract settles its outcome, in what is handed back and in each byte of the lent buffer.
-  pub settled : (b : List ℕ) (house : ℕ) (message : List ℕ)
-      → SettledWith (λ (r : Outcome) after. result r after ≡ receivedEntry b house message)

@@ -26,13 +26,15 @@ use Rattle.calls.specs.Answers.{Publishing, Reads, Conflict, Receiving}
 use Rattle.calls.specs.Between.{Between}
 use Rattle.calls.specs.Keeps.{Keeps}
 use Rattle.calls.specs.Silent.{Silent}
-use Rattle.calls.specs.ByEntry.{ByEntry}
+use Rattle.calls.specs.ByEntry.{receivedEntry, ByEntry}
 
 -- Two outcomes that meet a call's contract are equal, in what is handed back and in each byte of the lent buffer.
 pub record Settles : Type 0 where
   pub publish-settled : (b : List ℕ) (number : ℕ) (v : Decl) → SettledWith (λ (r : Outcome) after. result r after ≡ published b number v)
   pub receive-settled : (b : List ℕ) (house : ℕ) (message : List ℕ)
       → SettledWith (λ (r : Outcome) after. result r after ≡ received b house message)
+  pub receive-entry-settled : (b : List ℕ) (house : ℕ) (message : List ℕ)
+      → SettledWith (λ (r : Outcome) after. result r after ≡ receivedEntry b house message)
   pub waiting-settled : (b : List ℕ) → Settled (λ (r : Waiting). r ≡ waiting b)
   pub return-settled : (b : List ℕ) → Settled (λ (r : Returned). r ≡ returned b)
   pub sent-settled : (b : List ℕ) (kind sender number : ℕ) → Settled (λ (r : Sent). r ≡ sentOf b kind sender number)

@@ -1,4 +1,4 @@
--- What the ten calls promise beside their contracts holds.
+-- What the eleven calls promise beside their contracts holds.
 use mathlib.Core.Path.{sym, _∙_}
 use Rattle.sizes.proofs.Claims as sizes
 use Rattle.opening.proofs.Claims as opening

@@ -1,4 +1,4 @@
--- The contracts that `Claims` settles are those of the ten calls in the source, as Rattle reads them.
+-- The contracts that `Claims` settles are those of the eleven calls in the source, as Rattle reads them.
 use mathlib.Core.Path.{_≡_}
 use contract.Lifetimes.{Lfts}
 use borrow.Fn.World.{ArgsD, ResD}
@@ -18,6 +18,9 @@ use Rattle.house.proofs.gm_publish.Kinds as publish-kinds
 use Rattle.house.proofs.gm_receive
 use Rattle.house.proofs.gm_receive.Reads as receive-reads
 use Rattle.house.proofs.gm_receive.Kinds as receive-kinds
+use Rattle.house.proofs.gm_receive_entry
+use Rattle.house.proofs.gm_receive_entry.Reads as receive-entry-reads
+use Rattle.house.proofs.gm_receive_entry.Kinds as receive-entry-kinds
 use Rattle.house.proofs.gm_waiting
 use Rattle.house.proofs.gm_waiting.Reads as waiting-reads
 use Rattle.house.proofs.gm_waiting.Kinds as waiting-kinds
@@ -55,6 +58,11 @@ pub receive-settled : (κs : Lfts 2) (a : ArgsD gm_receive.signature κs) (r r' 
     (s s' : AtExit (endedOf 2 receive-kinds.ps receive-kinds.r) κs) → receive-reads.Post κs a r s → receive-reads.Post κs a r' s'
     → (r ≡ r') × (now (s .0) ≡ now (s' .0))
 receive-settled κs a r r' s s' p q = claims .settled .calls .receive-settled _ _ _ r r' _ _ p q
+
+pub receive-entry-settled : (κs : Lfts 2) (a : ArgsD gm_receive_entry.signature κs) (r r' : ResD gm_receive_entry.signature κs)
+    (s s' : AtExit (endedOf 2 receive-entry-kinds.ps receive-entry-kinds.r) κs)
+    → receive-entry-reads.Post κs a r s → receive-entry-reads.Post κs a r' s' → (r ≡ r') × (now (s .0) ≡ now (s' .0))
+receive-entry-settled κs a r r' s s' p q = claims .settled .calls .receive-entry-settled _ _ _ r r' _ _ p q
 
 pub waiting-settled : (κs : Lfts 1) (a : ArgsD gm_waiting.signature κs) (r r' : ResD gm_waiting.signature κs)
     (s s' : AtExit (endedOf 1 waiting-kinds.ps waiting-kinds.r) κs) → waiting-reads.Post κs a r s → waiting-reads.Post κs a r' s' → r ≡ r'

@@ -1,4 +1,4 @@
--- What the ten calls promise beside their contracts, in document 01's order.
+-- What the eleven calls promise beside their contracts, in document 01's order.
 use Prim.Native.Nat.{ℕ}
 use mathlib.Core.Path.{_≡_}
 use mathlib.Core.List.{List}
@@ -17,7 +17,7 @@ pub record Settles : Type 0 where
   pub sizes : sizes.Claims
   -- `gm_open`
   pub opening : opening.Claims
-  -- `gm_publish`, `gm_receive`, `gm_waiting`, `gm_return` and `gm_sent`
+  -- `gm_publish`, `gm_receive`, `gm_receive_entry`, `gm_waiting`, `gm_return` and `gm_sent`
   pub calls : calls.Settles
   -- `gm_judge`, `gm_write` and `gm_read`
   pub judge-settled : (sheet d : List ℕ) → Settled (λ (r : ℕ). r ≡ judged sheet d)

@@ -1,4 +1,4 @@
-// The ten calls that a house links, as they are exported to C and Rust.
+// The eleven calls that a house links, as they are exported to C and Rust.
 ghost use mathlib.Core.Path.{_≡_};
 ghost use Rattle.lot.specs.Declaration.{declarationAt};
 ghost use Rattle.sheet.specs.Kept.{judged};
@@ -6,6 +6,7 @@ ghost use Rattle.message.specs.Message.{readOf, requestOf, writtenOf};
 ghost use Rattle.meaning.specs.Opening.{Opened, opened, Length, lengthAnswer};
 ghost use Rattle.calls.specs.Entered.{result};
 ghost use Rattle.calls.specs.Call.{published, received};
+ghost use Rattle.calls.specs.ByEntry.{receivedEntry};
 ghost use Rattle.calls.specs.Search.{waiting};
 ghost use Rattle.calls.specs.Again.{returned, sentOf};
 ghost use Rattle.message.specs.Read.{readAnswer};
@@ -57,6 +58,15 @@ pub extern "C" fn gm_receive(book: &mut [u8], house: u32, message: &[u8]) -> Out
     ensures { λ r. ⌜ result r (now (book .exit)) ≡ received (now (book .entry)) house (now (message .entry)) ⌝ }
 {
     receive::receive(book, house, message)
+}
+
+// Receiving by entry: the head and the named entry are tested, and not the rest. 1 for the head, 2, 3, 4 for the entry, 1 for its slots,
+// 4 for the house, 5, 6, then 7 or 13; a request 1 for the head, 3, 4, then 14.
+#[no_mangle]
+pub extern "C" fn gm_receive_entry(book: &mut [u8], house: u32, message: &[u8]) -> Outcome
+    ensures { λ r. ⌜ result r (now (book .exit)) ≡ receivedEntry (now (book .entry)) house (now (message .entry)) ⌝ }
+{
+    receive::receive_entry(book, house, message)
 }
 
 // The earliest waiting entry, or a plain none, or answer 1.

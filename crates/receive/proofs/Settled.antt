@@ -21,4 +21,4 @@ receive-settled κs a r r' s s' p q = claims .settled .receive-settled _ _ _ r r
 pub receive-entry-settled : (κs : Lfts 2) (a : ArgsD receive_entry.signature κs) (r r' : ResD receive_entry.signature κs)
     (s s' : AtExit (endedOf 2 receive-entry-kinds.ps receive-entry-kinds.r) κs)
     → receive-entry-reads.Post κs a r s → receive-entry-reads.Post κs a r' s' → (r ≡ r') × (now (s .0) ≡ now (s' .0))
-receive-entry-settled κs a r r' s s' p q = claims .by-entry .settled _ _ _ r r' _ _ p q
+receive-entry-settled κs a r r' s s' p q = claims .settled .receive-entry-settled _ _ _ r r' _ _ p q

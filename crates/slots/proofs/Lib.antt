@@ -1,5 +1,5 @@
 pub mod Eight
 pub mod Alike
 pub mod Rows
-pub mod Same
 pub mod Slots
+pub mod Gathered

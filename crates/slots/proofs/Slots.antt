@@ -13,11 +13,10 @@ use borrow.Author.Tests.{eq-eqb, ne-eqb}
 use Rattle.words.specs.Words.{Bytes}
 use Rattle.words.proofs.Bytes.{bytes-zeros}
 use Rattle.entry.specs.Entry.{isSome}
-use Rattle.entry.proofs.Basics.{T-of, true-of, both, and-false}
+use Rattle.entry.proofs.Basics.{T-of, true-of, both}
 use Rattle.meaning.specs.Layout.{slotLength}
 use Rattle.meaning.specs.Slot.{part, slotAt, slotOk, slotBytes, putSlot}
 use Rattle.meaning.proofs.Slots.{ok-part, ok-of-bytes, ok-bytes}
-use Rattle.slots.proofs.Eight.{eight}
 use Rattle.slots.proofs.Alike.{alike, is-v, of-v}
 
 -- a slot, by its presence byte
@@ -30,13 +29,13 @@ module _ (b : List ℕ) (at : ℕ) where
       go true = refl
       go false = refl
 
-  pub ok-full : getD b at 0 ≡ 1 → true ≡ slotOk b at
+  pub ok-full : getD b at 0 ≡ 1 → slotOk b at ≡ true
   unfolding slotOk
   ok-full e = rw (eq-eqb _ _ e)
 
 -- a slot that is not full has its one form exactly when three numbers are zero: of its bytes 0 to 7, 8 to 15, 13 to 20
 module _ (b : List ℕ) (at : ℕ) (fits : at + slotLength ≤ length b) (x : Bytes b) (empty : getD b at 0 ≡ 1 → ⊥) where
-  zeros-ok : alike 8 b at 0 0 0 ≡ slotOk b at
+  pub zeros-ok : alike 8 b at 0 0 0 ≡ slotOk b at
   unfolding slotAt slotBytes
   zeros-ok =
       let zeros : List ℕ = replicate slotLength 0 in
@@ -50,17 +49,6 @@ module _ (b : List ℕ) (at : ℕ) (fits : at + slotLength ≤ length b) (x : By
       (λ t.
       of-v 8 (omega arith) (omega arith) b zeros at fits refl x y
       (sym (ok-bytes b at fits (true-of (slotOk b at) t)) ∙ ap slotBytes none-here))
-
-  module _ (r : ℕ) where
-    pub first-not-zero : r ≡ eight b at → (r ≡ 0 → ⊥) → false ≡ slotOk b at
-    first-not-zero e f = rw (← zeros-ok, ne-eqb _ _ (λ (q : eight b at ≡ 0). f (e ∙ q)))
-
-    pub second-not-zero : r ≡ eight b (at + 8) → (r ≡ 0 → ⊥) → false ≡ slotOk b at
-    second-not-zero e f =
-        sym (and-false (eqb (eight b at) 0) _ (rw (ne-eqb _ _ (λ (q : eight b (at + 8) ≡ 0). f (e ∙ q))))) ∙ zeros-ok
-
-    pub third-decides : (s t : ℕ) → r ≡ eight b at → s ≡ eight b (at + 8) → t ≡ eight b (at + 13) → r ≡ 0 → s ≡ 0 → eqb t 0 ≡ slotOk b at
-    third-decides s t d e f p q = rw (← zeros-ok, f, eq-eqb _ _ (sym d ∙ p), eq-eqb _ _ (sym e ∙ q))
 
 -- the presence byte is stored, and then the 20 bytes after it
 pub put-done : (b : List ℕ) (at : ℕ) (d : List ℕ) → at + slotLength ≤ length b → length d ≡ 20

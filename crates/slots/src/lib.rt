@@ -1,5 +1,6 @@
-// Slots on the bytes: whether one is full, whether one, or a row of them, has its one form, filling one.
+// Slots on the bytes: whether one is full, whether each of a row of them has its one form, filling one.
 ghost use mathlib.Core.Path.{_≡_};
+ghost use mathlib.Core.Bool.{_&&_};
 ghost use Prim.Native.Nat.{_+_, _*_, _<_, _≤_};
 ghost use lib.ListN.{length, getD};
 ghost use lib.Seq.{paste};
@@ -7,12 +8,21 @@ ghost use Rattle.entry.specs.Entry.{isSome};
 ghost use Rattle.meaning.specs.Layout.{slotLength, placeFrom};
 ghost use Rattle.meaning.specs.Slot.{slotAt, slotOk, putSlot};
 ghost use Rattle.meaning.specs.Legal.{rowOk};
+ghost use Rattle.slots.specs.Strays.{clear};
 
 // The bytes of a slot.
 pub const LENGTH: usize = 21;
 
-// The slots that one turn of the scan tests.
+// The slots that one turn of the scan gathers.
 const TURN: usize = 8;
+
+// What is gathered of slots: of each that is not full, the numbers of its bytes 0 to 7, 8 to 15 and 13 to 20, ORed with those before. The
+// three are zero exactly when each slot has the one byte form of its meaning.
+struct Strays {
+    first: u64,
+    middle: u64,
+    last: u64,
+}
 
 // A byte as a number of 64 bits.
 fn wide(x: u8) -> u64
@@ -47,46 +57,49 @@ pub fn is_full(b: &[u8], at: usize) -> bool
     b[at] == 1
 }
 
-// Whether the slot at `at` has the one byte form of its meaning: it holds something, or its bytes 0 to 7, 8 to 15 and 13 to 20 are zero.
-fn is_slot_ok(b: &[u8], at: usize) -> bool
+// What is gathered with the slot at `at` too.
+fn gather(b: &[u8], at: usize, s: Strays) -> Strays
     requires { ⌜ at + slotLength ≤ length (now b) ⌝ }
-    ensures { λ r. ⌜ r ≡ slotOk (now (b .entry)) at ⌝ }
+    ensures { λ r. ⌜ clear r ≡ clear s && slotOk (now (b .entry)) at ⌝ }
 {
     if b[at] == 1 {
-        return true;
+        return s;
     }
-    if eight_at(b, at) == 0 {
-        if eight_at(b, at + 8) == 0 {
-            return eight_at(b, at + 13) == 0;
-        }
+    Strays {
+        first: s.first | eight_at(b, at),
+        middle: s.middle | eight_at(b, at + 8),
+        last: s.last | eight_at(b, at + 13),
     }
-    false
 }
 
-// Whether each of the k slots from the one at `at` on has its one form, one by one.
-fn are_ok(b: &[u8], at: usize, k: usize) -> bool
+// What is gathered with the k slots from the one at `at` on too, one by one.
+fn gather_row(b: &[u8], at: usize, k: usize, s: Strays) -> Strays
     requires { ⌜ placeFrom at k ≤ length (now b) ⌝ }
-    ensures { λ r. ⌜ r ≡ rowOk (now (b .entry)) at k ⌝ }
+    ensures { λ r. ⌜ clear r ≡ clear s && rowOk (now (b .entry)) at k ⌝ }
 {
+    let mut strays = s;
     for i in 0..k {
-        if !is_slot_ok(b, at + LENGTH * i) {
-            return false;
-        }
+        strays = gather(b, at + LENGTH * i, strays);
     }
-    true
+    strays
 }
 
-// The same, eight slots a turn: the compiler writes the loop over eight out.
+// Whether each of the k slots from the one at `at` on has its one form, eight slots a turn: the compiler writes the loop over eight out.
+// Nothing is tested before the end: a way out at each slot would make the scan of a legal book slower.
 pub fn are_slots_ok(b: &[u8], at: usize, k: usize) -> bool
     requires { ⌜ placeFrom at k ≤ length (now b) ⌝ }
     ensures { λ r. ⌜ r ≡ rowOk (now (b .entry)) at k ⌝ }
 {
+    let mut strays = Strays {
+        first: 0,
+        middle: 0,
+        last: 0,
+    };
     for i in 0..k / TURN {
-        if !are_ok(b, at + TURN * LENGTH * i, TURN) {
-            return false;
-        }
+        strays = gather_row(b, at + TURN * LENGTH * i, TURN, strays);
     }
-    are_ok(b, at + TURN * LENGTH * (k / TURN), k % TURN)
+    let all = gather_row(b, at + TURN * LENGTH * (k / TURN), k % TURN, strays);
+    all.first == 0 && all.middle == 0 && all.last == 0
 }
 
 // Lays bytes over those from `at` on.
