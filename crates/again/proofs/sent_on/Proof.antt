@@ -1,4 +1,5 @@
 -- `again::sent_on` meets its contract.
+use Rattle.meaning.proofs.Legality.{legal-head}
 use Rattle.again.proofs.Sent.{sent-no-book, sent-no-kind, sent-no-sender, sent-no-number, sent-there}
 use Rattle.meaning.proofs.Room.{header-room}
 use denote.Ref.{now}
@@ -40,7 +41,7 @@ sent-entry-requires c κs =
     let at-if1 = at-n-of .before .before .before in
     let at-is-legal = at-if1 .before in
     record {
-      is-legal = sym (at-is-legal .is-legal .ensures) ∙ at-if1 .if1 .taken;
+      head = legal-head _ (sym (at-is-legal .is-legal .ensures) ∙ at-if1 .if1 .taken);
       sender = omega (arith, at-n-of .n-of .ensures .0, at-if3 .if3 .taken);
       number = omega (arith, at-numbers-of .numbers-of .ensures .0, c .if4 .taken);
     }

@@ -1,4 +1,5 @@
 -- `waiting::search` meets its contract: below each place of the loops nothing waits.
+use Rattle.meaning.proofs.Legality.{legal-head}
 use Rattle.waiting.proofs.Searching.{row, none-yet, sender-passed, number-passed, stops-at, stops-nowhere}
 use Rattle.calls.specs.Search.{firstBelow, waitingAt}
 use Rattle.waiting.specs.declared.Found.the-variants.{Nothing}
