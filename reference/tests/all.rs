@@ -2,6 +2,7 @@
 
 mod attacks;
 mod below;
+mod by_entry;
 mod calls;
 mod colonies;
 mod common;

@@ -44,17 +44,17 @@ const EDGES: [u32; 25] = [
 
 /// How often what was tried was in the book or allowed, and how often it was not.
 #[derive(Debug, Default)]
-struct Sides([usize; 2]);
+pub(super) struct Sides([usize; 2]);
 
 impl Sides {
     /// It was tried; gives whether it is.
-    fn add(&mut self, is: bool) -> bool {
+    pub fn add(&mut self, is: bool) -> bool {
         self.0[usize::from(is)] += 1;
         is
     }
 
     /// Both came about so often at least.
-    fn are_enough(&self, least: usize, what: &str) {
+    pub fn are_enough(&self, least: usize, what: &str) {
         let enough = self.0.iter().all(|&count| count >= least);
         assert!(enough, "{what}, not and so: {:?}", self.0);
     }

@@ -4,6 +4,7 @@
 pub mod below;
 pub mod books;
 pub mod both;
+pub mod by_entry;
 pub mod claims;
 pub mod colonies;
 pub mod forms;

@@ -74,12 +74,17 @@ impl Named {
     }
 }
 
-/// A publishing, or a receiving.
-fn random_call(random: &mut Random, book: &[u8], pool: &[Declaration]) -> Call {
-    let declaration = match random.below(6) {
+/// A declaration of the pool, or at times any.
+pub(super) fn random_told(random: &mut Random, pool: &[Declaration]) -> Declaration {
+    match random.below(6) {
         0 => random_declaration(random),
         _ => random.pick(pool),
-    };
+    }
+}
+
+/// A publishing, or a receiving.
+fn random_call(random: &mut Random, book: &[u8], pool: &[Declaration]) -> Call {
+    let declaration = random_told(random, pool);
     if random.chance(1, 5) {
         return Call::Publish(random_number(random, book[1].max(1)), declaration);
     }
