@@ -13,5 +13,6 @@ mod repeats;
 mod rows;
 mod seasons;
 mod slips;
+mod slips_by_entry;
 mod slips_of_calls;
 mod twins;
