@@ -3,6 +3,8 @@
 use crate::linked::Linked;
 use crate::{drawn, edges, entries};
 use reference::testing::both::Both;
+use reference::testing::by_entry::instead::Instead;
+use reference::testing::by_entry::{self, order};
 use reference::testing::forms::{FEW_HOUSES, MANY_HOUSES};
 use reference::testing::scheduler::twins::{self, Count};
 use reference::testing::scheduler::{attacks, carrier, directed, implausible};
@@ -21,7 +23,7 @@ pub type Pair = Both<Linked, Reference>;
 pub type Check = (&'static str, fn(&mut Pair, u64, usize));
 
 /// Checks that are the same at any size, the quickest first; the seed is for noise.
-pub const COUNTED: [Check; 41] = [
+pub const COUNTED: [Check; 45] = [
     ("the rows and run cases of document 01", |pair, _, _| {
         rows::card(pair, 1..=FEW_HOUSES);
         rows::judged(pair);
@@ -39,6 +41,10 @@ pub const COUNTED: [Check; 41] = [
         pairs::publishing(pair);
         pairs::opening(pair);
         pairs::judging(pair);
+    }),
+    ("each pair of errors, by entry", |pair, seed, _| {
+        order::receiving(pair, seed);
+        order::asking(pair);
     }),
     ("two wrong houses of four, step by step", |pair, _, _| {
         directed::one_wrong_too_many(pair);
@@ -71,6 +77,9 @@ pub const COUNTED: [Check; 41] = [
     }),
     ("every f, d and help count of a book", |pair, seed, _| {
         books::helped_and_down(pair, seed);
+    }),
+    ("each field of the head, by entry", |pair, _, _| {
+        by_entry::heads(pair);
     }),
     ("every bit of a book", |pair, seed, _| {
         edges::damaged_books(pair, seed);
@@ -151,6 +160,9 @@ pub const COUNTED: [Check; 41] = [
         repeats::every_byte(pair);
         repeats::every_pair(pair);
     }),
+    ("each slot of an entry, by entry", |pair, _, _| {
+        by_entry::each_slot(pair);
+    }),
     ("the counts for every n and f", |pair, seed, _| {
         rows::another_f(pair);
         vouchers::every_count(pair, seed);
@@ -160,6 +172,9 @@ pub const COUNTED: [Check; 41] = [
     }),
     ("every state of one entry", |pair, seed, _| {
         entries::states(pair, seed, 5);
+    }),
+    ("every state of one entry, by entry", |pair, seed, _| {
+        instead(pair, |pair| entries::states(pair, seed, 5));
     }),
     (
         "the attacks of t wrong houses and one more",
@@ -172,7 +187,7 @@ pub const COUNTED: [Check; 41] = [
 ];
 
 /// Checks that draw their cases: more with a larger size.
-pub const DRAWN: [Check; 24] = [
+pub const DRAWN: [Check; 29] = [
     ("calls on any legal book", |pair, seed, scale| {
         refusals::calls(pair, seed, 225 * scale);
     }),
@@ -182,6 +197,16 @@ pub const DRAWN: [Check; 24] = [
             repeats::any_book(pair, seed, 113 * scale);
         },
     ),
+    (
+        "by entry as received, on any legal book",
+        |pair, seed, scale| {
+            by_entry::as_receiving(pair, seed, 8 * scale);
+        },
+    ),
+    ("bad slots, by entry", |pair, seed, scale| {
+        by_entry::bad_slots(pair, seed, 8 * scale);
+        by_entry::requests(pair, seed, scale);
+    }),
     ("no colonies on any legal book", |pair, seed, scale| {
         colonies::any_book(pair, seed, 8 * scale);
     }),
@@ -212,6 +237,9 @@ pub const DRAWN: [Check; 24] = [
     ("noise", |pair, seed, scale| {
         books::noise(pair, seed, 500 * scale);
     }),
+    ("noise, by entry", |pair, seed, scale| {
+        by_entry::noise(pair, seed, 12_500 * scale);
+    }),
     ("openings", |pair, seed, scale| {
         openings::openings(pair, seed, 338 * scale);
     }),
@@ -235,6 +263,18 @@ pub const DRAWN: [Check; 24] = [
             enough,
             "it never came about: {missing:?}, or seldom: {rare:?}"
         );
+    }),
+    ("seasons by entry", |pair, seed, scale| {
+        instead(pair, |pair| {
+            for n in 1..=7 {
+                scheduler::seasons(pair, seed, n, 1 + n % 4, scale.div_ceil(2) as u64);
+            }
+        });
+    }),
+    ("a season of many houses, by entry", |pair, seed, _| {
+        instead(pair, |pair| {
+            scheduler::seasons(pair, seed, MOST_HOUSES, 1, 1);
+        });
     }),
     (
         "seasons with a nervous carrier and with none",
@@ -307,6 +347,15 @@ pub const DRAWN: [Check; 24] = [
         assert!(found > 0, "no disagreement was found");
     }),
 ];
+
+/// Makes a check with receiving by entry in the place of receiving: no book in it is bad, so answer 1 never comes.
+fn instead(pair: &mut Pair, check: impl FnOnce(&mut Instead<Pair>)) {
+    let mut instead = Instead::of(pair);
+    check(&mut instead);
+    let [accepted, no_book, ..] = instead.answers;
+    assert!(accepted > 0, "nothing was received");
+    assert_eq!(no_book, 0, "answer 1 where head and entry are kept");
+}
 
 /// At this size each moment of a season that is counted comes about.
 const ENOUGH_FOR_ALL: usize = 8;
