@@ -23,7 +23,7 @@ pub type Pair = Both<Linked, Reference>;
 pub type Check = (&'static str, fn(&mut Pair, u64, usize));
 
 /// Checks that are the same at any size, the quickest first; the seed is for noise.
-pub const COUNTED: [Check; 45] = [
+pub const COUNTED: [Check; 47] = [
     ("the rows and run cases of document 01", |pair, _, _| {
         rows::card(pair, 1..=FEW_HOUSES);
         rows::judged(pair);
@@ -71,6 +71,17 @@ pub const COUNTED: [Check; 45] = [
     }),
     ("what reading refuses", |pair, seed, _| {
         trips::malformed(pair, seed);
+    }),
+    ("rows, edges and requests, by entry", |pair, seed, _| {
+        instead(pair, |pair| {
+            rows::card(pair, 1..=FEW_HOUSES);
+            edges::unlike_bytes(pair);
+            edges::strangers(pair);
+            edges::messages(pair, seed);
+            requests::every_count(pair, seed);
+            requests::heard_all_the_same(pair);
+            many::at_the_edge(pair);
+        });
     }),
     ("books that are not legal", |pair, _, _| {
         books::illegal_books(pair);
@@ -126,6 +137,13 @@ pub const COUNTED: [Check; 45] = [
         rows::card(pair, FEW_HOUSES + 1..=MOST_HOUSES);
     }),
     ("all sizes", |pair, _, _| edges::sizes(pair)),
+    ("all sizes, by entry", |pair, _, _| {
+        instead(pair, |pair| {
+            many::empty_to_full(pair);
+            rows::card(pair, FEW_HOUSES + 1..=MOST_HOUSES);
+            edges::sizes(pair);
+        });
+    }),
     ("edge readings and limits", |pair, _, _| {
         readings::at_open_gates(pair);
         readings::at_limits(pair);
