@@ -1,6 +1,6 @@
 //! Receiving by entry beside receiving, with bad bytes in the head, in the named entry and elsewhere; and seasons of it.
 
-use reference::testing::by_entry::instead::Instead;
+use reference::testing::by_entry::instead::instead;
 use reference::testing::by_entry::{self, order};
 use reference::testing::scheduler::{self, attacks, directed};
 use reference::testing::{repeats, requests, rows, vouchers};
@@ -42,19 +42,9 @@ fn the_first_answer_in_order() {
     order::asking(&mut Reference);
 }
 
-/// Makes a check with receiving by entry in the place of receiving. No book in it is damaged, so answer 1 never comes.
-fn instead(check: impl FnOnce(&mut Instead<Reference>)) {
-    let mut library = Reference;
-    let mut instead = Instead::of(&mut library);
-    check(&mut instead);
-    let [accepted, no_book, ..] = instead.answers;
-    assert!(accepted > 0, "nothing was received");
-    assert_eq!(no_book, 0, "answer 1 where head and entry are kept");
-}
-
 #[test]
 fn seasons_by_entry() {
-    instead(|library| {
+    instead(&mut Reference, |library| {
         for n in 1..=9 {
             scheduler::seasons(library, 2031, n, 1 + n % 4, 12);
         }
@@ -65,7 +55,7 @@ fn seasons_by_entry() {
 
 #[test]
 fn directed_seasons_by_entry() {
-    instead(|library| {
+    instead(&mut Reference, |library| {
         directed::one_wrong_too_many(library);
         directed::liar_and_carrier(library);
         directed::crashes(library);
@@ -77,7 +67,7 @@ fn directed_seasons_by_entry() {
 
 #[test]
 fn steps_by_entry() {
-    instead(|library| {
+    instead(&mut Reference, |library| {
         rows::card(library, 1..=MOST_HOUSES);
         vouchers::every_count(library, 2034);
         repeats::every_byte(library);

@@ -3,7 +3,7 @@
 use crate::linked::Linked;
 use crate::{drawn, edges, entries};
 use reference::testing::both::Both;
-use reference::testing::by_entry::instead::Instead;
+use reference::testing::by_entry::instead::instead;
 use reference::testing::by_entry::{self, order};
 use reference::testing::forms::{FEW_HOUSES, MANY_HOUSES};
 use reference::testing::scheduler::twins::{self, Count};
@@ -365,15 +365,6 @@ pub const DRAWN: [Check; 29] = [
         assert!(found > 0, "no disagreement was found");
     }),
 ];
-
-/// Makes a check with receiving by entry in the place of receiving: no book in it is bad, so answer 1 never comes.
-fn instead(pair: &mut Pair, check: impl FnOnce(&mut Instead<Pair>)) {
-    let mut instead = Instead::of(pair);
-    check(&mut instead);
-    let [accepted, no_book, ..] = instead.answers;
-    assert!(accepted > 0, "nothing was received");
-    assert_eq!(no_book, 0, "answer 1 where head and entry are kept");
-}
 
 /// At this size each moment of a season that is counted comes about.
 const ENOUGH_FOR_ALL: usize = 8;

@@ -4,20 +4,22 @@ use crate::{Declaration, Library, Outcome, ReadAnswer, Returned, SentAnswer, Wai
 
 /// The library, with receiving by entry in the place of receiving.
 pub struct Instead<'l, L> {
-    /// The library itself.
-    pub library: &'l mut L,
+    library: &'l mut L,
     /// How often each answer came of it.
-    pub answers: [u64; 15],
+    answers: [u64; 15],
 }
 
-impl<'l, L: Library> Instead<'l, L> {
-    /// Of this library.
-    pub fn of(library: &'l mut L) -> Self {
-        Instead {
-            library,
-            answers: [0; 15],
-        }
-    }
+/// Makes a check with receiving by entry in the place of receiving. Where no book in it is bad, head and entries are
+/// kept, and so answer 1 never comes.
+pub fn instead<L: Library>(library: &mut L, check: impl FnOnce(&mut Instead<L>)) {
+    let mut instead = Instead {
+        library,
+        answers: [0; 15],
+    };
+    check(&mut instead);
+    let [accepted, no_book, ..] = instead.answers;
+    assert!(accepted > 0, "nothing was received by entry");
+    assert_eq!(no_book, 0, "answer 1 by entry where no book is bad");
 }
 
 impl<L: Library> Library for Instead<'_, L> {
