@@ -70,7 +70,6 @@ pub fn receive(book: &mut [u8], house: u32, message: &[u8]) -> Outcome {
     try_receive(book, house, message).unwrap_or_else(Outcome::refused)
 }
 
-// What both receivings do stands whole in each of them (`inline`): so receiving costs what it did alone.
 fn try_receive(book: &mut [u8], house: u32, message: &[u8]) -> Result<Outcome, u8> {
     let header = Header::of_legal(book).ok_or(NO_LEGAL_BOOK)?;
     let form = of_season(&header, message)?;
@@ -106,7 +105,7 @@ fn of_season(header: &Header, message: &[u8]) -> Result<Form, u8> {
 }
 
 /// Takes what came from a house of the book: hears a message, helps on a request. Or answer 4, and what these
-/// answer.
+/// answer. It and what it hears by stand whole in both receivings, so that receiving costs what it did alone.
 #[inline(always)]
 fn take(header: &Header, book: &mut [u8], house: u32, form: Form) -> Result<Outcome, u8> {
     let house = usize::try_from(house).map_err(|_| NOT_IN_BOOK)?;

@@ -55,8 +55,8 @@ fn due(book: &[u8], house: u32, bytes: &[u8]) -> (Outcome, Vec<u8>) {
     (outcome, after)
 }
 
-/// Makes the call, and holds what it gives and every byte to what is due; and where it did not answer 1, to "it
-/// keeps what it tests".
+/// Makes the call, and holds what it gives and every byte to what is due. And it keeps what it tests: where it does not
+/// answer 1, head and entry are legal afterwards.
 fn receives(library: &mut impl Library, book: &mut [u8], house: u32, bytes: &[u8]) -> Outcome {
     let (due, after) = due(book, house, bytes);
     let outcome = library.receive_entry(book, house, bytes);
@@ -339,7 +339,7 @@ const FIELDS: [Field; 21] = [
     (35, "help of house 4", &[5, 8, 255], &[0, 4]),
 ];
 
-/// Each field of the head on both sides, and other lengths: 1 "first of all, whatever the message is".
+/// Each field of the head on both sides, and other lengths: 1 first of all, whatever the message is.
 pub fn heads(library: &mut impl Library) {
     let sheet = sheet(20, Gate::Between(0.0, 20.0), Gate::AtMost(2.0));
     let mut legal = fresh([5, 2, 3, 1, 4], SEASON, &sheet);

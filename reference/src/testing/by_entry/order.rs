@@ -1,5 +1,5 @@
-//! "1 by the head, 2, 3, 4 by the sender or the number, 1 by the entry, 4 by the house, 5, 6, then 7 or 13": each pair
-//! of errors at once, and any number of them. A request names no entry, and no slot counts for it.
+//! The order of answers by entry: 1 by the head, 2, 3, 4 by the sender or the number, 1 by the entry, 4 by the house, 5, 6,
+//! and last 7 or 13; each pair of errors at once, and any number of them. A request names no entry: no slot counts for it.
 
 use super::receives;
 use crate::testing::forms::{
