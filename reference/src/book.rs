@@ -43,6 +43,11 @@ pub(crate) fn is_full(slot: &Slot) -> bool {
     slot[0] != 0
 }
 
+/// "One byte form per meaning": the presence byte is 1; or it is 0, and zeros follow.
+pub(crate) fn has_one_form(slot: &Slot) -> bool {
+    slot[0] == 1 || *slot == EMPTY
+}
+
 /// Fills the slot if it was empty, and tells whether it was. A full slot never changes.
 pub(crate) fn fill(slot: &mut Slot, with: &Slot) -> bool {
     let empty = !is_full(slot);
@@ -71,21 +76,19 @@ pub(crate) struct Header {
 }
 
 impl Header {
-    /// The head of the book, where the bytes are a legal book. "A legal book has n, S and sheet as above,
-    /// own number below n; nothing more is asked of its entries." And f and d are allowed, and no asker was
-    /// helped more than d times.
-    pub fn of_legal(book: &[u8]) -> Option<Self> {
+    /// The head of the book, where it is legal: all that a legal book asks but the form of its slots. So n, S
+    /// and sheet are "as above, own number below n", and the length is theirs; f and d are allowed, and no
+    /// asker was helped more than d times.
+    pub fn of_head(book: &[u8]) -> Option<Self> {
         let (header, rest) = book.split_first_chunk::<HEADER>()?;
         let [n, s, own, y0, y1, y2, y3, sheet @ .., f, d] = header;
         let numbers = [n, s, own, f, d].map(|byte| u32::from(*byte));
         if allowed(numbers)? != book.len() {
             return None;
         }
-        let (helped, slots) = rest.split_at_checked(usize::from(*n))?;
+        let helped = rest.get(..usize::from(*n))?;
         let sheet = Sheet::read(sheet)?;
-        let (slots, _) = slots.as_chunks();
-        let one_form = slots.iter().all(|slot| slot[0] == 1 || *slot == EMPTY);
-        if !one_form || helped.iter().any(|times| times > d) {
+        if helped.iter().any(|times| times > d) {
             return None;
         }
         Some(Header {
@@ -97,6 +100,14 @@ impl Header {
             limit: *d,
             counts: Counts::of(usize::from(*n), usize::from(*f))?,
         })
+    }
+
+    /// The head of the book, where the bytes are a legal book: the head is legal and each slot has its one
+    /// form; "nothing more is asked of its entries."
+    pub fn of_legal(book: &[u8]) -> Option<Self> {
+        let header = Self::of_head(book)?;
+        let slots = header.slots(book);
+        slots.iter().all(has_one_form).then_some(header)
     }
 
     /// How often this asker was helped, if it is in the book.

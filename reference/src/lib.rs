@@ -1,8 +1,9 @@
-//! The house book of document 01 in ordinary Rust: ten calls over plain bytes.
+//! The house book of document 01 in ordinary Rust: eleven calls over plain bytes.
 //!
 //! It is written from the document and from the book's layout alone, so that the proved library and this
-//! one can be run against each other. A call takes the book as bytes, tests that they are a legal book,
-//! and changes them in place or not at all. Nothing here panics on any input.
+//! one can be run against each other. A call takes the book as bytes, tests that they are a legal book
+//! (receiving by entry tests the head and one entry), and changes them in place or not at all. Nothing here
+//! panics on any input.
 #![forbid(unsafe_code)]
 #![deny(missing_docs)]
 
@@ -23,8 +24,8 @@ pub use message::{
 };
 pub use sheet::{judge, Declaration, Gate, Readings, Sheet, DECLARATION, SHEET};
 pub use steps::{
-    come_back, publish, receive, sent, waiting, Outcome, Returned, SentAnswer, Waiting,
-    WaitingEntry,
+    come_back, publish, receive, receive_entry, sent, waiting, Outcome, Returned, SentAnswer,
+    Waiting, WaitingEntry,
 };
 
 /// For measuring: the count of vouchers by itself.

@@ -1,10 +1,10 @@
-//! The ten calls as a trait, so that the same tests can drive this library and another.
+//! The eleven calls as a trait, so that the same tests can drive this library and another.
 
 use crate::message::{ReadAnswer, Written};
 use crate::sheet::Declaration;
 use crate::steps::{Outcome, Returned, SentAnswer, Waiting};
 
-/// The ten calls that a house makes. A library may keep something to make them with (a pipe, say), but
+/// The eleven calls that a house makes. A library may keep something to make them with (a pipe, say), but
 /// nothing that its answers depend on.
 pub trait Library {
     /// The length of a book; or answer 9 and 0.
@@ -26,6 +26,8 @@ pub trait Library {
     fn publish(&mut self, book: &mut [u8], number: u32, declaration: &Declaration) -> Outcome;
     /// Receives one message from a house.
     fn receive(&mut self, book: &mut [u8], house: u32, message: &[u8]) -> Outcome;
+    /// Receives one message from a house, and tests of the slots those of the named entry alone.
+    fn receive_entry(&mut self, book: &mut [u8], house: u32, message: &[u8]) -> Outcome;
     /// Returns: gives the request to send to all.
     fn come_back(&mut self, book: &[u8]) -> Returned;
     /// Tells what the house sent of a kind on an entry.
@@ -47,7 +49,7 @@ pub trait Library {
     fn read(&mut self, message: &[u8]) -> ReadAnswer;
 }
 
-/// The ten calls of this crate.
+/// The eleven calls of this crate.
 #[derive(Clone, Copy, Debug, Default)]
 pub struct Reference;
 
@@ -76,6 +78,10 @@ impl Library for Reference {
 
     fn receive(&mut self, book: &mut [u8], house: u32, message: &[u8]) -> Outcome {
         crate::receive(book, house, message)
+    }
+
+    fn receive_entry(&mut self, book: &mut [u8], house: u32, message: &[u8]) -> Outcome {
+        crate::receive_entry(book, house, message)
     }
 
     fn come_back(&mut self, book: &[u8]) -> Returned {

@@ -4,12 +4,12 @@ use crate::answer::{
     ACCEPTED, ALREADY_ACCEPTED, ALREADY_PUBLISHED, CONFLICT, HELPED_ENOUGH, MALFORMED, NOT_IN_BOOK,
     NOT_PLAUSIBLE, NOT_THE_SENDER, NO_LEGAL_BOOK, OTHER_SEASON,
 };
-use crate::book::{fill, held, holding, is_full, Entry, Header, Slot};
+use crate::book::{fill, has_one_form, held, holding, is_full, Entry, Header, Slot};
 use crate::card::Counts;
 use crate::message::{request, Form, Kind, Message, MESSAGE, REQUEST};
 use crate::sheet::Declaration;
 
-/// What publishing and receiving give.
+/// What publishing and receiving give, by entry or not.
 #[derive(Clone, Copy, Debug, PartialEq, Eq)]
 pub struct Outcome {
     /// The number of the answer.
@@ -72,17 +72,49 @@ pub fn receive(book: &mut [u8], house: u32, message: &[u8]) -> Outcome {
 
 fn try_receive(book: &mut [u8], house: u32, message: &[u8]) -> Result<Outcome, u8> {
     let header = Header::of_legal(book).ok_or(NO_LEGAL_BOOK)?;
+    let form = of_season(&header, message)?;
+    take(&header, book, house, form)
+}
+
+/// Receives by entry, for a house that knows its book: it tests the head and the entry that the message names,
+/// and no other slot. Answers 1 by the head, 2, 3, 4 by the sender or the number, 1 by the entry, 4 by the
+/// house, and then as receiving does. A request names no entry, and is answered by the head alone.
+pub fn receive_entry(book: &mut [u8], house: u32, message: &[u8]) -> Outcome {
+    try_receive_entry(book, house, message).unwrap_or_else(Outcome::refused)
+}
+
+fn try_receive_entry(book: &mut [u8], house: u32, message: &[u8]) -> Result<Outcome, u8> {
+    let header = Header::of_head(book).ok_or(NO_LEGAL_BOOK)?;
+    let form = of_season(&header, message)?;
+    if let Form::Message(message) = form {
+        let row = header.row(book, message.number, message.sender);
+        if !row.ok_or(NOT_IN_BOOK)?.iter().all(has_one_form) {
+            return Err(NO_LEGAL_BOOK);
+        }
+    }
+    take(&header, book, house, form)
+}
+
+/// What came, where it is well formed and of the book's season; or answer 2 or 3.
+fn of_season(header: &Header, message: &[u8]) -> Result<Form, u8> {
     let form = Form::from_bytes(message).ok_or(MALFORMED)?;
     if form.season() != header.season {
         return Err(OTHER_SEASON);
     }
+    Ok(form)
+}
+
+/// Takes what came from a house of the book: hears a message, helps on a request. Or answer 4, and what these
+/// answer. It and what it hears by stand whole in both receivings, so that receiving costs what it did alone.
+#[inline(always)]
+fn take(header: &Header, book: &mut [u8], house: u32, form: Form) -> Result<Outcome, u8> {
     let house = usize::try_from(house).map_err(|_| NOT_IN_BOOK)?;
     if house >= header.n {
         return Err(NOT_IN_BOOK);
     }
     match form {
-        Form::Message(message) => hear(&header, book, house, &message),
-        Form::Request(_) => help(&header, book, house),
+        Form::Message(message) => hear(header, book, house, &message),
+        Form::Request(_) => help(header, book, house),
     }
 }
 
@@ -103,6 +135,7 @@ fn help(header: &Header, book: &mut [u8], asker: usize) -> Result<Outcome, u8> {
 
 /// A message of kind 1 to 3 of the book's season, from a house in the book: answers 4 to 6, then 7 or 13,
 /// or 0.
+#[inline(always)]
 fn hear(header: &Header, book: &mut [u8], house: usize, message: &Message) -> Result<Outcome, u8> {
     let entry = header
         .entry(book, message.number, message.sender)
@@ -129,6 +162,7 @@ struct Step {
 }
 
 /// Records the message on its entry and marks what is now due; or answer 7 or 13, with nothing recorded.
+#[inline(always)]
 fn accept(entry: Entry, house: usize, message: &Message, counts: Counts) -> Result<Step, u8> {
     let v = holding(&message.declaration);
     match message.kind {

@@ -2,6 +2,7 @@
 
 mod attacks;
 mod below;
+mod by_entry;
 mod calls;
 mod colonies;
 mod common;
@@ -12,5 +13,6 @@ mod repeats;
 mod rows;
 mod seasons;
 mod slips;
+mod slips_by_entry;
 mod slips_of_calls;
 mod twins;

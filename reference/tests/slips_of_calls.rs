@@ -2,6 +2,7 @@
 //! caught by a check that knows the answer, and again by drawn calls beside a library that does not
 //! slip.
 
+use crate::common::otherwise::with;
 use crate::common::{self, all_differ, all_let_pass, said, Slipped, Slips};
 use reference::testing::forms::{slot_at, slots_from};
 use reference::testing::{books, openings, pairs, refusals, requests, returns, rows, vouchers};
@@ -71,18 +72,6 @@ enum Slip {
 /// The reference, with a slip.
 struct Slipping {
     slip: Slip,
-}
-
-/// Makes a call on the book with other bytes at this place for as long.
-fn with<T>(book: &mut [u8], at: usize, bytes: &[u8], call: impl FnOnce(&mut [u8]) -> T) -> T {
-    let Some(place) = book.get_mut(at..at + bytes.len()) else {
-        return call(book);
-    };
-    let old = place.to_vec();
-    place.copy_from_slice(bytes);
-    let outcome = call(book);
-    book[at..at + old.len()].copy_from_slice(&old);
-    outcome
 }
 
 /// n, S, own number, f and d of a book, or zeros where it is too short.

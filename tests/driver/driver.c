@@ -1,4 +1,4 @@
-/* Makes the library's ten calls for a program at the other end of two pipes, until its input ends.
+/* Makes the library's eleven calls for a program at the other end of two pipes, until its input ends.
  *
  * A question is 53 bytes: the call (1), six numbers (4 each), a declaration (20), the lengths of the book and of the bytes (4 each); then
  * the book, then the bytes, which are a sheet or a message. A reply is the call (1), how many calls came before it (4), the length of the
@@ -24,7 +24,7 @@
 #pragma clang diagnostic ignored "-Wdeprecated-non-prototype"
 #define GIVEN_AT(place, call, ...) ((__typeof__(call(__VA_ARGS__)) * (*)()) call)(place, __VA_ARGS__)
 
-enum { LENGTH, OPEN, PUBLISH, RECEIVE, RETURN, SENT, WAITING, JUDGE, WRITE, READ };
+enum { LENGTH, OPEN, PUBLISH, RECEIVE, RECEIVE_ENTRY, RETURN, SENT, WAITING, JUDGE, WRITE, READ };
 enum { BAD_QUESTION = 2, BAD_PIPE = 3, NO_WALL = 4, WROTE_BEFORE = 5, OTHER_PLACE = 6, NO_MODE = 7, MODE_MATTERS = 8 };
 enum { NUMBERS = 6, LENGTHS = 1 + 4 * NUMBERS + GM_DECLARATION_BYTES, HEAD = LENGTHS + 8, PAINT = 0xA5 };
 
@@ -209,6 +209,7 @@ static void put_read(lent room, const gm_read_answer *got) {
 static void make(question asked, uint8_t *book, const uint8_t *bytes) {
     static const size_t lengths[] = {[PUBLISH] = sizeof(gm_outcome),
                                      [RECEIVE] = sizeof(gm_outcome),
+                                     [RECEIVE_ENTRY] = sizeof(gm_outcome),
                                      [SENT] = sizeof(gm_sent_answer),
                                      [WRITE] = sizeof(gm_written),
                                      [READ] = sizeof(gm_read_answer)};
@@ -228,6 +229,9 @@ static void make(question asked, uint8_t *book, const uint8_t *bytes) {
         return;
     case RECEIVE:
         put_outcome(room, GIVEN_AT(room.at, gm_receive, book, len, x[0], bytes, bytes_len));
+        return;
+    case RECEIVE_ENTRY:
+        put_outcome(room, GIVEN_AT(room.at, gm_receive_entry, book, len, x[0], bytes, bytes_len));
         return;
     case RETURN:
         put_return(gm_return(book, len));

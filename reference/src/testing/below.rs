@@ -2,7 +2,7 @@
 //! limit below zero get answer 10, and a book holding one answer 1": judged, opened, published and received; and
 //! on legal books where such readings stand already, which judge nothing of what stands.
 
-use super::books::{illegal, legal};
+use super::books::{bad_head, legal};
 use super::forms::{
     declaration, has_below_zero, honey, is_measurable, random_below, random_book_of,
     random_gate_near_zero, random_pool, readings_of, sheet, sheet_of_bits, so_many_of_each,
@@ -195,7 +195,7 @@ pub fn any_sheet(library: &mut impl Library, seed: u64, books: usize) {
         let why = format!("the gates {gates:08X?}");
         match is_legal {
             true => legal(library, &book, &why),
-            false => illegal(library, &book, &why),
+            false => bad_head(library, &book, &why),
         }
         found[usize::from(is_legal)][usize::from(limit == MINUS_ZERO)] += 1;
     }

@@ -4,10 +4,11 @@ use super::forms::{
     fresh, held, honey, message, open_sheet, random_book, random_declaration, random_pool,
     request_of, slot_at, slots_from, FEW_HOUSES, SEASON,
 };
+use super::pairs::clean;
 use super::random::Random;
 use crate::{Library, MOST_HOUSES, MOST_NUMBERS};
 
-/// All calls that take a book say that this is none, and leave it.
+/// All calls that test a whole book say that this is none, and leave it.
 pub(super) fn illegal(library: &mut impl Library, book: &[u8], why: &str) {
     let declaration = honey(77, 40, 800);
     let mut lent = book.to_vec();
@@ -39,6 +40,19 @@ pub(super) fn illegal(library: &mut impl Library, book: &[u8], why: &str) {
     assert!(lent == book, "a book with {why} is written to");
 }
 
+/// All calls that test a whole book say that this is none, and receiving by entry does too: its head is bad.
+pub(super) fn bad_head(library: &mut impl Library, book: &[u8], why: &str) {
+    illegal(library, book, why);
+    let mut lent = book.to_vec();
+    let send = message(1, SEASON, 0, 0, &honey(77, 40, 800));
+    for bytes in [&send[..], &request_of(SEASON), &[]] {
+        let outcome = library.receive_entry(&mut lent, 0, bytes);
+        assert_eq!(outcome.answer, 1, "by entry, a book with {why}");
+        let same = lent == book;
+        assert!(clean(&outcome, same), "by entry, a book with {why}");
+    }
+}
+
 /// All calls that take a book take this one, whatever they answer.
 pub(super) fn legal(library: &mut impl Library, book: &[u8], why: &str) {
     let declaration = honey(77, 40, 800);
@@ -49,12 +63,17 @@ pub(super) fn legal(library: &mut impl Library, book: &[u8], why: &str) {
         library
             .receive(&mut book.to_vec(), 0, &request_of(SEASON))
             .answer,
+        library.receive_entry(&mut book.to_vec(), 0, &send).answer,
+        library
+            .receive_entry(&mut book.to_vec(), 0, &request_of(SEASON))
+            .answer,
         library.come_back(book).answer,
         library.sent(book, 2, 0, 0).answer,
         library.waiting(book).answer,
     ];
     assert!(!answers.contains(&1), "a book with {why}: {answers:?}");
-    assert_eq!(answers[3..], [0; 3], "a book with {why}");
+    assert_eq!(answers[1..3], answers[3..5], "by entry, a book with {why}");
+    assert_eq!(answers[5..], [0; 3], "a book with {why}");
 }
 
 /// n and S of which one is not allowed. The length that the formula gives them makes no book.
@@ -111,7 +130,7 @@ pub fn illegal_books(library: &mut impl Library) {
     for (place, byte, why) in changes {
         let mut book = fresh.clone();
         book[place] = byte;
-        illegal(library, &book, why);
+        bad_head(library, &book, why);
     }
     for place in slots_from(4)..fresh.len() {
         let mut book = fresh.clone();
@@ -121,15 +140,15 @@ pub fn illegal_books(library: &mut impl Library) {
     }
     for [n, s] in SIZES_OF_NONE {
         let book = super::forms::fresh([n, s, 0, 0, 3], SEASON, &open_sheet());
-        illegal(library, &book, &format!("the length of {n} and {s}"));
+        bad_head(library, &book, &format!("the length of {n} and {s}"));
     }
     for length in [0, 1, 28, 29, 31, 35, fresh.len() - 21, fresh.len() - 1] {
-        illegal(library, &fresh[..length], "bytes missing");
+        bad_head(library, &fresh[..length], "bytes missing");
     }
     for more in [1, 21, 40_000] {
         let mut book = fresh.clone();
         book.resize(fresh.len() + more, 0);
-        illegal(library, &book, "bytes too many");
+        bad_head(library, &book, "bytes too many");
     }
 }
 
@@ -151,7 +170,7 @@ pub fn helped_and_down(library: &mut impl Library, seed: u64) {
         found[usize::from(is_legal)] += 1;
         match is_legal {
             true => legal(library, book, why),
-            false => illegal(library, book, why),
+            false => bad_head(library, book, why),
         }
     };
     for n in 1..=MOST_HOUSES {
@@ -260,13 +279,16 @@ pub fn noise(library: &mut impl Library, seed: u64, calls: usize) {
                 .publish(&mut book, random.word(), &declaration)
                 .answer,
             library.receive(&mut book, random.word(), &bytes).answer,
+            library
+                .receive_entry(&mut book, random.word(), &bytes)
+                .answer,
             library.come_back(&book).answer,
             library
                 .sent(&book, random.byte(), random.word(), random.word())
                 .answer,
             library.waiting(&book).answer,
         ];
-        assert_eq!(answers, [1; 5], "noise is no legal book");
+        assert_eq!(answers, [1; 6], "noise is no legal book");
         let [s, f, d, season] = [0; 4].map(|_| random.word());
         let opened = library.open(&mut book, 4, s, 0, f, d, season, &bytes);
         assert!(opened != 0 && book == before, "noise is no legal sheet");

@@ -65,6 +65,14 @@ impl<A: Library, B: Library> Library for Both<A, B> {
         same("receive", first, second)
     }
 
+    fn receive_entry(&mut self, book: &mut [u8], house: u32, message: &[u8]) -> Outcome {
+        let mut other = book.to_vec();
+        let first = self.first.receive_entry(book, house, message);
+        let second = self.second.receive_entry(&mut other, house, message);
+        same_book("receive_entry", book, &other);
+        same("receive_entry", first, second)
+    }
+
     fn come_back(&mut self, book: &[u8]) -> Returned {
         let first = self.first.come_back(book);
         same("come_back", first, self.second.come_back(book))

@@ -434,11 +434,16 @@ pub fn random_book(random: &mut Random, pool: &[Declaration]) -> Vec<u8> {
     random_book_of(random, n, pool)
 }
 
-/// One of so many houses: f is any that fits, d and the help counts are any, and any slot is full with any 20
-/// bytes, often a few of a pool. Of the pool it may be one or two where houses are many, or never enough of them
-/// would vouch for the same.
+/// One of so many houses, and of any S.
 pub fn random_book_of(random: &mut Random, n: u8, pool: &[Declaration]) -> Vec<u8> {
     let s = 1 + random.below(usize::from(MOST_NUMBERS)) as u8;
+    random_book_sized(random, [n, s], pool)
+}
+
+/// One of this n and S: f is any that fits, d and the help counts are any, and any slot is full with any 20
+/// bytes, often a few of a pool. Of the pool it may be one or two where houses are many, or never enough of them
+/// would vouch for the same.
+pub fn random_book_sized(random: &mut Random, [n, s]: [u8; 2], pool: &[Declaration]) -> Vec<u8> {
     let own = random.below(usize::from(n)) as u8;
     let season = random.pick(&[SEASON, 0, u32::MAX]);
     let f = random_down(random, n);

@@ -1,7 +1,7 @@
 //! "Three valleys join. Raise n to 31": single calls on books of many houses, and on both sides of what n, a house
 //! number and a sender may be.
 
-use super::books::{illegal, legal, waits};
+use super::books::{bad_head, illegal, legal, waits};
 use super::forms::{
     book_bytes, fresh, held, honey, message, open_sheet, place_of, published_at, put, request_of,
     slot_at, slots_from, FEW_HOUSES, MANY_HOUSES, SEASON,
@@ -44,17 +44,17 @@ const EDGES: [u32; 25] = [
 
 /// How often what was tried was in the book or allowed, and how often it was not.
 #[derive(Debug, Default)]
-struct Sides([usize; 2]);
+pub(super) struct Sides([usize; 2]);
 
 impl Sides {
     /// It was tried; gives whether it is.
-    fn add(&mut self, is: bool) -> bool {
+    pub fn add(&mut self, is: bool) -> bool {
         self.0[usize::from(is)] += 1;
         is
     }
 
     /// Both came about so often at least.
-    fn are_enough(&self, least: usize, what: &str) {
+    pub fn are_enough(&self, least: usize, what: &str) {
         let enough = self.0.iter().all(|&count| count >= least);
         assert!(enough, "{what}, not and so: {:?}", self.0);
     }
@@ -117,7 +117,7 @@ pub fn of_another_n(library: &mut impl Library) {
         let is_legal = sides.add(n == of && n <= MOST_HOUSES);
         match n.abs_diff(of) {
             0 | 1 if is_legal => legal(library, &book, &why),
-            0 | 1 => illegal(library, &book, &why),
+            0 | 1 => bad_head(library, &book, &why),
             _ => assert_eq!(library.waiting(&book).answer, 1, "{why}"),
         }
     }
@@ -138,7 +138,7 @@ pub fn off_by_16_bits(library: &mut impl Library) {
         for length in lengths.into_iter().flatten() {
             let mut other = book.clone();
             other.resize(length, 0);
-            illegal(library, &other, &format!("{length} bytes, {n} and {s}"));
+            bad_head(library, &other, &format!("{length} bytes, {n} and {s}"));
             let numbers = [n, s, n - 1, 0, 3].map(u32::from);
             let mut buffer = vec![0xEE; length];
             assert_eq!(opens(library, &mut buffer, numbers), 11, "{length} bytes");

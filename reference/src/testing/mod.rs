@@ -1,9 +1,10 @@
-//! Checks of any library that has the ten calls: each takes the library, panics with a plain sentence
+//! Checks of any library that has the eleven calls: each takes the library, panics with a plain sentence
 //! where an answer is not document 01's, and prints its seed when it does.
 
 pub mod below;
 pub mod books;
 pub mod both;
+pub mod by_entry;
 pub mod claims;
 pub mod colonies;
 pub mod forms;

@@ -1,6 +1,6 @@
 //! Judging at the edges: kilograms as exact numbers, readings and limits as floats.
 
-use super::books::{illegal, legal};
+use super::books::{bad_head, legal};
 use super::forms::{
     declaration, fresh, fresh_book, honey, is_measurable, message, open_sheet, sheet,
     sheet_of_bits, twins, EDGE_READINGS, MINUS_ZERO, OPEN, SEASON,
@@ -255,7 +255,7 @@ pub(super) fn sheet_is(library: &mut impl Library, bytes: &[u8], is_legal: bool)
     );
     match is_legal {
         true => legal(library, &book, &why),
-        false => illegal(library, &book, &why),
+        false => bad_head(library, &book, &why),
     }
 }
 

@@ -74,16 +74,31 @@ impl Named {
     }
 }
 
-/// A publishing, or a receiving of a message or a request that is often right.
-fn random_call(random: &mut Random, book: &[u8], pool: &[Declaration]) -> Call {
-    let (n, s) = (book[0].max(1), book[1].max(1));
-    let declaration = match random.below(6) {
+/// A declaration of the pool, or at times any.
+pub(super) fn random_told(random: &mut Random, pool: &[Declaration]) -> Declaration {
+    match random.below(6) {
         0 => random_declaration(random),
         _ => random.pick(pool),
-    };
-    if random.chance(1, 5) {
-        return Call::Publish(random_number(random, s), declaration);
     }
+}
+
+/// A publishing, or a receiving.
+fn random_call(random: &mut Random, book: &[u8], pool: &[Declaration]) -> Call {
+    let declaration = random_told(random, pool);
+    if random.chance(1, 5) {
+        return Call::Publish(random_number(random, book[1].max(1)), declaration);
+    }
+    let (house, bytes) = random_receiving(random, book, &declaration);
+    Call::Receive(house, bytes)
+}
+
+/// A message with this declaration, or a request, that is often right, and the house that it comes from.
+pub(super) fn random_receiving(
+    random: &mut Random,
+    book: &[u8],
+    declaration: &Declaration,
+) -> (u32, Vec<u8>) {
+    let (n, s) = (book[0].max(1), book[1].max(1));
     let season = u32::from_be_bytes([book[3], book[4], book[5], book[6]]);
     let season = season ^ u32::from(random.chance(1, 16));
     let mut house = random_number(random, n);
@@ -96,7 +111,7 @@ fn random_call(random: &mut Random, book: &[u8], pool: &[Declaration]) -> Call {
         if kind == 1 && random.chance(3, 4) {
             house = u32::from(sender);
         }
-        message(kind, season, sender, number, &declaration).to_vec()
+        message(kind, season, sender, number, declaration).to_vec()
     };
     let length = bytes.len();
     match random.below(24) {
@@ -107,7 +122,7 @@ fn random_call(random: &mut Random, book: &[u8], pool: &[Declaration]) -> Call {
         4 => bytes.truncate(11),
         _ => (),
     }
-    Call::Receive(house, bytes)
+    (house, bytes)
 }
 
 /// A byte changed, a cut, or bytes too many: mostly no legal book any more.

@@ -39,6 +39,10 @@ pub trait Slips {
         reference::receive(book, house, message)
     }
 
+    fn receive_entry(&mut self, book: &mut [u8], house: u32, message: &[u8]) -> Outcome {
+        reference::receive_entry(book, house, message)
+    }
+
     fn come_back(&mut self, book: &[u8]) -> Returned {
         reference::come_back(book)
     }
@@ -84,6 +88,10 @@ impl<S: Slips> Library for Slipped<S> {
 
     fn receive(&mut self, book: &mut [u8], house: u32, message: &[u8]) -> Outcome {
         self.0.receive(book, house, message)
+    }
+
+    fn receive_entry(&mut self, book: &mut [u8], house: u32, message: &[u8]) -> Outcome {
+        self.0.receive_entry(book, house, message)
     }
 
     fn come_back(&mut self, book: &[u8]) -> Returned {

@@ -1,5 +1,5 @@
 //! What libraries have in common that judge some declarations otherwise than the reference, or see some of what
-//! stands otherwise.
+//! stands otherwise, or other bytes of a book.
 
 use reference::testing::forms::{held, put, slots_from};
 use reference::{Declaration, Kind, Outcome};
@@ -106,4 +106,16 @@ pub fn receive_as(
         ..*message
     };
     reference::receive(book, house, &message.to_bytes())
+}
+
+/// Makes a call on the book with other bytes at this place for as long.
+pub fn with<T>(book: &mut [u8], at: usize, bytes: &[u8], call: impl FnOnce(&mut [u8]) -> T) -> T {
+    let Some(place) = book.get_mut(at..at + bytes.len()) else {
+        return call(book);
+    };
+    let old = place.to_vec();
+    place.copy_from_slice(bytes);
+    let outcome = call(book);
+    book[at..at + old.len()].copy_from_slice(&old);
+    outcome
 }

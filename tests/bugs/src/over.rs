@@ -1,4 +1,4 @@
-//! Makes the ten calls on the reference with a bug planted in it, in the words of tests/driver/driver.c:
+//! Makes the eleven calls on the reference with a bug planted in it, in the words of tests/driver/driver.c:
 //! `over NUMBER`, where 0 plants none.
 #![forbid(unsafe_code)]
 
@@ -74,27 +74,28 @@ fn make(call: u8, x: [u32; 6], v: &Declaration, book: &mut [u8], bytes: &[u8]) -
         1 => vec![book::open(book, x[0], x[1], x[2], x[3], x[4], x[5], bytes)],
         2 => outcome(steps::publish(book, x[0], v)),
         3 => outcome(steps::receive(book, x[0], bytes)),
-        4 => {
+        4 => outcome(steps::receive_entry(book, x[0], bytes)),
+        5 => {
             let returned = steps::come_back(book);
             let request = returned.request.unwrap_or_default();
             [&[returned.answer][..], &request].concat()
         }
-        5 => {
+        6 => {
             let sent = steps::sent(book, x[0] as u8, x[1], x[2]);
             [&[sent.answer][..], &held(sent.message)].concat()
         }
-        6 => {
+        7 => {
             let waiting = steps::waiting(book);
             let entry = waiting.entry.map(|entry| [entry.number, entry.sender]);
             [&[waiting.answer][..], &held(entry)].concat()
         }
-        7 => vec![sheet::judge(bytes, v)],
-        8 => {
+        8 => vec![sheet::judge(bytes, v)],
+        9 => {
             let written = message::write(x[0] as u8, x[1], x[2] as u8, x[3] as u8, v);
             let message = written.message.unwrap_or([0; 36]);
             [&[written.answer][..], &message].concat()
         }
-        9 => read(message::read(bytes)),
+        10 => read(message::read(bytes)),
         _ => panic!("no call {call}"),
     }
 }

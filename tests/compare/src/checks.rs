@@ -3,6 +3,8 @@
 use crate::linked::Linked;
 use crate::{drawn, edges, entries};
 use reference::testing::both::Both;
+use reference::testing::by_entry::instead::instead;
+use reference::testing::by_entry::{self, order};
 use reference::testing::forms::{FEW_HOUSES, MANY_HOUSES};
 use reference::testing::scheduler::twins::{self, Count};
 use reference::testing::scheduler::{attacks, carrier, directed, implausible};
@@ -21,7 +23,7 @@ pub type Pair = Both<Linked, Reference>;
 pub type Check = (&'static str, fn(&mut Pair, u64, usize));
 
 /// Checks that are the same at any size, the quickest first; the seed is for noise.
-pub const COUNTED: [Check; 41] = [
+pub const COUNTED: [Check; 47] = [
     ("the rows and run cases of document 01", |pair, _, _| {
         rows::card(pair, 1..=FEW_HOUSES);
         rows::judged(pair);
@@ -39,6 +41,10 @@ pub const COUNTED: [Check; 41] = [
         pairs::publishing(pair);
         pairs::opening(pair);
         pairs::judging(pair);
+    }),
+    ("each pair of errors, by entry", |pair, seed, _| {
+        order::receiving(pair, seed);
+        order::asking(pair);
     }),
     ("two wrong houses of four, step by step", |pair, _, _| {
         directed::one_wrong_too_many(pair);
@@ -66,11 +72,25 @@ pub const COUNTED: [Check; 41] = [
     ("what reading refuses", |pair, seed, _| {
         trips::malformed(pair, seed);
     }),
+    ("rows, edges and requests, by entry", |pair, seed, _| {
+        instead(pair, |pair| {
+            rows::card(pair, 1..=FEW_HOUSES);
+            edges::unlike_bytes(pair);
+            edges::strangers(pair);
+            edges::messages(pair, seed);
+            requests::every_count(pair, seed);
+            requests::heard_all_the_same(pair);
+            many::at_the_edge(pair);
+        });
+    }),
     ("books that are not legal", |pair, _, _| {
         books::illegal_books(pair);
     }),
     ("every f, d and help count of a book", |pair, seed, _| {
         books::helped_and_down(pair, seed);
+    }),
+    ("each field of the head, by entry", |pair, _, _| {
+        by_entry::heads(pair);
     }),
     ("every bit of a book", |pair, seed, _| {
         edges::damaged_books(pair, seed);
@@ -117,6 +137,13 @@ pub const COUNTED: [Check; 41] = [
         rows::card(pair, FEW_HOUSES + 1..=MOST_HOUSES);
     }),
     ("all sizes", |pair, _, _| edges::sizes(pair)),
+    ("all sizes, by entry", |pair, _, _| {
+        instead(pair, |pair| {
+            many::empty_to_full(pair);
+            rows::card(pair, FEW_HOUSES + 1..=MOST_HOUSES);
+            edges::sizes(pair);
+        });
+    }),
     ("edge readings and limits", |pair, _, _| {
         readings::at_open_gates(pair);
         readings::at_limits(pair);
@@ -151,6 +178,9 @@ pub const COUNTED: [Check; 41] = [
         repeats::every_byte(pair);
         repeats::every_pair(pair);
     }),
+    ("each slot of an entry, by entry", |pair, _, _| {
+        by_entry::each_slot(pair);
+    }),
     ("the counts for every n and f", |pair, seed, _| {
         rows::another_f(pair);
         vouchers::every_count(pair, seed);
@@ -160,6 +190,9 @@ pub const COUNTED: [Check; 41] = [
     }),
     ("every state of one entry", |pair, seed, _| {
         entries::states(pair, seed, 5);
+    }),
+    ("every state of one entry, by entry", |pair, seed, _| {
+        instead(pair, |pair| entries::states(pair, seed, 5));
     }),
     (
         "the attacks of t wrong houses and one more",
@@ -172,7 +205,7 @@ pub const COUNTED: [Check; 41] = [
 ];
 
 /// Checks that draw their cases: more with a larger size.
-pub const DRAWN: [Check; 24] = [
+pub const DRAWN: [Check; 29] = [
     ("calls on any legal book", |pair, seed, scale| {
         refusals::calls(pair, seed, 225 * scale);
     }),
@@ -182,6 +215,16 @@ pub const DRAWN: [Check; 24] = [
             repeats::any_book(pair, seed, 113 * scale);
         },
     ),
+    (
+        "by entry as received, on any legal book",
+        |pair, seed, scale| {
+            by_entry::as_receiving(pair, seed, 8 * scale);
+        },
+    ),
+    ("bad slots, by entry", |pair, seed, scale| {
+        by_entry::bad_slots(pair, seed, 8 * scale);
+        by_entry::requests(pair, seed, scale);
+    }),
     ("no colonies on any legal book", |pair, seed, scale| {
         colonies::any_book(pair, seed, 8 * scale);
     }),
@@ -212,6 +255,9 @@ pub const DRAWN: [Check; 24] = [
     ("noise", |pair, seed, scale| {
         books::noise(pair, seed, 500 * scale);
     }),
+    ("noise, by entry", |pair, seed, scale| {
+        by_entry::noise(pair, seed, 12_500 * scale);
+    }),
     ("openings", |pair, seed, scale| {
         openings::openings(pair, seed, 338 * scale);
     }),
@@ -235,6 +281,18 @@ pub const DRAWN: [Check; 24] = [
             enough,
             "it never came about: {missing:?}, or seldom: {rare:?}"
         );
+    }),
+    ("seasons by entry", |pair, seed, scale| {
+        instead(pair, |pair| {
+            for n in 1..=7 {
+                scheduler::seasons(pair, seed, n, 1 + n % 4, scale.div_ceil(2) as u64);
+            }
+        });
+    }),
+    ("a season of many houses, by entry", |pair, seed, _| {
+        instead(pair, |pair| {
+            scheduler::seasons(pair, seed, MOST_HOUSES, 1, 1);
+        });
     }),
     (
         "seasons with a nervous carrier and with none",

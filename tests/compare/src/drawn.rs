@@ -206,7 +206,9 @@ pub fn damaged_books(library: &mut impl Library, seed: u64, books: usize) {
             library.sent(&book, 1 + kind, u32::from(sender), u32::from(number));
             library.receive(&mut book, u32::from(sender), &request);
             library.publish(&mut book, u32::from(number), &v);
+            library.receive_entry(&mut book.clone(), u32::from(sender), &bytes);
             library.receive(&mut book, u32::from(sender), &bytes);
+            library.receive_entry(&mut book, u32::from(sender), &request);
         }
     }
 }

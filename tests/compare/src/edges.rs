@@ -239,8 +239,11 @@ fn on_book(library: &mut impl Library, random: &mut Random, book: &[u8]) {
         u32::from_be_bytes(season.try_into().expect("four bytes"))
     });
     library.publish(&mut book.to_vec(), 0, &v);
-    library.receive(&mut book.to_vec(), 0, &message(kind, season, 0, 0, &v));
-    library.receive(&mut book.to_vec(), 0, &request_of(season));
+    let bytes = message(kind, season, 0, 0, &v);
+    for bytes in [&bytes[..], &request_of(season)] {
+        library.receive(&mut book.to_vec(), 0, bytes);
+        library.receive_entry(&mut book.to_vec(), 0, bytes);
+    }
     library.come_back(book);
     library.sent(book, kind, 0, 0);
     library.waiting(book);

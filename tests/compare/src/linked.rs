@@ -1,4 +1,4 @@
-//! The library that a house links, as the ten calls over the driver. Whatever the structs may not hold
+//! The library that a house links, as the eleven calls over the driver. Whatever the structs may not hold
 //! makes a panic here, before anything is compared.
 
 use crate::pipe::{Call, Pipe, Question, NUMBERS};
@@ -8,11 +8,12 @@ use reference::{
 };
 
 /// Every call with the answers that it can give.
-pub const ANSWERS: [(Call, &[u8]); 10] = [
+pub const ANSWERS: [(Call, &[u8]); 11] = [
     (Call::Length, &[0, 9]),
     (Call::Open, &[0, 9, 10, 11]),
     (Call::Publish, &[0, 1, 4, 5, 8]),
     (Call::Receive, &[0, 1, 2, 3, 4, 5, 6, 7, 13, 14]),
+    (Call::ReceiveEntry, &[0, 1, 2, 3, 4, 5, 6, 7, 13, 14]),
     (Call::ComeBack, &[0, 1]),
     (Call::Sent, &[0, 1, 2, 4]),
     (Call::Waiting, &[0, 1]),
@@ -146,6 +147,19 @@ impl Linked {
         }
         (outcome, after)
     }
+
+    /// Makes a receiving, by entry or not.
+    fn received(&mut self, call: Call, book: &mut [u8], house: u32, message: &[u8]) -> Outcome {
+        let (outcome, after) = self.step(Question {
+            call,
+            numbers: [house, 0, 0, 0, 0, 0],
+            declaration: NO_DECLARATION,
+            book,
+            bytes: message,
+        });
+        book.copy_from_slice(&after);
+        outcome
+    }
 }
 
 /// A bool is 0 or 1, and nothing else.
@@ -224,15 +238,11 @@ impl Library for Linked {
     }
 
     fn receive(&mut self, book: &mut [u8], house: u32, message: &[u8]) -> Outcome {
-        let (outcome, after) = self.step(Question {
-            call: Call::Receive,
-            numbers: [house, 0, 0, 0, 0, 0],
-            declaration: NO_DECLARATION,
-            book,
-            bytes: message,
-        });
-        book.copy_from_slice(&after);
-        outcome
+        self.received(Call::Receive, book, house, message)
+    }
+
+    fn receive_entry(&mut self, book: &mut [u8], house: u32, message: &[u8]) -> Outcome {
+        self.received(Call::ReceiveEntry, book, house, message)
     }
 
     fn come_back(&mut self, book: &[u8]) -> Returned {

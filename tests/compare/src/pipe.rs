@@ -8,13 +8,14 @@ use std::sync::atomic::{AtomicU64, Ordering};
 use std::sync::{Arc, Mutex};
 use std::time::Duration;
 
-/// The ten calls, under the driver's numbers.
+/// The eleven calls, under the driver's numbers.
 #[derive(Clone, Copy, Debug, PartialEq, Eq)]
 pub enum Call {
     Length,
     Open,
     Publish,
     Receive,
+    ReceiveEntry,
     ComeBack,
     Sent,
     Waiting,
