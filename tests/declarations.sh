@@ -1,6 +1,6 @@
 #!/usr/bin/env bash
-# The header is the one source of the ten calls: the Rust crate's ffi.rs has the same calls with the same parameters, the same structs with
-# the same fields in the same places, the same sizes, and no more; docs/HOUSE.md has those places; and no other file declares a call.
+# The header is the one source of the eleven calls: the Rust crate's ffi.rs has the same calls with the same parameters, the same structs
+# with the same fields in the same places, the same sizes, and no more; docs/HOUSE.md has those places; and no other file declares a call.
 #
 # The kit's clang reads the header. Of what it read two programs are made, one in C and one in Rust over ffi.rs: the compilers check the
 # types, and both print sizes and places. Last, edits of one side are tried: each has to be refused. Says nothing where all passes.
@@ -22,7 +22,7 @@ differs() { # HEADER FFI
     cp "$2" "$room/ffi.rs"
     "$clang" $bare -std=c11 -fsyntax-only -Xclang -ast-print "$room/grassmunch.h" |
         awk -v c="$room/rows.h" -v rust="$room/rows.rs" -f tests/declarations/rows.awk || return
-    diff <(grep -oE '^fn gm_[a-z]+' "$room/rows.rs" | sort) <(grep -oE 'fn gm_[a-z]+' "$room/ffi.rs" | sort) || return
+    diff <(grep -oE '^fn gm_[a-z_]+' "$room/rows.rs" | sort) <(grep -oE 'fn gm_[a-z_]+' "$room/ffi.rs" | sort) || return
     diff <(sed -n 's/^size .* = \(.*\);$/\1/p' "$room/rows.rs" | sort) \
         <(sed -n 's/^pub const \([A-Z_]*\):.*/\1/p' "$room/ffi.rs" | sort) || return
     cp tests/declarations/places.rs "$room/"
@@ -32,12 +32,12 @@ differs() { # HEADER FFI
 }
 quiet 'the header and ffi.rs differ' differs "$header" "$ffi"
 rows=$("$room/places-rust" | sort)
-[ "$(grep -c '^fn gm_' "$room/rows.rs") $(grep -c '^|' <<<"$rows") $(grep -c '^GM_' <<<"$rows")" = '10 7 7' ] ||
-    fail 'ten calls, seven structs and seven sizes were to be compared'
+[ "$(grep -c '^fn gm_' "$room/rows.rs") $(grep -c '^|' <<<"$rows") $(grep -c '^GM_' <<<"$rows")" = '11 7 7' ] ||
+    fail 'eleven calls, seven structs and seven sizes were to be compared'
 quiet 'the places in docs/HOUSE.md' diff <(grep '^|' <<<"$rows") <(grep -E '^\| .gm_[a-z_]+. \| [0-9]+ \| answer 0' docs/HOUSE.md | sort)
 
 # ---- no other file declares a call; the stand-in, which answers them, is checked against ffi.rs as it is built
-others=$(grep -rlE --include='*.[chr]*' '^[a-z0-9_]+ \*?gm_[a-z]+\(|fn gm_[a-z]+\(' bench bindings reference tests |
+others=$(grep -rlE --include='*.[chr]*' '^[a-z0-9_]+ \*?gm_[a-z_]+\(|fn gm_[a-z_]+\(' bench bindings reference tests |
     grep -vxE "$header|$ffi|bindings/rust/stand-in/src/lib.rs")
 [ -z "$others" ] || fail "a call is declared again in: $others"
 
@@ -62,6 +62,8 @@ refuses 'a parameter more' "$header" 's/gm_length\(uint32_t n, /&uint32_t f, /'
 refuses 'a wider parameter' "$header" 's/(gm_receive\(.*)uint32_t house/\1uint64_t house/'
 refuses 'a book that is not const' "$header" 's/gm_waiting\(const uint8_t/gm_waiting(uint8_t/'
 refuses 'a call more' "$header" 's/^gm_read_answer gm_read\(/uint8_t gm_more(uint32_t n);\n&/'
+refuses 'a call more, whose name begins as another' "$header" 's/^gm_read_answer gm_read\(/gm_written gm_read_more(uint8_t n);\n&/'
+refuses 'a call less' "$header" '/^gm_outcome gm_receive_entry\(/d'
 refuses 'one house more' "$header" 's/GM_MOST_HOUSES = /&1 + /'
 refuses 'a longer book' "$header" 's/GM_LONGEST_BOOK = /&1 + /'
 refuses 'a size more' "$header" 's/^    GM_MESSAGE_BYTES = /    GM_MORE = 1,\n&/'

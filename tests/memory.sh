@@ -51,10 +51,11 @@ for source in bindings/c/*.c tests/driver/*.c tests/memory/memory.c; do
     quiet "a large frame in $source" small_frames "$source"
 done
 
-# ---- planted wrongs
-plant() { # STATEMENTS
+# ---- planted wrongs, in receiving and in receiving by entry
+plant() { # CALL STATEMENTS
     # shellcheck disable=SC2086
-    quiet "planting $1" "$clang" $bare -std=c11 $strict -O2 -fPIC -Ibindings/c -DPLANTED="$1" -c tests/memory/planted.c -o "$room/planted.o"
+    quiet "planting $2" "$clang" $bare -std=c11 $strict -O2 -fPIC -Ibindings/c -DCALL="$1" -DPLANTED="$2" -c tests/memory/planted.c \
+        -o "$room/planted.o"
 }
 refuses() { # WHAT SAID COMMAND...
     local what=$1 wanted=$2 said
@@ -62,23 +63,29 @@ refuses() { # WHAT SAID COMMAND...
     ! said=$("$@" 2>&1) || fail "not refused: $what"
     grep -qE -- "$wanted" <<<"$said" || fail "$what: refused, and not for '$wanted': $said"
 }
-refuses_call() { # WHAT SAID STATEMENTS
-    plant "$3"
-    refuses "$1" "$2" measured "$room/depths-planted" --wrap=gm_receive "$room/planted.o" "$archive"
+refuses_in() { # CALL WHAT SAID STATEMENTS
+    plant "$1" "$4"
+    refuses "$2, in $1" "$3" measured "$room/depths-planted" --wrap="$1" "$room/planted.o" "$archive"
+}
+refuses_call() { # WHAT SAID STATEMENTS; what is said begins with the line's name for the call
+    refuses_in gm_receive "$1" "^receiving $2" "$3"
+    refuses_in gm_receive_entry "$1" "^by entry $2" "$3"
 }
 refuses_alone() { # WHAT SAID STATEMENTS
-    plant "$3"
-    refuses "$1" "$2" alone --defsym=__real_gm_receive=0 "$room/planted.o"
+    plant gm_receive_entry "$3"
+    refuses "$1" "$2" alone --defsym=__real_gm_receive_entry=0 "$room/planted.o"
 }
 copied='memcpy(copy, book, sizeof copy); use(copy)'
-refuses_call 'a copy of the book on the stack' '^receiving 0, SEND: [0-9]{5,} not the same' "uint8_t copy[len]; $copied"
-refuses_call 'a copy of a part that grows' '^receiving 0, SEND: .* not the same' "uint8_t copy[len / 1000]; $copied"
-refuses_call 'a copy that is not in bounds' '^receiving 0, SEND: .* not in bounds' "uint8_t copy[2000]; $copied"
-refuses_call 'a store on a refusal' '^receiving 1, the last slot: touches' 'lent[0] = lent[0]'
-refuses_call 'a byte before the book' '^receiving 0, SEND: touches' 'lent[-1]'
-refuses_call 'a byte behind the book' '^receiving 0, SEND: .*touches' 'lent[len]'
-refuses_call 'another answer' '^receiving 0, SEND: another answer' 'house++'
+refuses_call 'a copy of the book on the stack' '0, SEND: [0-9]{5,} not the same' "uint8_t copy[len]; $copied"
+refuses_call 'a copy of a part that grows' '0, SEND: .* not the same' "uint8_t copy[len / 1000]; $copied"
+refuses_call "a copy of an entry's slots" '0, SEND: .* not the same' "uint8_t copy[21 * (2 * (book == NULL ? 0 : book[0]) + 3)]; $copied"
+refuses_call 'a copy that is not in bounds' '0, SEND: .* not in bounds' "uint8_t copy[2000]; $copied"
+refuses_call 'a store on a refusal' '1, [^:]*: touches' 'lent[0] = lent[0]'
+refuses_call 'a byte before the book' '0, SEND: touches' 'lent[-1]'
+refuses_call 'a byte behind the book' '0, SEND: .*touches' 'lent[len]'
+refuses_call 'another answer' '0, SEND: another answer' 'house++'
 refuses_alone 'a variable' 'planted.o:\(\.bss' 'static size_t kept; kept = len; use(&kept)'
 refuses_alone 'a variable that is set' 'planted.o:\(\.data' 'static size_t kept = 1; kept += len; use(&kept)'
 refuses_alone 'an allocation' 'undefined symbol: malloc' 'use(malloc(len))'
-refuses 'a large frame' 'stack frame size' small_frames tests/memory/planted.c -DPLANTED="uint8_t copy[GM_LONGEST_BOOK]; $copied"
+refuses 'a large frame' 'stack frame size' small_frames tests/memory/planted.c -DCALL=gm_receive_entry \
+    -DPLANTED="uint8_t copy[GM_LONGEST_BOOK]; $copied"

@@ -1,7 +1,8 @@
 /* Each call with each of its answers, two answers at once where the order decides, the walk over what was sent, the most houses and one
  * more, no colonies and readings below zero in each call and in a book of an earlier version, limits below zero in a sheet and in a book,
- * null pointers with length 0, the message of document 01, and the header's helpers, in two float modes: says what is not so, and ends with
- * status 1 then. It tries that header and archive agree; tests over all inputs stand elsewhere. */
+ * null pointers with length 0, receiving by entry on a book that is not legal, the message of document 01, and the header's helpers, in two
+ * float modes: says what is not so, and ends with status 1 then. It tries that header and archive agree; tests over all inputs stand
+ * elsewhere. */
 #include "grassmunch.h"
 
 #include <stdio.h>
@@ -26,6 +27,9 @@ static const uint8_t whole[GM_MESSAGE_BYTES] = {1, 0, 1, GM_SEND, 2, 0, 6, 0, 0,
 static const uint8_t request[GM_REQUEST_BYTES + 1] = {1, 0, 1, GM_REQUEST, 2, 0, 4, 0, 0, 0x07, 0xEA};
 static const uint8_t request_2027[GM_REQUEST_BYTES] = {1, 0, 1, GM_REQUEST, 2, 0, 4, 0, 0, 0x07, 0xEB};
 
+/* Receiving, or receiving by entry: all is tried by either, since on a legal book the two are the same. */
+static gm_outcome (*receives)(uint8_t *, size_t, uint32_t, const uint8_t *, size_t) = gm_receive;
+
 static uint8_t book[BOOK], before[BOOK];
 static int wrong;
 /* What is tried just now, where several things are tried alike. */
@@ -33,7 +37,7 @@ static const char *of = "";
 
 static void so(bool truth, const char *what) {
     if (!truth) {
-        printf("not so: %s%s%s\n", what, *of ? ": " : "", of);
+        printf("not so%s: %s%s%s\n", receives == gm_receive_entry ? ", by entry" : "", what, *of ? ": " : "", of);
         wrong = 1;
     }
 }
@@ -71,10 +75,10 @@ static uint8_t open_with(const uint8_t *by) { return gm_open(book, BOOK, HOUSES,
 
 static gm_outcome receive(uint32_t house, uint8_t kind, uint32_t season, uint8_t sender, const uint8_t *declaration) {
     gm_written message = gm_write(kind, season, sender, 0, declaration);
-    return gm_receive(book, BOOK, house, message.message, sizeof message.message);
+    return receives(book, BOOK, house, message.message, sizeof message.message);
 }
 
-static gm_outcome hear_request(uint32_t asker) { return gm_receive(book, BOOK, asker, request, GM_REQUEST_BYTES); }
+static gm_outcome hear_request(uint32_t asker) { return receives(book, BOOK, asker, request, GM_REQUEST_BYTES); }
 
 static void opening(void) {
     so(gm_length(4, 1).answer == GM_ACCEPTED && gm_length(4, 1).length == BOOK, "length 0");
@@ -107,7 +111,7 @@ static void every_call_1(void) {
     so(refused(gm_publish(book, BOOK, 1, heavy), GM_NO_LEGAL_BOOK), "publishing 1 before 4");
     so(refused(receive(0, GM_SEND, 2026, 0, lot77), GM_NO_LEGAL_BOOK), "receiving 1");
     so(refused(hear_request(0), GM_NO_LEGAL_BOOK), "a request 1");
-    so(refused(gm_receive(book, BOOK, 4, request, 10), GM_NO_LEGAL_BOOK), "a request 1 before 2");
+    so(refused(receives(book, BOOK, 4, request, 10), GM_NO_LEGAL_BOOK), "a request 1 before 2");
     gm_return_answer back = gm_return(book, BOOK);
     so(back.answer == GM_NO_LEGAL_BOOK && is_zero(back.request, GM_REQUEST_BYTES), "a return 1");
     so(not_sent(gm_sent(book, BOOK, GM_SEND, 0, 0), GM_NO_LEGAL_BOOK), "sent 1");
@@ -139,7 +143,7 @@ static void publishing(void) {
 
 static void receiving(void) {
     memcpy(before, book, BOOK);
-    so(refused(gm_receive(book, BOOK, 0, whole, 35), GM_MALFORMED), "receiving 2");
+    so(refused(receives(book, BOOK, 0, whole, 35), GM_MALFORMED), "receiving 2");
     so(refused(receive(0, GM_SEND, 2027, 0, lot77), GM_OTHER_SEASON), "receiving 3");
     so(refused(receive(gm_house((uint64_t)1 << 32), GM_SEND, 2026, 0, lot77), GM_NOT_IN_BOOK), "receiving 4");
     so(refused(receive(0, GM_SEND, 2026, 0, heavy), GM_NOT_PLAUSIBLE), "receiving 5");
@@ -179,18 +183,18 @@ static void repeating(void) {
 
 static void asking(void) {
     memcpy(before, book, BOOK);
-    so(refused(gm_receive(book, BOOK, 3, request, 10), GM_MALFORMED), "a request 2: 10 bytes");
-    so(refused(gm_receive(book, BOOK, 3, request, 12), GM_MALFORMED), "a request 2: 12 bytes");
+    so(refused(receives(book, BOOK, 3, request, 10), GM_MALFORMED), "a request 2: 10 bytes");
+    so(refused(receives(book, BOOK, 3, request, 12), GM_MALFORMED), "a request 2: 12 bytes");
     uint8_t other[GM_MESSAGE_BYTES];
     memcpy(other, request, GM_REQUEST_BYTES);
     other[3] = GM_READY;
-    so(refused(gm_receive(book, BOOK, 3, other, GM_REQUEST_BYTES), GM_MALFORMED), "a request 2: kind 3 in 11 bytes");
+    so(refused(receives(book, BOOK, 3, other, GM_REQUEST_BYTES), GM_MALFORMED), "a request 2: kind 3 in 11 bytes");
     memcpy(other, whole, GM_MESSAGE_BYTES);
     other[3] = GM_REQUEST;
-    so(refused(gm_receive(book, BOOK, 3, other, GM_MESSAGE_BYTES), GM_MALFORMED), "a request 2: kind 9 in 36 bytes");
-    so(refused(gm_receive(book, BOOK, 4, request, 10), GM_MALFORMED), "a request 2 before 4");
-    so(refused(gm_receive(book, BOOK, 3, request_2027, sizeof request_2027), GM_OTHER_SEASON), "a request 3");
-    so(refused(gm_receive(book, BOOK, 4, request_2027, sizeof request_2027), GM_OTHER_SEASON), "a request 3 before 4");
+    so(refused(receives(book, BOOK, 3, other, GM_MESSAGE_BYTES), GM_MALFORMED), "a request 2: kind 9 in 36 bytes");
+    so(refused(receives(book, BOOK, 4, request, 10), GM_MALFORMED), "a request 2 before 4");
+    so(refused(receives(book, BOOK, 3, request_2027, sizeof request_2027), GM_OTHER_SEASON), "a request 3");
+    so(refused(receives(book, BOOK, 4, request_2027, sizeof request_2027), GM_OTHER_SEASON), "a request 3 before 4");
     so(refused(hear_request(4), GM_NOT_IN_BOOK), "a request 4");
     so(refused(hear_request(gm_house(((uint64_t)1 << 32) + 3)), GM_NOT_IN_BOOK), "a request 4, not cut");
     for (uint8_t times = 1; times <= LIMIT; times++) {
@@ -199,8 +203,8 @@ static void asking(void) {
         so(untouched(), "a request is counted, and no other byte changes");
     }
     so(refused(hear_request(3), GM_HELPED_ENOUGH), "a request 14");
-    so(refused(gm_receive(book, BOOK, 3, request_2027, sizeof request_2027), GM_OTHER_SEASON), "a request 3 before 14");
-    so(refused(gm_receive(book, BOOK, 3, request, 10), GM_MALFORMED), "a request 2 before 14");
+    so(refused(receives(book, BOOK, 3, request_2027, sizeof request_2027), GM_OTHER_SEASON), "a request 3 before 14");
+    so(refused(receives(book, BOOK, 3, request, 10), GM_MALFORMED), "a request 2 before 14");
     so(helped(hear_request(0)) && book[31] == 1, "another asker, and itself, is helped");
 }
 
@@ -249,8 +253,8 @@ static void walking(void) {
         for (uint8_t sender = 2; sender-- > 0;) {
             gm_written send = gm_write(GM_SEND, 2026, sender, number, lot77);
             gm_written ready = gm_write(GM_READY, 2026, sender, number, lot77);
-            so(gm_receive(small, sizeof small, sender, send.message, 36).gives, "each SEND gives an ECHO");
-            so(gm_receive(small, sizeof small, 0, ready.message, 36).gives, "each READY gives a READY");
+            so(receives(small, sizeof small, sender, send.message, 36).gives, "each SEND gives an ECHO");
+            so(receives(small, sizeof small, 0, ready.message, 36).gives, "each READY gives a READY");
         }
     }
     /* of each number: sender 0 ECHO, READY; sender 1, which is the house itself, SEND, ECHO, READY */
@@ -289,7 +293,7 @@ static uint8_t open_longest(uint32_t f) {
 /* The longest book hears of lot 77. */
 static gm_outcome hear(uint32_t house, uint8_t kind, uint8_t sender, uint8_t number) {
     gm_written message = gm_write(kind, 2026, sender, number, lot77);
-    return gm_receive(longest, sizeof longest, house, message.message, sizeof message.message);
+    return receives(longest, sizeof longest, house, message.message, sizeof message.message);
 }
 
 /* On the last house's own last entry: what it published, its SEND heard, which waits, and both sent again. There is no house 31. */
@@ -297,7 +301,7 @@ static void last_house(void) {
     so(open_longest(DOWN) == GM_ACCEPTED && longest[0] == 31 && longest[2] == LAST_HOUSE, "31 houses open");
     gm_outcome got = gm_publish(longest, sizeof longest, LAST_NUMBER, lot77);
     so(got.gives && got.message[11] == LAST_HOUSE && got.message[12] == LAST_NUMBER, "publishing 0: the last house's last number");
-    got = gm_receive(longest, sizeof longest, LAST_HOUSE, got.message, sizeof got.message);
+    got = receives(longest, sizeof longest, LAST_HOUSE, got.message, sizeof got.message);
     so(got.gives && gm_read(got.message, 36).kind == GM_ECHO, "receiving 0: house 30 and sender 30");
     gm_waiting_answer next = gm_waiting(longest, sizeof longest);
     so(next.waits && next.number == LAST_NUMBER && next.sender == LAST_HOUSE, "sender 30 waits");
@@ -307,7 +311,7 @@ static void last_house(void) {
     so(walk.kind == GM_ECHO && memcmp(walk.sent.message, got.message, 36) == 0, "the walk: the last house's ECHO");
     gm_next_sent(longest, sizeof longest, &walk);
     so(not_sent(walk.sent, GM_NOT_IN_BOOK), "the walk ends past the last sender");
-    got = gm_receive(longest, sizeof longest, LAST_HOUSE, request, GM_REQUEST_BYTES);
+    got = receives(longest, sizeof longest, LAST_HOUSE, request, GM_REQUEST_BYTES);
     so(helped(got) && longest[31 + LAST_HOUSE] == 1, "a request 0: house 30");
     memcpy(longest_before, longest, sizeof longest);
     for (uint8_t kind = GM_SEND; kind <= GM_READY; kind++) {
@@ -317,7 +321,7 @@ static void last_house(void) {
         so(not_sent(gm_sent(longest, sizeof longest, kind, 31, 0), GM_NOT_IN_BOOK), "sent 4: sender 31");
     }
     so(is_refusal(hear(LAST_HOUSE, GM_SEND, LAST_HOUSE, LAST_NUMBER), GM_ALREADY_ACCEPTED), "receiving 7: sender 30");
-    got = gm_receive(longest, sizeof longest, 31, request, GM_REQUEST_BYTES);
+    got = receives(longest, sizeof longest, 31, request, GM_REQUEST_BYTES);
     so(is_refusal(got, GM_NOT_IN_BOOK), "a request 4: house 31");
     so(is_refusal(gm_publish(longest, sizeof longest, 4, lot77), GM_NOT_IN_BOOK), "publishing 4: number 4");
     so(memcmp(longest, longest_before, sizeof longest) == 0, "31 houses: a refusal leaves the bytes");
@@ -334,6 +338,19 @@ static void counts(uint32_t f, uint32_t quorum, uint32_t amplify, uint32_t deliv
     }
 }
 
+/* A book of 32 houses with one number, in all else as opening would write it: no legal book, by its head. */
+static void of_32_houses(void) {
+    enum { HEAD = 31 + 32, LENGTH = HEAD + 21 * (1 + 32 * (2 * 32 + 3)) };
+    memset(longest, 0, LENGTH);
+    longest[0] = 32;
+    longest[1] = 1;
+    gm_put_word(longest + 3, 2026);
+    memcpy(longest + 7, sheet, sizeof sheet);
+    so(gm_waiting(longest, LENGTH).answer == GM_NO_LEGAL_BOOK, "a book of 32 houses as long as it would be is no legal book");
+    so(is_refusal(receives(longest, LENGTH, 0, request, GM_REQUEST_BYTES), GM_NO_LEGAL_BOOK), "a request 1: 32 houses");
+    so(is_zero(longest + 7 + sizeof sheet, LENGTH - 7 - sizeof sheet), "32 houses: a refusal leaves the bytes");
+}
+
 /* 31 houses, the most, as it goes with fewer; and a book that says 32, or that its own number is 31, is none. */
 static void most_houses(void) {
     last_house();
@@ -342,6 +359,7 @@ static void most_houses(void) {
     longest[0] = 31;
     longest[2] = 31;
     so(gm_waiting(longest, sizeof longest).answer == GM_NO_LEGAL_BOOK, "a book of house 31 is no legal book");
+    of_32_houses();
     counts(0, 21, 11, 21);
     counts(1, 21, 10, 20);
     counts(2, 20, 9, 19);
@@ -578,6 +596,109 @@ static void books_of_before(void) {
     of = "";
 }
 
+/* ---- receiving by entry where it is not receiving: on a book that is not legal */
+
+/* The slots of an entry, and of the book: slot 0 has what house 0 published, and then come the entries, sender by sender. */
+enum { ENTRY_SLOTS = 2 * HOUSES + 3, SLOTS = 1 + HOUSES * ENTRY_SLOTS };
+
+static size_t entry_of(size_t sender) { return 1 + sender * ENTRY_SLOTS; }
+
+static gm_outcome by_entry(uint32_t house, uint8_t kind, uint32_t season, uint8_t sender, uint8_t number, const uint8_t *declaration) {
+    gm_written message = gm_write(kind, season, sender, number, declaration);
+    return gm_receive_entry(book, BOOK, house, message.message, sizeof message.message);
+}
+
+static gm_outcome ask_by_entry(uint32_t asker) { return gm_receive_entry(book, BOOK, asker, request, GM_REQUEST_BYTES); }
+
+/* A fresh book with one slot in no form: its first byte is 2, or one of its 20 is not zero though it is empty. */
+static void spoil(size_t slot, size_t byte) {
+    so(open_as(HOUSES, 0, DOWN, LIMIT) == GM_ACCEPTED, "a fresh book, to be spoilt");
+    book[31 + HOUSES + 21 * slot + byte] = byte == 0 ? 2 : 0x10;
+    memcpy(before, book, BOOK);
+    so(gm_waiting(book, BOOK).answer == GM_NO_LEGAL_BOOK, "waiting tests the whole book");
+    so(refused(gm_publish(book, BOOK, 0, lot77), GM_NO_LEGAL_BOOK), "publishing tests the whole book");
+    so(refused(gm_receive(book, BOOK, 0, request, GM_REQUEST_BYTES), GM_NO_LEGAL_BOOK), "receiving tests the whole book");
+}
+
+/* In the named entry: 1, after 2, 3 and 4 for the sender or the number, and before 4 for the house and all else. A request names no entry,
+ * and is accepted. */
+static void spoilt_here(size_t slot, size_t byte, uint8_t sender) {
+    uint32_t other = (sender + 1U) % HOUSES;
+    gm_written cut = gm_write(GM_ECHO, 2026, sender, 0, lot77);
+    spoil(slot, byte);
+    for (uint8_t kind = GM_SEND; kind <= GM_READY; kind++) {
+        so(refused(by_entry(sender, kind, 2026, sender, 0, lot77), GM_NO_LEGAL_BOOK), "by entry 1 for the entry");
+        so(refused(by_entry(HOUSES, kind, 2026, sender, 0, lot77), GM_NO_LEGAL_BOOK), "by entry 1 for the entry, before 4 for the house");
+        so(refused(by_entry(sender, kind, 2026, sender, 0, heavy), GM_NO_LEGAL_BOOK), "by entry 1 for the entry, before 5");
+        so(refused(by_entry(sender, kind, 2026, HOUSES, 0, lot77), GM_NOT_IN_BOOK), "by entry 4 for the sender");
+        so(refused(by_entry(sender, kind, 2026, sender, 1, lot77), GM_NOT_IN_BOOK), "by entry 4 for the number, before 1 for the entry");
+        so(refused(by_entry(sender, kind, 2027, sender, 0, lot77), GM_OTHER_SEASON), "by entry 3, before 1 for the entry");
+    }
+    so(refused(by_entry(other, GM_SEND, 2026, sender, 0, lot77), GM_NO_LEGAL_BOOK), "by entry 1 for the entry, before 6");
+    so(refused(gm_receive_entry(book, BOOK, sender, cut.message, 35), GM_MALFORMED), "by entry 2, before 1 for the entry");
+    so(refused(ask_by_entry(HOUSES), GM_NOT_IN_BOOK), "by entry 4, a request");
+    for (uint8_t times = 1; times <= LIMIT; times++) {
+        so(helped(ask_by_entry(sender)), "by entry 0, a request: no slot is tested");
+        before[31 + sender] = times;
+        so(untouched(), "by entry 0, a request: it is counted, and no other byte changes");
+    }
+    so(refused(ask_by_entry(sender), GM_HELPED_ENOUGH), "by entry 14");
+}
+
+/* Elsewhere: it is not seen, and stays as it is. The named entry goes as on a legal book. */
+static void spoilt_elsewhere(size_t slot, size_t byte, uint8_t sender) {
+    uint32_t other = (sender + 1U) % HOUSES;
+    uint8_t *entry = book + 31 + HOUSES + 21 * entry_of(sender);
+    spoil(slot, byte);
+    gm_outcome got = by_entry(sender, GM_SEND, 2026, sender, 0, lot77);
+    gm_written echo = gm_write(GM_ECHO, 2026, sender, 0, lot77);
+    so(got.answer == GM_ACCEPTED && got.gives && memcmp(got.message, echo.message, 36) == 0, "by entry 0: a SEND, spoilt elsewhere");
+    for (uint32_t house = 1; house < HOUSES; house++) {
+        got = by_entry(house, GM_READY, 2026, sender, 0, lot77);
+        so(got.answer == GM_ACCEPTED && got.gives == (house == 2) && got.delivers == (house == 3), "by entry 0: READYs, spoilt elsewhere");
+    }
+    so(entry[0] == 1 && memcmp(entry + 1, lot77, 20) == 0, "by entry: the SEND is recorded");
+    memcpy(before + (entry - book), entry, 21 * ENTRY_SLOTS);
+    so(untouched(), "by entry: no byte outside the named entry changes");
+    so(refused(by_entry(sender, GM_SEND, 2026, sender, 0, lot77), GM_ALREADY_ACCEPTED), "by entry 7, spoilt elsewhere");
+    so(refused(by_entry(sender, GM_SEND, 2026, sender, 0, light), GM_CONFLICT), "by entry 13, spoilt elsewhere");
+    so(refused(by_entry(other, GM_SEND, 2026, sender, 0, lot77), GM_NOT_FROM_SENDER), "by entry 6, spoilt elsewhere");
+    so(refused(by_entry(0, GM_ECHO, 2026, sender, 0, heavy), GM_NOT_PLAUSIBLE), "by entry 5, spoilt elsewhere");
+    so(refused(by_entry(HOUSES, GM_ECHO, 2026, sender, 0, lot77), GM_NOT_IN_BOOK), "by entry 4 for the house, spoilt elsewhere");
+}
+
+/* The head is no legal book's, or the length is another: 1 first of all, whatever comes. */
+static void spoilt_head(void) {
+    static const size_t at[] = {0, 1, 2, 11, 12, 20, 29, 30, 31, 30 + HOUSES};
+    gm_written message = gm_write(GM_ECHO, 2027, HOUSES, 1, heavy);
+    for (size_t i = 0; i <= sizeof at / sizeof *at; i++) {
+        size_t len = BOOK;
+        so(open_as(HOUSES, 0, DOWN, LIMIT) == GM_ACCEPTED, "a fresh book, its head to be spoilt");
+        if (i < sizeof at / sizeof *at) {
+            book[at[i]] = 0xFF;
+        } else {
+            len--;
+        }
+        memcpy(before, book, BOOK);
+        so(refused(gm_receive_entry(book, len, 0, message.message, 36), GM_NO_LEGAL_BOOK), "by entry 1 for the head, before 3, 4 and 5");
+        so(refused(gm_receive_entry(book, len, HOUSES, message.message, 35), GM_NO_LEGAL_BOOK), "by entry 1 for the head, before 2");
+        so(refused(gm_receive_entry(book, len, 0, request, GM_REQUEST_BYTES), GM_NO_LEGAL_BOOK), "by entry 1 for the head, a request");
+    }
+}
+
+static void receiving_by_entry(void) {
+    static const size_t bytes[] = {0, 1, 20};
+    spoilt_head();
+    for (size_t slot = 0; slot < SLOTS; slot++) {
+        for (size_t i = 0; i < sizeof bytes / sizeof *bytes; i++) {
+            for (uint8_t sender = 0; sender < HOUSES; sender++) {
+                bool here = slot >= entry_of(sender) && slot < entry_of(sender + 1U);
+                (here ? spoilt_here : spoilt_elsewhere)(slot, bytes[i], sender);
+            }
+        }
+    }
+}
+
 static void judging_writing_reading(void) {
     so(gm_judge(sheet, sizeof sheet, lot77) == GM_ACCEPTED, "judging 0");
     so(gm_judge(sheet, sizeof sheet, heavy) == GM_NOT_PLAUSIBLE, "judging 5");
@@ -603,10 +724,10 @@ static void judging_writing_reading(void) {
 static void null_with_length_0(void) {
     memcpy(before, book, BOOK);
     so(refused(gm_publish(NULL, 0, 0, lot77), GM_NO_LEGAL_BOOK), "publishing, null book");
-    so(refused(gm_receive(NULL, 0, 0, whole, sizeof whole), GM_NO_LEGAL_BOOK), "receiving, null book");
-    so(refused(gm_receive(NULL, 0, 0, request, GM_REQUEST_BYTES), GM_NO_LEGAL_BOOK), "a request, null book");
-    so(refused(gm_receive(NULL, 0, 0, NULL, 0), GM_NO_LEGAL_BOOK), "receiving, both null");
-    so(refused(gm_receive(book, BOOK, 0, NULL, 0), GM_MALFORMED), "receiving, null message");
+    so(refused(receives(NULL, 0, 0, whole, sizeof whole), GM_NO_LEGAL_BOOK), "receiving, null book");
+    so(refused(receives(NULL, 0, 0, request, GM_REQUEST_BYTES), GM_NO_LEGAL_BOOK), "a request, null book");
+    so(refused(receives(NULL, 0, 0, NULL, 0), GM_NO_LEGAL_BOOK), "receiving, both null");
+    so(refused(receives(book, BOOK, 0, NULL, 0), GM_MALFORMED), "receiving, null message");
     so(gm_open(NULL, 0, HOUSES, 1, 0, DOWN, LIMIT, 2026, sheet, sizeof sheet) == GM_WRONG_LENGTH, "opening, null book");
     so(gm_open(book, BOOK, HOUSES, 1, 0, DOWN, LIMIT, 2026, NULL, 0) == GM_SHEET_NOT_LEGAL && untouched(), "opening, null sheet");
     so(gm_return(NULL, 0).answer == GM_NO_LEGAL_BOOK, "a return, null book");
@@ -701,11 +822,15 @@ static void all(void) {
 }
 
 /* In the plain float mode; in one where subnormals are zeros, as a house that is linked with -ffast-math has it, and numbers are rounded
- * up; and back. */
+ * up; and back. In each all of it by receiving, and again by receiving by entry. */
 int main(void) {
     static const uint32_t modes[] = {0x1F80, 0xDFC0, 0x1F80};
     for (size_t i = 0; i < sizeof modes / sizeof *modes; i++) {
         __asm__ volatile("ldmxcsr %0" : : "m"(modes[i]));
+        receives = gm_receive;
+        all();
+        receiving_by_entry();
+        receives = gm_receive_entry;
         all();
     }
     return wrong;

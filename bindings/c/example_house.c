@@ -3,6 +3,7 @@
  *
  * Each call works on a copy of the book. The copy is stored, with a delivery beside it, and only then does anything leave. What a
  * house sent can be read off its book, so that no message is stored: after a power cut the book says what is to be sent again.
+ * A house tests its book once, when it takes it from its file, and then receives by entry; one that it opened is legal.
  * The carrier, here the row `carried`, loses what comes to a house that is down; a house with neighbours puts its network there.
  * The one argument is the folder for the books. */
 #define _POSIX_C_SOURCE 200809L
@@ -116,7 +117,8 @@ static void enter(struct house *house, const uint8_t *delivery) {
     }
 }
 
-/* What was stored last, if it is there to the byte; whether it is a legal book, gm_return says. */
+/* What was stored last, if it is there to the byte and a legal book. gm_waiting tests the whole book, once; from then on the house receives
+ * by entry. */
 static bool recover(struct house *house) {
     char kept[256];
     name_file(kept, sizeof kept, house->own, "book");
@@ -127,10 +129,11 @@ static bool recover(struct house *house) {
     uint8_t delivery[1 + GM_DECLARATION_BYTES], past_end;
     bool whole = (size_t)read(file, house->book, house->len) == house->len &&
                  (size_t)read(file, delivery, sizeof delivery) == sizeof delivery && read(file, &past_end, 1) == 0;
-    if (whole && delivery[0] == 1) {
+    bool legal = whole && gm_waiting(house->book, house->len).answer == GM_ACCEPTED;
+    if (legal && delivery[0] == 1) {
         enter(house, delivery + 1);
     }
-    return close(file) == 0 && whole;
+    return close(file) == 0 && legal;
 }
 
 /* ---- the house's own carrier */
@@ -164,7 +167,7 @@ static void send_again(const struct house *house) {
 
 /* Power is back, and nothing that was sent to the house was lost: it asks for no help. */
 static bool start(struct house *house) {
-    if (!recover(house) || gm_waiting(house->book, house->len).answer != GM_ACCEPTED) {
+    if (!recover(house)) {
         return false;
     }
     house->up = true;
@@ -287,10 +290,11 @@ static void put_in_place(struct house *house) {
     house->worked = before;
 }
 
+/* Answer 1 stops the house: memory was overwritten. At its next start it reads its file, and tests it. */
 static bool settle(struct house *house, uint32_t from, const gm_outcome *gave) {
     tell(gave);
     if (gave->answer != GM_ACCEPTED) {
-        return memcmp(house->worked, house->book, house->len) == 0;
+        return gave->answer != GM_NO_LEGAL_BOOK && memcmp(house->worked, house->book, house->len) == 0;
     }
     if (!store(house->own, house->worked, house->len, gave)) {
         return false;
@@ -319,8 +323,9 @@ static bool publish(struct house *house, uint32_t number, const uint8_t *declara
     return settle(house, house->own, &gave);
 }
 
+/* By entry: the book was opened here, or tested when it was taken from the file. */
 static bool receive(struct house *house, uint64_t from, const uint8_t *bytes, size_t len) {
-    gm_outcome gave = gm_receive(copy_book(house), house->len, gm_house(from), bytes, len);
+    gm_outcome gave = gm_receive_entry(copy_book(house), house->len, gm_house(from), bytes, len);
     printf("house %u hears %s from house %llu: ", (unsigned)house->own, kind_of(bytes, len), (unsigned long long)from);
     bool settled = settle(house, gm_house(from), &gave);
     if (gave.answer == GM_CONFLICT) {
@@ -498,7 +503,7 @@ int main(int count, char **words) {
     bool went_well = run();
     free_all();
     if (!went_well) {
-        printf("the house stopped: a book had no memory, or was not stored, not recovered or not as it was\n");
+        printf("the house stopped: a book had no memory, or was not stored, not recovered, not legal or not as it was\n");
         return 1;
     }
     return 0;

@@ -1,5 +1,5 @@
-/* The ten calls of the house book, for C11 and C++17. docs/HOUSE.md says which call when; docs/BOOK.md gives the bytes of a book.
- * After the ten calls come helpers that stand here alone: numbers and floats into bytes and back, a sentence for an answer, a walk.
+/* The eleven calls of the house book, for C11 and C++17. docs/HOUSE.md says which call when; docs/BOOK.md gives the bytes of a book.
+ * After the eleven calls come helpers that stand here alone: numbers and floats into bytes and back, a sentence for an answer, a walk.
  *
  * Sentences in quotes are document 01's, or request 2026-10's where they speak of f and d, a return, a request or help.
  * For every call:
@@ -21,10 +21,10 @@
 /* The version: the first number changes where the bytes of a book or a message change, or a call. A season is finished with the first
  * number that it was opened with, or with one that goes with it: 3 goes with 2, 6 with 5 in a season of at most 16 houses, and 4 with no
  * other (CHANGELOG.md). */
-#define GM_VERSION "6.0.1"
+#define GM_VERSION "6.1.0"
 #define GM_VERSION_MAJOR 6
-#define GM_VERSION_MINOR 0
-#define GM_VERSION_PATCH 1
+#define GM_VERSION_MINOR 1
+#define GM_VERSION_PATCH 0
 
 #ifdef __cplusplus
 extern "C" {
@@ -139,6 +139,17 @@ gm_outcome gm_publish(uint8_t *book, size_t len, uint32_t number, const uint8_t 
  * A request is counted, and helps: "a helper sends again its own messages, to the asker alone, at most d times for each asker."
  * Answers 1, 2, 3, 4, 14, else 0. */
 gm_outcome gm_receive(uint8_t *book, size_t len, uint32_t house, const uint8_t *message, size_t message_len);
+
+/* Receiving by entry, for a house that knows its book: it has opened it, or gm_waiting answered 0 to it since the house started. Of the
+ * book it tests the head, and the entry that the message names, and not the rest.
+ *   - The head is all that a legal book asks but its slots: n, S, own number, length, sheet, f, d, and the counts of help.
+ *   - The entry is its 2n + 3 slots: the SEND, n ECHOes, n READYs, READY sent, delivered. Each is in its one form: its first byte is 1,
+ *     or all 21 are zero. The slot of what this house published there is not among them.
+ * On every legal book it is gm_receive: the same answer, message, delivery and help, and the same bytes afterwards. On any bytes, each byte
+ * outside the named entry, and for a request outside the asker's count of help, stays as it was: other slots are neither tested nor mended.
+ * Answers 1 for the head, 2, 3, 4 for the sender or the number, 1 for the entry, 4 for the house, 5, 6, then 7 or 13, else 0.
+ * A request names no entry, and no slot is tested: answers 1, 2, 3, 4, 14, else 0. */
+gm_outcome gm_receive_entry(uint8_t *book, size_t len, uint32_t house, const uint8_t *message, size_t message_len);
 
 /* "On return a house sends again to all what it has sent and asks all for help": the request to ask with. Answers 1, else 0. */
 gm_return_answer gm_return(const uint8_t *book, size_t len);
@@ -295,8 +306,8 @@ static inline const char *gm_answer_text(unsigned answer) {
     }
 }
 
-/* A wide house number for gm_receive. One that 32 bits do not hold becomes the largest that they do, which is in no book: it is
- * refused in the call's own order, where a number cut to 32 bits might name another house. */
+/* A wide house number for receiving, by entry too. One that 32 bits do not hold becomes the largest that they do, which is in no book: it
+ * is refused in the call's own order, where a number cut to 32 bits might name another house. */
 static inline uint32_t gm_house(uint64_t wide) {
     if (wide > UINT32_MAX) {
         return UINT32_MAX;

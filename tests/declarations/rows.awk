@@ -42,7 +42,7 @@ unnamed && /^    GM_[A-Z_]+ = / {
     fields_c[$2] = in_c
     fields_rust[$2] = in_rust
 }
-/^[a-z0-9_]+ gm_[a-z]+\(.*\)$/ {
+/^[a-z0-9_]+ gm_[a-z_]+\(.*\)$/ {
     if ($1 in fields_c && !told[$1]++) {
         print "BEGIN(" $1 ")" fields_c[$1] " END" > c
         structs = structs "struct " $1 " = " in_ffi($1) " {" fields_rust[$1] " }\n"

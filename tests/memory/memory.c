@@ -1,6 +1,6 @@
-/* What memory the ten calls use beside what they are lent, with four houses and with the most, on an empty book and on a full one: how deep
- * each goes into the stack, with each of its answers. The book stands against a wall, once by its first byte and once by its last; and
- * where a call is to change no byte of it, it can't be written.
+/* What memory the eleven calls use beside what they are lent, with four houses and with the most, on an empty book and on a full one: how
+ * deep each goes into the stack, with each of its answers. The book stands against a wall, once by its first byte and once by its last;
+ * and where a call is to change no byte of it, it can't be written.
  *
  * Prints a line for each call and answer, with the bytes of stack that it takes below its caller, on an empty book and on a full one. A
  * call that is answered otherwise, goes deeper than DEEPEST, or not as deep in one book as in another, is told, and the status is 1. One
@@ -69,7 +69,7 @@ static size_t depth_of(void (*make)(void)) {
     return (size_t)(caller - lowest);
 }
 
-/* ---- the ten calls, with these arguments */
+/* ---- the eleven calls, with these arguments */
 
 static uint32_t n, own, season, house, sender, number;
 static uint8_t kind, declaration[GM_DECLARATION_BYTES], sheet[GM_SHEET_BYTES], message[GM_MESSAGE_BYTES];
@@ -86,6 +86,7 @@ CALL(length, gm_length(n, GM_MOST_NUMBERS).answer)
 CALL(opening, gm_open(book, len, n, GM_MOST_NUMBERS, own, DOWN, LIMIT, season, sheet, sheet_len))
 CALL(publishing, gm_publish(book, len, number, declaration).answer)
 CALL(receiving, gm_receive(book, len, house, message, message_len).answer)
+CALL(by_entry, gm_receive_entry(book, len, house, message, message_len).answer)
 CALL(returning, gm_return(book, len).answer)
 CALL(sent, gm_sent(book, len, kind, sender, number).answer)
 CALL(waiting, gm_waiting(book, len).answer)
@@ -114,7 +115,8 @@ static void clear(uint8_t *at) { memset(at, 0, SLOT); }
 
 static void nothing(void) {}
 static void one_house_more(void) { n = GM_MOST_HOUSES + 1; }
-static void no_legal_book(void) { book[len - SLOT] = 2; }
+static void no_legal_book(void) { book[len - SLOT] = 2; } /* the last slot, which is of the entry that is named */
+static void no_legal_head(void) { book[30 + n] = LIMIT + 1; }
 static void short_book(void) { len--; }
 static void short_sheet(void) { sheet_len--; }
 static void cut(void) { cut_off = 1; }
@@ -128,6 +130,11 @@ static void too_heavy(void) { declaration[11]++; }
 static void not_published(void) { clear(slot(number)); }
 static void published(void) { fill(slot(number)); }
 static void not_heard(void) { clear(heard_slot()); }
+static void spoilt_elsewhere(void) {
+    clear(heard_slot());
+    slot(0)[0] = 2;
+    in_entry(0)[-SLOT] = 2;
+}
 static void heard(void) { fill(heard_slot()); }
 static void helped(void) { book[31 + house] = LIMIT; }
 static void heard_otherwise(void) {
@@ -189,6 +196,37 @@ static const struct line {
     {"receiving 13, ECHO", receiving, GM_ECHO, GM_CONFLICT, heard_otherwise},
     {"receiving 13, READY", receiving, GM_READY, GM_CONFLICT, heard_otherwise},
     {"receiving 14, a request", receiving, GM_REQUEST, GM_HELPED_ENOUGH, helped},
+    {"by entry 0, SEND", by_entry, GM_SEND, GM_ACCEPTED, not_heard},
+    {"by entry 0, ECHO", by_entry, GM_ECHO, GM_ACCEPTED, not_heard},
+    {"by entry 0, ECHO, a mark due", by_entry, GM_ECHO, GM_ACCEPTED, marks_due},
+    {"by entry 0, READY", by_entry, GM_READY, GM_ACCEPTED, not_heard},
+    {"by entry 0, READY, both marks due", by_entry, GM_READY, GM_ACCEPTED, marks_due},
+    {"by entry 0, SEND, spoilt elsewhere", by_entry, GM_SEND, GM_ACCEPTED, spoilt_elsewhere},
+    {"by entry 0, ECHO, spoilt elsewhere", by_entry, GM_ECHO, GM_ACCEPTED, spoilt_elsewhere},
+    {"by entry 0, READY, spoilt elsewhere", by_entry, GM_READY, GM_ACCEPTED, spoilt_elsewhere},
+    {"by entry 0, a request", by_entry, GM_REQUEST, GM_ACCEPTED, nothing},
+    {"by entry 0, a request, the entry spoilt", by_entry, GM_REQUEST, GM_ACCEPTED, no_legal_book},
+    {"by entry 1, the head", by_entry, GM_ECHO, GM_NO_LEGAL_BOOK, no_legal_head},
+    {"by entry 1, the head, a request", by_entry, GM_REQUEST, GM_NO_LEGAL_BOOK, no_legal_head},
+    {"by entry 1, the entry's last slot", by_entry, GM_ECHO, GM_NO_LEGAL_BOOK, no_legal_book},
+    {"by entry 1, the length", by_entry, GM_ECHO, GM_NO_LEGAL_BOOK, short_book},
+    {"by entry 2", by_entry, GM_ECHO, GM_MALFORMED, cut},
+    {"by entry 2, a request", by_entry, GM_REQUEST, GM_MALFORMED, cut},
+    {"by entry 3", by_entry, GM_ECHO, GM_OTHER_SEASON, other_season},
+    {"by entry 3, a request", by_entry, GM_REQUEST, GM_OTHER_SEASON, other_season},
+    {"by entry 4, the house", by_entry, GM_ECHO, GM_NOT_IN_BOOK, no_such_house},
+    {"by entry 4, the sender", by_entry, GM_ECHO, GM_NOT_IN_BOOK, no_such_sender},
+    {"by entry 4, the number", by_entry, GM_ECHO, GM_NOT_IN_BOOK, no_such_number},
+    {"by entry 4, a request", by_entry, GM_REQUEST, GM_NOT_IN_BOOK, no_such_house},
+    {"by entry 5", by_entry, GM_ECHO, GM_NOT_PLAUSIBLE, too_heavy},
+    {"by entry 6", by_entry, GM_SEND, GM_NOT_FROM_SENDER, other_house},
+    {"by entry 7, SEND", by_entry, GM_SEND, GM_ALREADY_ACCEPTED, heard},
+    {"by entry 7, ECHO", by_entry, GM_ECHO, GM_ALREADY_ACCEPTED, heard},
+    {"by entry 7, READY", by_entry, GM_READY, GM_ALREADY_ACCEPTED, heard},
+    {"by entry 13, SEND", by_entry, GM_SEND, GM_CONFLICT, heard_otherwise},
+    {"by entry 13, ECHO", by_entry, GM_ECHO, GM_CONFLICT, heard_otherwise},
+    {"by entry 13, READY", by_entry, GM_READY, GM_CONFLICT, heard_otherwise},
+    {"by entry 14, a request", by_entry, GM_REQUEST, GM_HELPED_ENOUGH, helped},
     {"a return 0", returning, 0, GM_ACCEPTED, nothing},
     {"a return 1", returning, 0, GM_NO_LEGAL_BOOK, no_legal_book},
     {"sent 0, SEND", sent, GM_SEND, GM_ACCEPTED, nothing},
@@ -245,7 +283,7 @@ static void lay_message(void) {
 
 /* Makes the call of a line once; how deep it went. */
 static size_t try_line(const struct line *line, uint32_t houses, bool is_full, bool at_end) {
-    bool stores = line->make == opening || line->make == publishing || line->make == receiving;
+    bool stores = line->make == opening || line->make == publishing || line->make == receiving || line->make == by_entry;
     allow(room, ROOM, PROT_READ | PROT_WRITE);
     lay(houses, is_full, at_end);
     kind = line->kind;

@@ -3,6 +3,7 @@
 //!
 //! Each call works on a copy of the book. The copy is stored, with a delivery beside it, and only then does anything leave. What
 //! a house sent can be read off its book, so that no message is stored: after a power cut the book says what is to be sent again.
+//! A house tests its book once, when it takes it from its file, and then receives by entry; one that it opened is legal.
 //! The carrier, here the row `carried`, loses what comes to a house that is down; a house with neighbours puts its network there.
 //! The one argument is the folder for the books.
 
@@ -67,7 +68,8 @@ impl Disk {
         Ok(())
     }
 
-    /// What was stored last, if it is there to the byte and a legal book.
+    /// What was stored last, if it is there to the byte and a legal book. `from_bytes` tests the whole book, once; from then on the house
+    /// receives by entry.
     fn recover(&self) -> Fallible<(Book, Option<Declaration>)> {
         let mut bytes = fs::read(self.file("book"))?;
         let length = Book::length(OPENING.n, OPENING.s)?;
@@ -196,7 +198,7 @@ impl Valley {
 
     fn receive(&mut self, own: usize, from: u64, bytes: &[u8]) -> Fallible<()> {
         print!("house {own} hears {} from house {from}: ", kind_of(bytes));
-        let refusal = self.call(own, from as usize, |book| book.receive(from, bytes))?;
+        let refusal = self.call(own, from as usize, |book| book.receive_entry(from, bytes))?;
         if refusal == Some(Refusal::Conflict) {
             self.keep_evidence(own, from as usize, bytes)?;
         }
@@ -218,7 +220,8 @@ impl Valley {
     }
 
     /// A call on a copy of the book. The copy is stored, with a delivery beside it; then it takes the book's place, and what the call
-    /// gave leaves. A refusal is told, and handed back.
+    /// gave leaves. A refusal is told, and handed back; answer 1 stops the house: memory was overwritten, and at its next start it reads
+    /// its file, and tests it.
     fn call(
         &mut self,
         own: usize,
@@ -230,7 +233,10 @@ impl Valley {
             Ok(worked) => worked,
             Err(refusal) => {
                 println!("{} (answer {})", refusal.sentence(), refusal.number());
-                return Ok(Some(refusal));
+                return match refusal {
+                    Refusal::NoLegalBook => Err(refusal.into()),
+                    _ => Ok(Some(refusal)),
+                };
             }
         };
         let gave = worked.store(|book, delivery| disk.store(book, delivery))?;

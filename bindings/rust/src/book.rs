@@ -47,6 +47,11 @@ impl Outcome {
     }
 }
 
+/// A house number in 32 bits. The largest is in no book, so that a wider one is refused in the call's own order.
+fn not_cut(house: u64) -> u32 {
+    u32::try_from(house).unwrap_or(u32::MAX)
+}
+
 /// An entry of a book.
 #[derive(Clone, Copy, Debug, PartialEq, Eq, Hash)]
 pub struct Entry {
@@ -58,9 +63,9 @@ pub struct Entry {
 
 /// A legal book: n, S, own number, season, sheet, f, d, how often each asker was helped, and an entry for each sender and number.
 ///
-/// [`publish`](Book::publish) and [`receive`](Book::receive) work on a copy: the book stays as it is until the copy is stored and
-/// takes its place. What this house sent can be read off the book at any time ([`Book::all_sent`]), so a message need not be stored
-/// beside it.
+/// [`publish`](Book::publish), [`receive`](Book::receive) and [`receive_entry`](Book::receive_entry) work on a copy: the book stays as
+/// it is until the copy is stored and takes its place. What this house sent can be read off the book at any time ([`Book::all_sent`]), so
+/// a message need not be stored beside it.
 ///
 /// ```
 /// use grassmunch::{Book, Declaration, Gate, Heard, Kind, Message, Opening, Refusal, Sheet};
@@ -405,6 +410,74 @@ impl Book {
         Worked::on_copy(self, |copy| copy.receive_in_place(house, message))
     }
 
+    /// [`receive`](Book::receive) by entry: of the book it tests the head, and the entry that the message names, and not the rest. Works on
+    /// a copy. Answers 1 for the head, 2, 3, 4 for the sender or the number, 1 for the entry, 4 for the house, 5, 6, then 7 or 13; a
+    /// request, for which no slot is tested, 1 for the head, 2 to 4, and then 14.
+    ///
+    /// On every legal book it is `receive`: the same answer, message, delivery and help, and the same bytes afterwards. A `Book` is one
+    /// from [`open`](Book::open) or [`from_bytes`](Book::from_bytes) on, whichever calls are made on it:
+    ///
+    /// ```
+    /// use grassmunch::{Book, Declaration, Gate, Kind, Message, Opening, Refusal, Sheet};
+    /// let sheet = Sheet { cap: 20, moisture: Gate::Open, conductivity: Gate::Open };
+    /// let opening = Opening { n: 4, s: 1, f: 0, d: 1, season: 2026, sheet };
+    /// let (mut book, mut same) = (Book::open(&opening, 0)?, Book::open(&opening, 0)?);
+    /// let of = |kind, season, sender, kilograms| {
+    ///     let declaration = Declaration::new(77, 40, kilograms, 17.5, 0.5);
+    ///     Message { kind, season, sender, number: 0, declaration }.to_bytes()
+    /// };
+    /// let (send, ready) = (of(Kind::Send, 2026, 2, 800), of(Kind::Ready, 2026, 2, 800));
+    /// let request = book.come_back()?;
+    /// let mut answers = Vec::new();
+    /// for (house, bytes) in [
+    ///     (2, &send[..]),
+    ///     (1, &ready),
+    ///     (2, &ready),
+    ///     (3, &ready), // with a third READY the lot is delivered
+    ///     (3, &request),
+    ///     (2, &send[1..]),
+    ///     (2, &of(Kind::Send, 2027, 2, 800)),
+    ///     (2, &of(Kind::Send, 2026, 4, 800)),
+    ///     (1 << 32, &send),
+    ///     (0, &of(Kind::Echo, 2026, 2, 801)),
+    ///     (1, &send),
+    ///     (2, &send),
+    ///     (2, &of(Kind::Send, 2026, 2, 799)),
+    ///     (3, &request),
+    /// ] {
+    ///     let gave = book.receive_entry_in_place(house, bytes);
+    ///     assert_eq!(gave, same.receive_in_place(house, bytes));
+    ///     assert_eq!(book, same);
+    ///     answers.push(gave.map_or_else(Refusal::number, |_| 0));
+    /// }
+    /// assert_eq!(answers, [0, 0, 0, 0, 0, 2, 3, 4, 4, 5, 6, 7, 13, 14]);
+    /// # Ok::<(), Refusal>(())
+    /// ```
+    ///
+    /// So a house tests its book once, when it starts, and then receives by entry. A bit that is flipped in memory after that is seen where
+    /// a message names its entry, or another call tests the whole book: docs/HOUSE.md, "Receiving by entry", says what it then means.
+    ///
+    /// ```
+    /// use grassmunch::{Book, Declaration, Gate, Opening, Refusal, Sheet};
+    /// let sheet = Sheet { cap: 20, moisture: Gate::Open, conductivity: Gate::Open };
+    /// let mut book = Book::open(&Opening { n: 1, s: 1, f: 0, d: 1, season: 2026, sheet }, 0)?;
+    /// let send = book.publish_in_place(0, &Declaration::new(77, 40, 800, 17.5, 0.5))?.message.unwrap();
+    /// let kept = book.into_bytes();
+    ///
+    /// // the house starts: a book that was stored, and one with a flipped bit in its last slot
+    /// let mut flipped = kept.clone();
+    /// flipped[157] ^= 1;
+    /// assert_eq!(Book::from_bytes(flipped), Err(Refusal::NoLegalBook));
+    /// let mut book = Book::from_bytes(kept)?;
+    /// let stored = |_: &Book, _: Option<&Declaration>| Ok::<(), Refusal>(());
+    /// let echo = book.receive_entry(0, &send)?.store(stored)?.message.unwrap();
+    /// assert!(book.receive_entry(0, &echo)?.store(stored)?.message.is_some());
+    /// # Ok::<(), Refusal>(())
+    /// ```
+    pub fn receive_entry(&mut self, house: u64, message: &[u8]) -> Result<Worked<'_>, Refusal> {
+        Worked::on_copy(self, |copy| copy.receive_entry_in_place(house, message))
+    }
+
     /// [`publish`](Book::publish) on the book itself, for a tool or a test that stores nothing. A house that works on its only copy
     /// can lose it in a power cut.
     pub fn publish_in_place(
@@ -417,9 +490,16 @@ impl Book {
 
     /// [`receive`](Book::receive) on the book itself, for a tool or a test that stores nothing.
     pub fn receive_in_place(&mut self, house: u64, message: &[u8]) -> Result<Outcome, Refusal> {
-        // the largest number is in no book, so the answer is the one of the call's own order
-        let house = u32::try_from(house).unwrap_or(u32::MAX);
-        Outcome::of(ffi::receive(&mut self.0, house, message))
+        Outcome::of(ffi::receive(&mut self.0, not_cut(house), message))
+    }
+
+    /// [`receive_entry`](Book::receive_entry) on the book itself, for a tool or a test that stores nothing.
+    pub fn receive_entry_in_place(
+        &mut self,
+        house: u64,
+        message: &[u8],
+    ) -> Result<Outcome, Refusal> {
+        Outcome::of(ffi::receive_entry(&mut self.0, not_cut(house), message))
     }
 
     /// "On return a house sends again to all what it has sent and asks all for help": the request to ask with. Answers 1.

@@ -1,4 +1,5 @@
-//! The archive's ten calls, the structs that they hand back and the sizes, as bindings/c/grassmunch.h has them: the one file with `unsafe`.
+//! The archive's eleven calls, the structs that they hand back and the sizes, as bindings/c/grassmunch.h has them: the one file with
+//! `unsafe`.
 //!
 //! The header is the source, and tests/declarations.sh holds this file to it: each size, each call and what it takes, each struct and its
 //! fields, in order and in place. It needs nothing else of this crate, so that a test or a measure can take it alone.
@@ -29,7 +30,7 @@ pub struct LengthAnswer {
     pub length: u64,
 }
 
-/// What [`publish`] and [`receive`] hand back.
+/// What [`publish`], [`receive`] and [`receive_entry`] hand back.
 #[repr(C)]
 pub struct Outcome {
     pub answer: u8,
@@ -115,6 +116,13 @@ unsafe extern "C" {
         message: *const u8,
         message_len: usize,
     ) -> Outcome;
+    pub fn gm_receive_entry(
+        book: *mut u8,
+        len: usize,
+        house: u32,
+        message: *const u8,
+        message_len: usize,
+    ) -> Outcome;
     pub fn gm_return(book: *const u8, len: usize) -> ReturnAnswer;
     pub fn gm_sent(book: *const u8, len: usize, kind: u8, sender: u32, number: u32) -> SentAnswer;
     pub fn gm_waiting(book: *const u8, len: usize) -> WaitingAnswer;
@@ -156,6 +164,14 @@ pub fn receive(book: &mut [u8], house: u32, message: &[u8]) -> Outcome {
     let (at, len) = (book.as_mut_ptr(), book.len());
     // SAFETY: `book` is valid for reads and writes of `len` bytes and lent to nobody else, `message` for reads of its length.
     unsafe { gm_receive(at, len, house, message.as_ptr(), message.len()) }
+}
+
+/// Receiving by entry: 1 for the head, 2, 3, 4 for the sender or the number, 1 for the entry, 4 for the house, 5, 6, then 7 or 13; a
+/// request 1 for the head, 2 to 4, then 14. On every legal book it is [`receive`].
+pub fn receive_entry(book: &mut [u8], house: u32, message: &[u8]) -> Outcome {
+    let (at, len) = (book.as_mut_ptr(), book.len());
+    // SAFETY: `book` is valid for reads and writes of `len` bytes and lent to nobody else, `message` for reads of its length.
+    unsafe { gm_receive_entry(at, len, house, message.as_ptr(), message.len()) }
 }
 
 /// A return: 1, else 0 and the request to all.

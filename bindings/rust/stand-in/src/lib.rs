@@ -1,4 +1,4 @@
-//! The ten calls of the archive, answered by reference/: nothing here is proved, and no house links it.
+//! The eleven calls of the archive, answered by reference/: nothing here is proved, and no house links it.
 //!
 //! The archive is for x86-64. On another processor the tests link this in its place, so that the Rust crate's own code
 //! (declarations, sheets, refusals, the example) runs there too. That crate lends slices, so no pointer here is null.
@@ -18,6 +18,7 @@ const _: () = {
     let _ = [ffi::gm_open, gm_open];
     let _ = [ffi::gm_publish, gm_publish];
     let _ = [ffi::gm_receive, gm_receive];
+    let _ = [ffi::gm_receive_entry, gm_receive_entry];
     let _ = [ffi::gm_return, gm_return];
     let _ = [ffi::gm_sent, gm_sent];
     let _ = [ffi::gm_waiting, gm_waiting];
@@ -97,6 +98,23 @@ unsafe extern "C" fn gm_receive(
         )
     };
     outcome(reference::receive(book, house, message))
+}
+
+#[unsafe(no_mangle)]
+unsafe extern "C" fn gm_receive_entry(
+    book: *mut u8,
+    len: usize,
+    house: u32,
+    message: *const u8,
+    message_len: usize,
+) -> Outcome {
+    let (book, message) = unsafe {
+        (
+            from_raw_parts_mut(book, len),
+            from_raw_parts(message, message_len),
+        )
+    };
+    outcome(reference::receive_entry(book, house, message))
 }
 
 #[unsafe(no_mangle)]
