@@ -1,7 +1,7 @@
-//! Makes one kind of call many times on the same input, by the library, by the reference or by neither, so
-//! that the instructions can be counted from outside.
+//! Makes one kind of call many times on the same input, by the library, by the reference, by the reference
+//! with the fast scan or by neither, so that the instructions can be counted from outside.
 //!
-//!     calls list              the rows, after comparing what both sides give on each
+//!     calls list              the rows and their sides, after comparing what the sides give on each
 //!     calls ROW SIDE COUNT    so many calls of a row by a side
 
 mod cases;
@@ -171,6 +171,28 @@ fn by_reference(case: &Case, count: u32) -> (String, Vec<u8>) {
     }
 }
 
+/// Receiving by the reference with the fast scan; of the other calls none.
+fn by_fast(case: &Case, count: u32) -> Option<(String, Vec<u8>)> {
+    let (Call::Receive { house, message } | Call::Pass { house, message }) = &case.call else {
+        return None;
+    };
+    let receive = black_box(fast::receive as fn(&mut _, _, &[u8]) -> _);
+    Some(make(
+        count,
+        case,
+        |b| receive(b, *house, message),
+        |said| *said,
+    ))
+}
+
+/// Who makes the row's call. Where legality is subtracted, the fast scan makes no difference.
+fn sides(case: &Case) -> &'static str {
+    match (by_fast(case, 0), case.less) {
+        (Some(_), None) => "library reference fast",
+        _ => "library reference",
+    }
+}
+
 /// What an accepted call sends and delivers, for the table.
 fn gives(case: &Case) -> &'static str {
     let mut book = case.book.clone();
@@ -197,12 +219,14 @@ fn sent(book: &[u8]) -> &'static str {
     sent.message.map_or("", |_| "READY")
 }
 
-/// Both sides gave the same, byte for byte, and the answer that the row names.
+/// All sides gave the same, byte for byte, and the answer that the row names.
 fn is_compared(case: &Case) -> bool {
     let library = by_library(case, 0);
     let answer = format!("{}", case.answer);
     let is_answer = library.0 == answer || library.0.contains(&format!("answer: {answer},"));
-    is_answer && (matches!(case.call, Call::Pass { .. }) || library == by_reference(case, 0))
+    is_answer
+        && (matches!(case.call, Call::Pass { .. }) || library == by_reference(case, 0))
+        && by_fast(case, 0).is_none_or(|fast| library == fast)
 }
 
 fn main() {
@@ -214,7 +238,7 @@ fn main() {
             for (row, case) in rows.iter().enumerate() {
                 assert!(
                     is_compared(case),
-                    "row {row}, {}: the two sides differ",
+                    "row {row}, {}: the sides differ",
                     case.what
                 );
                 if case.what.is_empty() {
@@ -227,18 +251,18 @@ fn main() {
                 };
                 let less = case.less.map_or(String::new(), |row| row.to_string());
                 let (what, holds, gives) = (&case.what, case.holds, gives(case));
-                println!("{row}|{less}|{what}|{n}|{holds}|{gives}");
+                println!("{row}|{less}|{}|{what}|{n}|{holds}|{gives}", sides(case));
             }
         }
         [row, side, count] => {
             let case = &rows[row.parse::<usize>().expect("a row's number")];
             let count = count.parse().expect("a count");
-            let side = match side {
-                "library" => by_library,
-                "reference" => by_reference,
-                _ => neither,
-            };
-            black_box(side(case, count));
+            black_box(match side {
+                "library" => by_library(case, count),
+                "reference" => by_reference(case, count),
+                "fast" => by_fast(case, count).expect("a row of receiving"),
+                _ => neither(case, count),
+            });
         }
         _ => panic!("calls list, or calls ROW SIDE COUNT"),
     }
