@@ -3,6 +3,7 @@
 //!
 //!     calls list              the rows and their sides, after comparing what the sides give on each
 //!     calls ROW SIDE COUNT    so many calls of a row by a side
+//!     calls ROW time          the time of a row of receiving, library to reference and library to fast
 
 mod cases;
 // the length of a book is not measured
@@ -11,6 +12,7 @@ mod cases;
 mod ffi;
 mod library;
 mod tally;
+mod time;
 
 use cases::{Call, Case, DECLARATION, DOWN, LIMIT, NUMBER, NUMBERS, OWN, SEASON, SENDER, SHEET};
 use ffi::{Outcome, ReadAnswer, ReturnAnswer, SentAnswer, WaitingAnswer, Written};
@@ -264,6 +266,12 @@ fn main() {
                 _ => neither(case, count),
             });
         }
-        _ => panic!("calls list, or calls ROW SIDE COUNT"),
+        [row, "time"] => {
+            let case = &rows[row.parse::<usize>().expect("a row's number")];
+            if let Some(ratios) = time::ratios(case) {
+                println!("{}", ratios.join(" | "));
+            }
+        }
+        _ => panic!("calls list, calls ROW SIDE COUNT, or calls ROW time"),
     }
 }
