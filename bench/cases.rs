@@ -43,6 +43,10 @@ pub enum Call {
         house: u32,
         message: Vec<u8>,
     },
+    ReceiveEntry {
+        house: u32,
+        message: Vec<u8>,
+    },
     Return,
     Sent,
     Waiting,
@@ -280,6 +284,45 @@ fn refused(n: u32, rows: &mut Vec<Case>) {
     }
 }
 
+/// Receiving by entry, on the books of rows of receiving.
+fn by_entry(rows: &[Case]) -> Vec<Case> {
+    let receives = |case: &&Case| case.what.starts_with("receive ") || case.what == "refusal 2";
+    let entry = |case: &Case| Case {
+        what: format!("{}, by entry", case.what),
+        book: case.book.clone(),
+        call: entered(&case.call),
+        ..*case
+    };
+    rows.iter().filter(receives).map(entry).collect()
+}
+
+/// The same message, received by entry.
+fn entered(call: &Call) -> Call {
+    let Call::Receive { house, message } = call else {
+        panic!("a row of receiving");
+    };
+    Call::ReceiveEntry {
+        house: *house,
+        message: message.clone(),
+    }
+}
+
+/// Answer 1 by either part that receiving by entry tests: the head, in its last help count, and the entry, in
+/// its last slot.
+fn refused_by_entry(n: u32, rows: &mut Vec<Case>) {
+    let head = helped_byte(n as usize - 1);
+    let entry = helped_byte(n as usize) + 21 * (ready_sent_slot(n) + 1);
+    for (at, bad, part) in [(head, LIMIT as u8 + 1, "head"), (entry, 2, "entry")] {
+        for filling in [EMPTY, HALF, FULL] {
+            let mut book = book(n, filling, &[]);
+            book[at] = bad;
+            let what = format!("refusal 1, the {part}, by entry");
+            let call = entered(&receive(Kind::Echo));
+            rows.push(case(&what, n, filling.name, book, call, 1));
+        }
+    }
+}
+
 /// The slot of the READY that this house sent on the named entry.
 fn ready_sent_slot(n: u32) -> usize {
     first_slot(n) + 1 + 2 * n as usize
@@ -437,6 +480,10 @@ pub fn all() -> Vec<Case> {
         for n in HOUSES {
             part(n, &mut rows);
         }
+    }
+    rows.extend(by_entry(&rows));
+    for n in HOUSES {
+        refused_by_entry(n, &mut rows);
     }
     let calls = [
         ("judge", Call::Judge),

@@ -61,6 +61,10 @@ fn by_library(case: &Case, count: u32) -> (String, Vec<u8>) {
             let call = |b: &mut [u8]| ffi::receive(b, *house, message);
             make(count, case, call, Outcome::said)
         }
+        Call::ReceiveEntry { house, message } => {
+            let call = |b: &mut [u8]| ffi::receive_entry(b, *house, message);
+            make(count, case, call, Outcome::said)
+        }
         Call::Return => make(count, case, |b| ffi::come_back(b), ReturnAnswer::said),
         Call::Sent => {
             let call = |b: &mut [u8]| ffi::sent(b, READY, sender.into(), number.into());
@@ -122,6 +126,10 @@ fn by_reference(case: &Case, count: u32) -> (String, Vec<u8>) {
             let receive = black_box(reference::receive as fn(&mut _, _, &[u8]) -> _);
             make(count, case, |b| receive(b, *house, message), |said| *said)
         }
+        Call::ReceiveEntry { house, message } => {
+            let receive = black_box(reference::receive_entry as fn(&mut _, _, &[u8]) -> _);
+            make(count, case, |b| receive(b, *house, message), |said| *said)
+        }
         Call::Return => {
             let come_back = black_box(reference::come_back as fn(&_) -> _);
             make(count, case, |b| come_back(b), |said| *said)
@@ -175,10 +183,14 @@ fn by_reference(case: &Case, count: u32) -> (String, Vec<u8>) {
 
 /// Receiving by the reference with the fast scan; of the other calls none.
 fn by_fast(case: &Case, count: u32) -> Option<(String, Vec<u8>)> {
-    let (Call::Receive { house, message } | Call::Pass { house, message }) = &case.call else {
-        return None;
+    type Receive = fn(&mut [u8], u32, &[u8]) -> fast::Outcome;
+    let (receive, house, message): (Receive, _, _) = match &case.call {
+        Call::Receive { house, message } => (fast::receive, house, message),
+        Call::Pass { house, message } => (fast::receive, house, message),
+        Call::ReceiveEntry { house, message } => (fast::receive_entry, house, message),
+        _ => return None,
     };
-    let receive = black_box(fast::receive as fn(&mut _, _, &[u8]) -> _);
+    let receive = black_box(receive);
     Some(make(
         count,
         case,
@@ -200,6 +212,9 @@ fn gives(case: &Case) -> &'static str {
     let mut book = case.book.clone();
     let outcome = match &case.call {
         Call::Receive { house, message } => reference::receive(&mut book, *house, message),
+        Call::ReceiveEntry { house, message } => {
+            reference::receive_entry(&mut book, *house, message)
+        }
         Call::Publish => reference::publish(&mut book, NUMBER as u32, &DECLARATION),
         Call::Return => return "request",
         Call::Sent => return sent(&book),

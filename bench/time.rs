@@ -15,22 +15,32 @@ const CALLS: usize = 64;
 type Side = fn(&mut [u8], u32, &[u8]);
 
 /// Nothing, the library, the reference and the reference with the fast scan.
-const SIDES: [Side; 4] = [
+const WHOLE: [Side; 4] = [
     |_, _, _| (),
     |book, house, message| _ = black_box(ffi::receive(book, house, message)),
     |book, house, message| _ = black_box(reference::receive(book, house, message)),
     |book, house, message| _ = black_box(fast::receive(book, house, message)),
 ];
 
+/// The same, by entry.
+const BY_ENTRY: [Side; 4] = [
+    |_, _, _| (),
+    |book, house, message| _ = black_box(ffi::receive_entry(book, house, message)),
+    |book, house, message| _ = black_box(reference::receive_entry(book, house, message)),
+    |book, house, message| _ = black_box(fast::receive_entry(book, house, message)),
+];
+
 /// Library to reference and library to fast, of a row of receiving.
 pub fn ratios(case: &Case) -> Option<[String; 2]> {
-    let (Call::Receive { house, message }, None) = (&case.call, case.less) else {
-        return None;
+    let (sides, house, message) = match (&case.call, case.less) {
+        (Call::Receive { house, message }, None) => (WHOLE, house, message),
+        (Call::ReceiveEntry { house, message }, None) => (BY_ENTRY, house, message),
+        _ => return None,
     };
     let mut book = case.book.clone();
     let mut ratios = [Vec::new(), Vec::new()];
     for _ in 0..ROUNDS {
-        let times = black_box(SIDES).map(|side| {
+        let times = black_box(sides).map(|side| {
             let call = |book: &mut [u8]| side(book, *house, message);
             time(&case.book, &mut book, call)
         });
