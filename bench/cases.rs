@@ -43,6 +43,10 @@ pub enum Call {
         house: u32,
         message: Vec<u8>,
     },
+    ReceiveEntry {
+        house: u32,
+        message: Vec<u8>,
+    },
     Return,
     Sent,
     Waiting,
@@ -193,20 +197,35 @@ fn accepted(n: u32, rows: &mut Vec<Case>) {
             ));
         }
     }
-    let sent = ready_sent_slot(n);
-    let due = book(n, FULL, &[heard_slot(n, Kind::Ready), sent, sent + 1]);
-    rows.push(case(
-        "receive READY, both marks due",
-        n,
-        FULL.name,
-        due,
-        receive(Kind::Ready),
-        0,
-    ));
+    for filling in [EMPTY, HALF, FULL] {
+        rows.push(case(
+            "receive READY, both marks due",
+            n,
+            filling.name,
+            due(n, filling),
+            receive(Kind::Ready),
+            0,
+        ));
+    }
     for filling in [EMPTY, HALF, FULL] {
         let book = book(n, filling, &[NUMBER]);
         rows.push(case("publish", n, filling.name, book, Call::Publish, 0));
     }
+}
+
+/// The book with one slot full, whatever the filling has there.
+fn with_slot(mut book: Vec<u8>, n: u32, slot: usize) -> Vec<u8> {
+    let slots = book[helped_byte(n as usize)..].as_chunks_mut().0;
+    slots[slot] = holding(&DECLARATION);
+    book
+}
+
+/// A book where the voucher's READY is the last one: all others are there, and neither mark.
+fn due(n: u32, filling: Filling) -> Vec<u8> {
+    let (heard, sent) = (heard_slot(n, Kind::Ready), ready_sent_slot(n));
+    let others = (heard - VOUCHER..sent).filter(|slot| *slot != heard);
+    let book = book(n, filling, &[heard, sent, sent + 1]);
+    others.fold(book, |book, slot| with_slot(book, n, slot))
 }
 
 fn refused(n: u32, rows: &mut Vec<Case>) {
@@ -220,17 +239,19 @@ fn refused(n: u32, rows: &mut Vec<Case>) {
         receive(Kind::Echo),
         1,
     ));
-    let mut bad = book(n, HALF, &[]);
-    let last = bad.len() - 21;
-    bad[last] = 2;
-    rows.push(case(
-        "refusal 1, last slot bad",
-        n,
-        HALF.name,
-        bad,
-        receive(Kind::Echo),
-        1,
-    ));
+    for filling in [EMPTY, HALF, FULL] {
+        let mut bad = book(n, filling, &[]);
+        let last = bad.len() - 21;
+        bad[last] = 2;
+        rows.push(case(
+            "refusal 1, last slot bad",
+            n,
+            filling.name,
+            bad,
+            receive(Kind::Echo),
+            1,
+        ));
+    }
     for filling in [EMPTY, HALF, FULL] {
         rows.push(case(
             "refusal 2",
@@ -241,20 +262,64 @@ fn refused(n: u32, rows: &mut Vec<Case>) {
             2,
         ));
     }
-    rows.push(case(
-        "refusal 7",
-        n,
-        FULL.name,
-        book(n, FULL, &[]),
-        receive(Kind::Echo),
-        7,
-    ));
+    let echo = heard_slot(n, Kind::Echo);
+    for filling in [EMPTY, HALF, FULL] {
+        let heard = with_slot(book(n, filling, &[]), n, echo);
+        rows.push(case(
+            "refusal 7",
+            n,
+            filling.name,
+            heard,
+            receive(Kind::Echo),
+            7,
+        ));
+    }
     for (byte, differs) in [(0, "the lot"), (19, "the last byte")] {
-        let mut other = book(n, FULL, &[]);
-        let slot = helped_byte(n as usize) + 21 * heard_slot(n, Kind::Echo);
-        other[slot + 1 + byte] ^= 1;
-        let what = format!("refusal 13, {differs} otherwise");
-        rows.push(case(&what, n, FULL.name, other, receive(Kind::Echo), 13));
+        for filling in [EMPTY, HALF, FULL] {
+            let mut other = with_slot(book(n, filling, &[]), n, echo);
+            other[helped_byte(n as usize) + 21 * echo + 1 + byte] ^= 1;
+            let what = format!("refusal 13, {differs} otherwise");
+            rows.push(case(&what, n, filling.name, other, receive(Kind::Echo), 13));
+        }
+    }
+}
+
+/// Receiving by entry, on the books of rows of receiving.
+fn by_entry(rows: &[Case]) -> Vec<Case> {
+    let receives = |case: &&Case| case.what.starts_with("receive ") || case.what == "refusal 2";
+    let entry = |case: &Case| Case {
+        what: format!("{}, by entry", case.what),
+        book: case.book.clone(),
+        call: entered(&case.call),
+        ..*case
+    };
+    rows.iter().filter(receives).map(entry).collect()
+}
+
+/// The same message, received by entry.
+fn entered(call: &Call) -> Call {
+    let Call::Receive { house, message } = call else {
+        panic!("a row of receiving");
+    };
+    Call::ReceiveEntry {
+        house: *house,
+        message: message.clone(),
+    }
+}
+
+/// Answer 1 by either part that receiving by entry tests: the head, in its last help count, and the entry, in
+/// its last slot.
+fn refused_by_entry(n: u32, rows: &mut Vec<Case>) {
+    let head = helped_byte(n as usize - 1);
+    let entry = helped_byte(n as usize) + 21 * (ready_sent_slot(n) + 1);
+    for (at, bad, part) in [(head, LIMIT as u8 + 1, "head"), (entry, 2, "entry")] {
+        for filling in [EMPTY, HALF, FULL] {
+            let mut book = book(n, filling, &[]);
+            book[at] = bad;
+            let what = format!("refusal 1, the {part}, by entry");
+            let call = entered(&receive(Kind::Echo));
+            rows.push(case(&what, n, filling.name, book, call, 1));
+        }
     }
 }
 
@@ -275,9 +340,18 @@ fn returning(n: u32, rows: &mut Vec<Case>) {
             0,
         ));
     }
-    let mut spent = book(n, FULL, &[]);
-    spent[helped_byte(VOUCHER)] = LIMIT as u8;
-    rows.push(case("refusal 14", n, FULL.name, spent, hear_request(), 14));
+    for filling in [EMPTY, HALF, FULL] {
+        let mut spent = book(n, filling, &[]);
+        spent[helped_byte(VOUCHER)] = LIMIT as u8;
+        rows.push(case(
+            "refusal 14",
+            n,
+            filling.name,
+            spent,
+            hear_request(),
+            14,
+        ));
+    }
     for filling in [EMPTY, HALF, FULL] {
         rows.push(case(
             "return",
@@ -406,6 +480,10 @@ pub fn all() -> Vec<Case> {
         for n in HOUSES {
             part(n, &mut rows);
         }
+    }
+    rows.extend(by_entry(&rows));
+    for n in HOUSES {
+        refused_by_entry(n, &mut rows);
     }
     let calls = [
         ("judge", Call::Judge),

@@ -1,8 +1,9 @@
-//! Makes one kind of call many times on the same input, by the library, by the reference or by neither, so
-//! that the instructions can be counted from outside.
+//! Makes one kind of call many times on the same input, by the library, by the reference, by the reference
+//! with the fast scan or by neither, so that the instructions can be counted from outside.
 //!
-//!     calls list              the rows, after comparing what both sides give on each
+//!     calls list              the rows and their sides, after comparing what the sides give on each
 //!     calls ROW SIDE COUNT    so many calls of a row by a side
+//!     calls ROW time          the time of a row of receiving, library to reference and library to fast
 
 mod cases;
 // the length of a book is not measured
@@ -11,6 +12,7 @@ mod cases;
 mod ffi;
 mod library;
 mod tally;
+mod time;
 
 use cases::{Call, Case, DECLARATION, DOWN, LIMIT, NUMBER, NUMBERS, OWN, SEASON, SENDER, SHEET};
 use ffi::{Outcome, ReadAnswer, ReturnAnswer, SentAnswer, WaitingAnswer, Written};
@@ -57,6 +59,10 @@ fn by_library(case: &Case, count: u32) -> (String, Vec<u8>) {
         }
         Call::Receive { house, message } | Call::Pass { house, message } => {
             let call = |b: &mut [u8]| ffi::receive(b, *house, message);
+            make(count, case, call, Outcome::said)
+        }
+        Call::ReceiveEntry { house, message } => {
+            let call = |b: &mut [u8]| ffi::receive_entry(b, *house, message);
             make(count, case, call, Outcome::said)
         }
         Call::Return => make(count, case, |b| ffi::come_back(b), ReturnAnswer::said),
@@ -120,6 +126,10 @@ fn by_reference(case: &Case, count: u32) -> (String, Vec<u8>) {
             let receive = black_box(reference::receive as fn(&mut _, _, &[u8]) -> _);
             make(count, case, |b| receive(b, *house, message), |said| *said)
         }
+        Call::ReceiveEntry { house, message } => {
+            let receive = black_box(reference::receive_entry as fn(&mut _, _, &[u8]) -> _);
+            make(count, case, |b| receive(b, *house, message), |said| *said)
+        }
         Call::Return => {
             let come_back = black_box(reference::come_back as fn(&_) -> _);
             make(count, case, |b| come_back(b), |said| *said)
@@ -171,11 +181,40 @@ fn by_reference(case: &Case, count: u32) -> (String, Vec<u8>) {
     }
 }
 
+/// Receiving by the reference with the fast scan; of the other calls none.
+fn by_fast(case: &Case, count: u32) -> Option<(String, Vec<u8>)> {
+    type Receive = fn(&mut [u8], u32, &[u8]) -> fast::Outcome;
+    let (receive, house, message): (Receive, _, _) = match &case.call {
+        Call::Receive { house, message } => (fast::receive, house, message),
+        Call::Pass { house, message } => (fast::receive, house, message),
+        Call::ReceiveEntry { house, message } => (fast::receive_entry, house, message),
+        _ => return None,
+    };
+    let receive = black_box(receive);
+    Some(make(
+        count,
+        case,
+        |b| receive(b, *house, message),
+        |said| *said,
+    ))
+}
+
+/// Who makes the row's call. Where legality is subtracted, the fast scan makes no difference.
+fn sides(case: &Case) -> &'static str {
+    match (by_fast(case, 0), case.less) {
+        (Some(_), None) => "library reference fast",
+        _ => "library reference",
+    }
+}
+
 /// What an accepted call sends and delivers, for the table.
 fn gives(case: &Case) -> &'static str {
     let mut book = case.book.clone();
     let outcome = match &case.call {
         Call::Receive { house, message } => reference::receive(&mut book, *house, message),
+        Call::ReceiveEntry { house, message } => {
+            reference::receive_entry(&mut book, *house, message)
+        }
         Call::Publish => reference::publish(&mut book, NUMBER as u32, &DECLARATION),
         Call::Return => return "request",
         Call::Sent => return sent(&book),
@@ -197,12 +236,14 @@ fn sent(book: &[u8]) -> &'static str {
     sent.message.map_or("", |_| "READY")
 }
 
-/// Both sides gave the same, byte for byte, and the answer that the row names.
+/// All sides gave the same, byte for byte, and the answer that the row names.
 fn is_compared(case: &Case) -> bool {
     let library = by_library(case, 0);
     let answer = format!("{}", case.answer);
     let is_answer = library.0 == answer || library.0.contains(&format!("answer: {answer},"));
-    is_answer && (matches!(case.call, Call::Pass { .. }) || library == by_reference(case, 0))
+    is_answer
+        && (matches!(case.call, Call::Pass { .. }) || library == by_reference(case, 0))
+        && by_fast(case, 0).is_none_or(|fast| library == fast)
 }
 
 fn main() {
@@ -214,7 +255,7 @@ fn main() {
             for (row, case) in rows.iter().enumerate() {
                 assert!(
                     is_compared(case),
-                    "row {row}, {}: the two sides differ",
+                    "row {row}, {}: the sides differ",
                     case.what
                 );
                 if case.what.is_empty() {
@@ -227,19 +268,25 @@ fn main() {
                 };
                 let less = case.less.map_or(String::new(), |row| row.to_string());
                 let (what, holds, gives) = (&case.what, case.holds, gives(case));
-                println!("{row}|{less}|{what}|{n}|{holds}|{gives}");
+                println!("{row}|{less}|{}|{what}|{n}|{holds}|{gives}", sides(case));
             }
         }
         [row, side, count] => {
             let case = &rows[row.parse::<usize>().expect("a row's number")];
             let count = count.parse().expect("a count");
-            let side = match side {
-                "library" => by_library,
-                "reference" => by_reference,
-                _ => neither,
-            };
-            black_box(side(case, count));
+            black_box(match side {
+                "library" => by_library(case, count),
+                "reference" => by_reference(case, count),
+                "fast" => by_fast(case, count).expect("a row of receiving"),
+                _ => neither(case, count),
+            });
         }
-        _ => panic!("calls list, or calls ROW SIDE COUNT"),
+        [row, "time"] => {
+            let case = &rows[row.parse::<usize>().expect("a row's number")];
+            if let Some(ratios) = time::ratios(case) {
+                println!("{}", ratios.join(" | "));
+            }
+        }
+        _ => panic!("calls list, calls ROW SIDE COUNT, or calls ROW time"),
     }
 }
