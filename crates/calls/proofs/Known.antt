@@ -160,9 +160,9 @@ not-inside : (j n c s : ℕ) → (ltb j n && ltb c s) ≡ false → (n ≤ j) �
 not-inside j n c s f =
     elim (decLt j n) [
       | yes l ↦ elim (decLt c s) [
-          | yes g ↦ absurd (true≢false (sym (and-eq-true-iff (ltb j n) (ltb c s) .1 (lt-ltb j n l, lt-ltb c s g)) ∙ f))
-          | no g ↦ inr (omega arith)
-        ]
+        | yes g ↦ absurd (true≢false (sym (and-eq-true-iff (ltb j n) (ltb c s) .1 (lt-ltb j n l, lt-ltb c s g)) ∙ f))
+        | no g ↦ inr (omega arith)
+      ]
       | no l ↦ inl (omega arith)
     ]
 

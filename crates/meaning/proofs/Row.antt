@@ -216,10 +216,10 @@ module _ (b a : List ℕ) (j c : ℕ) (e : Entry) (r : Rowed b a j c e) where
       elim (decLt m (firstOf b j c)) [
         | yes l ↦ elsewhere (inl (omega arith))
         | no f ↦ elim (decLt m (pastOf b j c)) [
-            | yes l ↦ ap (λ (x : ℕ). slotOk a (slotPlace x m)) (sym (agree-n a b (r .stored .header)))
-                ∙ r .stored .sound .slots m (omega arith) l
-            | no g ↦ elsewhere (inr (omega arith))
-          ]
+          | yes l ↦ ap (λ (x : ℕ). slotOk a (slotPlace x m)) (sym (agree-n a b (r .stored .header)))
+              ∙ r .stored .sound .slots m (omega arith) l
+          | no g ↦ elsewhere (inr (omega arith))
+        ]
       ]
     where
       elsewhere : (slotPlace (nOf b) m + slotLength ≤ placeIn b j c 0) ⊎ (placeIn b j c (perEntry (nOf b)) ≤ slotPlace (nOf b) m)

@@ -46,7 +46,12 @@ pub fn hear_echo(book: &mut [u8], house: usize, base: usize, message: &[u8]) -> 
     if answer == 0 {
         slots::put_slot(book, at, octets::twenty_at(message, LOT));
         let gives = marks::echo_mark(book, base, octets::twenty_at(message, LOT));
-        marks::mark(book, layout::ready_sent_at(base, n), gives, octets::twenty_at(message, LOT));
+        marks::mark(
+            book,
+            layout::ready_sent_at(base, n),
+            gives,
+            octets::twenty_at(message, LOT),
+        );
         return Step {
             answer: 0,
             gives,
@@ -69,8 +74,18 @@ pub fn hear_ready(book: &mut [u8], house: usize, base: usize, message: &[u8]) ->
     if answer == 0 {
         slots::put_slot(book, at, octets::twenty_at(message, LOT));
         let m = marks::ready_marks(book, base, octets::twenty_at(message, LOT));
-        marks::mark(book, layout::ready_sent_at(base, n), m.gives, octets::twenty_at(message, LOT));
-        marks::mark(book, layout::delivered_at(base, n), m.delivers, octets::twenty_at(message, LOT));
+        marks::mark(
+            book,
+            layout::ready_sent_at(base, n),
+            m.gives,
+            octets::twenty_at(message, LOT),
+        );
+        marks::mark(
+            book,
+            layout::delivered_at(base, n),
+            m.delivers,
+            octets::twenty_at(message, LOT),
+        );
         return Step {
             answer: 0,
             gives: m.gives,

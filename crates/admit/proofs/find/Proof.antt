@@ -23,8 +23,7 @@ open-entry-requires c κs =
     let at-numbers-of = at-if2 .before in
     let at-if1 = at-numbers-of .before .before in
     let at-n-of = at-if1 .before in
-    let start = at-n-of .before .before .before .before in
-    (
+    let start = at-n-of .before .before .before .before in (
       start .pre .0,
       record {
         head = start .pre .0 .head;

@@ -24,8 +24,7 @@ weigh-requires c κs =
     let at-is-entry-legal = at-if1 .before in
     let at-entry-at = at-is-entry-legal .before .before in
     let start = at-entry-at .before .before .before .before in
-    let e = at-is-entry-legal .is-entry-legal .ensures ∙ ap₂ (entryLegal (now (start .args .book))) (start .pre .4) (start .pre .5) in
-    (
+    let e = at-is-entry-legal .is-entry-legal .ensures ∙ ap₂ (entryLegal (now (start .args .book))) (start .pre .4) (start .pre .5) in (
       start .pre .0,
       record { has = start .pre .1; entry = sym e ∙ at-if1 .if1 .taken },
       rw (start .pre .4, start .pre .5) at (at-entry-at .entry-at .ensures),

@@ -37,8 +37,7 @@ take-requires c κs =
     let b = now (a .book) in
     let m = now (a .message) in
     let ok = lot-plausible b m (start .pre .0) _ (a .d) _ (at-sheet-of .sheet-of .ensures) (start .pre .5)
-    (at-is-plausible .is-plausible .ensures) in
-    (
+    (at-is-plausible .is-plausible .ensures) in (
       record {
         comes = start .pre .0;
         fits = start .pre .1;

@@ -66,8 +66,7 @@ hear-requires c κs =
     let heard = at-read-message .before .before .before in
     let start = heard .before .before in
     let m = now (start .args .message) in
-    let F = read-formed m _ (sym (ap told (at-kind .kind .given .1)) ∙ at-read-message .read-message .ensures) in
-    (
+    let F = read-formed m _ (sym (ap told (at-kind .kind .given .1)) ∙ at-read-message .read-message .ensures) in (
       start .pre .0,
       start .pre .1,
       F .formed,

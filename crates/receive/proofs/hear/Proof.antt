@@ -17,8 +17,7 @@ find-requires : tie.Need-find-requires
 find-requires c κs =
     let at-if1 = c .before in
     let at-season-of = at-if1 .before in
-    let start = at-season-of .before .before .before .before in
-    (
+    let start = at-season-of .before .before .before .before in (
       record {
         head = start .pre .0;
         formed = start .pre .2;
