@@ -1,7 +1,7 @@
 -- A message, test by test as the code makes them: each refusal, and past them the step of its kind.
 use Prim.Native.Nat.{ℕ, _≤_, _<_}
-use mathlib.Core.Path.{_≡_, refl, sym, ap, _∙_, subst}
-use mathlib.Core.Bool.{Bool, true, false, cond, _&&_}
+use mathlib.Core.Path.{_≡_, sym, ap, _∙_, subst}
+use mathlib.Core.Bool.{Bool, true, false, cond}
 use mathlib.Core.List.{List}
 use mathlib.Core.Logic.{inr}
 use mathlib.Core.Option.{Option, some}
@@ -9,18 +9,18 @@ use native.Mathlib.Omega.{arith}
 use lib.ListN.{getD}
 use borrow.Author.Tests.{lt-ltb, le-ltb}
 use Rattle.lot.specs.declared.Declaration.{Declaration}
-use Rattle.lot.specs.Declaration.{declarationAt, bytesOf}
+use Rattle.lot.specs.Declaration.{declarationAt}
 use Rattle.lot.proofs.Declared.{numbers-of-bytes}
 use Rattle.sheet.specs.declared.Sheet.{Sheet}
 use Rattle.sheet.specs.Sheet.{plausible}
-use Rattle.message.specs.Message.{isKind, fiveAt}
+use Rattle.message.specs.Message.{fiveAt}
 use Rattle.message.proofs.Form.{known-kind}
 use Rattle.message.proofs.RoundTrip.{lot-bytes}
 use Rattle.entry.specs.Entry.{Decl, Kind, SEND, ECHO, READY}
 use Rattle.meaning.specs.Book.{nOf, numbersOf, sheetOf}
-use Rattle.meaning.specs.Legal.{IsDecl, Has, Fits, entryLegal}
+use Rattle.meaning.specs.Legal.{IsDecl, Has, entryLegal}
 use Rattle.calls.specs.Entered.{Result, result, okBy, kindOf, kindNumber}
-use Rattle.calls.specs.Call.{refusal, askedAs, asked}
+use Rattle.calls.specs.Call.{refusal, askedAs}
 use Rattle.calls.specs.ByEntry.{calledIn, answeringIn, heardOn}
 use Rattle.calls.proofs.KindNumber.{kind-known, kind-send, kind-echo, kind-ready, no-kind}
 use Rattle.calls.proofs.Declarations.{read-decl, plausible-ok}

@@ -6,17 +6,16 @@ use mathlib.Core.List.{List}
 use native.Mathlib.Decide.{decLt}
 use native.Mathlib.Omega.{arith}
 use native.Mathlib.Numerals.{add-one}
-use lib.Dec.{eqb, leb, ltb}
+use lib.Dec.{eqb, leb}
 use lib.ListN.{length, getD}
 use borrow.Author.Tests.{eqb-true, ne-eqb, le-leb, lt-leb}
-use Rattle.card.specs.Card.{housesOk, downOk}
 use Rattle.sheet.specs.Kept.{sheetLegalAt}
 use Rattle.entry.proofs.Basics.{T-of, true-of, and-l, and-r, and-mk, and-false}
 use Rattle.entry.proofs.Basics as basics
-use Rattle.meaning.specs.Layout.{numbersOk, mostLimit, helpedPlace, headLength, slotCount, lengthOf, slotPlace, limitPlace, sheetPlace}
+use Rattle.meaning.specs.Layout.{helpedPlace, headLength, slotCount, lengthOf, slotPlace, limitPlace, sheetPlace}
 use Rattle.meaning.specs.Layout.{placeFrom, perEntry}
 use Rattle.meaning.specs.Book.{nOf, numbersOf, ownOf, downOf, limitOf}
-use Rattle.meaning.specs.Legal.{helpsOk, helpOk, legal, headLegal, rowOk}
+use Rattle.meaning.specs.Legal.{helpsOk, legal, headLegal, rowOk}
 use Rattle.meaning.specs.Opening.{allowed}
 use Rattle.meaning.proofs.Legality.{legal-facts, legal-head, head-legal, head-facts, slots-row}
 use Rattle.meaning.proofs.Room.{head-room}
@@ -99,26 +98,21 @@ module _ (b : List ℕ) where
   helps = helpsOk b (limitOf b) (nOf b)
 
   head-is : headLegal b ≡ sized b && (helps && sheetLegalAt b sheetPlace)
-  unfolding headLegal sized allowed helpOk
+  unfolding headLegal sized
   head-is =
-      go (housesOk (nOf b)) (numbersOk (numbersOf b)) (ltb (ownOf b) (nOf b)) (eqb (length b) (lengthOf (nOf b) (numbersOf b)))
-      (sheetLegalAt b sheetPlace) (downOk (nOf b) (downOf b)) (leb (limitOf b) mostLimit) helps
+      go (allowed (nOf b) (numbersOf b) (ownOf b) (downOf b) (limitOf b)) (eqb (length b) (lengthOf (nOf b) (numbersOf b)))
+      (sheetLegalAt b sheetPlace) helps
     where
-      last : (x y a l e : Bool) → (x && (y && (a && (l && e)))) ≡ ((a && l) && x) && (e && y)
-      last x y a l e =
-          basics.both (x && (y && (a && (l && e)))) (((a && l) && x) && (e && y))
-          (λ t. let t₁ = and-r x _ t in let t₂ = and-r y _ t₁ in let t₃ = and-r a _ t₂ in
-          and-mk ((a && l) && x) _ (and-mk (a && l) x (and-mk a l (and-l a _ t₂) (and-l l e t₃)) (and-l x _ t))
-          (and-mk e y (and-r l e t₃) (and-l y _ t₁)))
-          (λ t. let p = and-l ((a && l) && x) _ t in let q = and-r ((a && l) && x) _ t in let o = and-l (a && l) x p in
-          and-mk x _ (and-r (a && l) x p) (and-mk y _ (and-r e y q) (and-mk a _ (and-l a l o) (and-mk l e (and-r a l o) (and-l e y q)))))
+      turned : (x y : Bool) → (x && y) ≡ (y && x)
+      turned true true = refl
+      turned true false = refl
+      turned false true = refl
+      turned false false = refl
 
-      go : (u v w x y a l e : Bool) → (u && (v && (w && (x && (y && (a && (l && e)))))))
-          ≡ (u && (v && (w && (a && l))) && x) && (e && y)
-      go true true true x y a l e = last x y a l e
-      go true true false x y a l e = refl
-      go true false w x y a l e = refl
-      go false v w x y a l e = refl
+      go : (a l x y : Bool) → (a && (l && (x && y))) ≡ (a && l) && (y && x)
+      go true true x y = turned x y
+      go true false x y = refl
+      go false l x y = refl
 
   abbrev slots : Bool
   slots = rowOk b (slotPlace (nOf b) 0) (slotCount (nOf b) (numbersOf b))

@@ -1,6 +1,6 @@
 -- A message on a book whose head and named entry are legal: what its step leaves is that entry's row, and on a legal book what receiving
 -- leaves.
-use Prim.Native.Nat.{ℕ, _≤_, _<_}
+use Prim.Native.Nat.{ℕ, _<_}
 use mathlib.Core.Path.{_≡_, refl, sym, ap, _∙_, subst}
 use mathlib.Core.Logic.{inr}
 use mathlib.Core.Bool.{Bool, true, false, cond}
@@ -10,18 +10,17 @@ use native.Mathlib.Omega.{arith}
 use borrow.Author.Tests.{eqb-true, eqb-false}
 use lib.Dec.{eqb}
 use Rattle.words.specs.Words.{Bytes}
-use Rattle.entry.specs.Entry.{Decl, Kind, SEND, ECHO, READY, Entry, heard, recorded, marked}
+use Rattle.entry.specs.Entry.{Decl, Kind, SEND, ECHO, READY, Entry, recorded, marked}
 use Rattle.entry.proofs.Basics.{T-of}
-use Rattle.protocol.specs.Steps.{Rules, Out, refused, takesSend, takesEcho, takesReady, takes, may, recording, reached}
-use Rattle.protocol.specs.Book.{Call, receiving}
-use Rattle.protocol.specs.Thresholds.{rulesOf}
+use Rattle.protocol.specs.Steps.{Rules, Out, refused, takesSend, takesEcho, takesReady, takes, may, reached}
+use Rattle.protocol.specs.Book.{receiving}
 use Rattle.meaning.specs.Layout.{slotCount}
 use Rattle.meaning.specs.Book.{nOf, numbersOf, ownOf, seasonOf, sheetOf, headerOf, look, withRow, meant}
 use Rattle.meaning.specs.Legal.{legal, Fits, IsDecl}
 use Rattle.meaning.proofs.Stores.{Stored, stored-none, stored-whole, stored-taken, legal-sound}
 use Rattle.meaning.proofs.Row.{Rowed, rowed-bytes, rowed-taken, rowed-none, laid}
 use Rattle.calls.specs.declared.Outcome.{Outcome}
-use Rattle.calls.specs.Entered.{Result, result, handed, letters, okBy, rulesBy, entered}
+use Rattle.calls.specs.Entered.{handed, letters, okBy, rulesBy, entered}
 use Rattle.calls.specs.Call.{refusal, stepOf, called}
 use Rattle.calls.specs.ByEntry.{enteredIn, calledIn}
 use Rattle.calls.proofs.Entered.{entered-is}

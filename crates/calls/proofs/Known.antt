@@ -1,6 +1,6 @@
 -- Receiving by entry keeps what it tests, and every byte outside the named entry; its refusals are silent, and its answers come in order.
 use Prim.Native.Nat.{ℕ, _≤_, _<_}
-use mathlib.Core.Path.{_≡_, refl, sym, ap, _∙_, subst}
+use mathlib.Core.Path.{_≡_, refl, sym, ap, _∙_}
 use mathlib.Core.Logic.{_⊎_, inl, inr, ⊎-elim}
 use mathlib.Core.Bool.{Bool, true, false, cond, _&&_, and-eq-true-iff, true≢false}
 use mathlib.Core.List.{List}
@@ -19,15 +19,14 @@ use Rattle.message.proofs.RoundTrip.{read-known}
 use Rattle.entry.specs.Entry.{Decl, Kind}
 use Rattle.protocol.specs.Steps.{Out}
 use Rattle.protocol.specs.Book.{Call, receiving, senderOf, numberOf}
-use Rattle.meaning.specs.Layout.{perEntry, helpedPlace}
-use Rattle.meaning.specs.Book.{Meaning, nOf, numbersOf, ownOf, seasonOf, headerOf, look, placeIn, countHelp, meant}
+use Rattle.meaning.specs.Layout.{helpedPlace}
+use Rattle.meaning.specs.Book.{Meaning, nOf, numbersOf, ownOf, seasonOf, headerOf, countHelp, meant}
 use Rattle.meaning.specs.Legal.{legal, headLegal, entryLegal, Lent, Has, Fits}
 use Rattle.meaning.proofs.Legality.{legal-head, legal-entry}
 use Rattle.meaning.proofs.Helped.{help-head, help-entry, help-meant}
-use Rattle.meaning.proofs.Row.{Rowed, rowed-same, rowed-others, rowed-look}
-use Rattle.calls.specs.declared.Outcome.{Outcome}
-use Rattle.calls.specs.Entered.{Result, result, handed, helping, kindOf}
-use Rattle.calls.specs.Call.{refusal, stepOf, called, asked, askedAs, answering, heardAny, requestAnswer, requested, received}
+use Rattle.meaning.proofs.Row.{rowed-same, rowed-others, rowed-look}
+use Rattle.calls.specs.Entered.{Result, handed, helping, kindOf}
+use Rattle.calls.specs.Call.{refusal, stepOf, asked, askedAs, answering, heardAny, requestAnswer, requested, received}
 use Rattle.calls.specs.Silent.{Refuses}
 use Rattle.calls.specs.ByEntry.{enteredIn, calledIn, answeringIn, heardOn, heardIn, anyIn, receivedEntry, Outside, Stepped, Answers, ByEntry}
 use Rattle.calls.proofs.KindNumber.{kind-known}

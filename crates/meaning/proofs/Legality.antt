@@ -14,6 +14,7 @@ use Rattle.meaning.specs.Slot.{slotOk}
 use Rattle.meaning.specs.Layout.{numbersOk, mostLimit, helpedPlace, headLength, slotCount, lengthOf, slotPlace, slotLength}
 use Rattle.meaning.specs.Layout.{sheetPlace, placeFrom, perEntry, entrySlot}
 use Rattle.meaning.specs.Book.{nOf, numbersOf, ownOf, downOf, limitOf, placeIn}
+use Rattle.meaning.specs.Opening.{allowed}
 use Rattle.meaning.specs.Legal.{slotsOk, helpsOk, helpOk, legal, Legal, headLegal, Head, rowOk, entryLegal}
 use Rattle.meaning.proofs.Places.{length-header, slot-within, entry-slot-below}
 
@@ -106,36 +107,38 @@ module _ (b : List ℕ) where
 
   -- the head's facts: those of a legal book but its slots
   pub head-facts : headLegal b ≡ true → Head b
-  unfolding headLegal
+  unfolding headLegal allowed
   head-facts h =
-      let last : Bool = downOk (nOf b) (downOf b) && helpOk b in
-      let from-sheet : Bool = sheetLegalAt b sheetPlace && last in
-      let from-long : Bool = eqb (length b) (lengthOf (nOf b) (numbersOf b)) && from-sheet in
-      let from-own : Bool = ltb (ownOf b) (nOf b) && from-long in
-      let p = and-eq-true-iff (housesOk (nOf b)) (numbersOk (numbersOf b) && from-own) .0 h in
+      let last : Bool = downOk (nOf b) (downOf b) && leb (limitOf b) mostLimit in
+      let from-own : Bool = ltb (ownOf b) (nOf b) && last in
+      let rest : Bool = sheetLegalAt b sheetPlace && helpsOk b (limitOf b) (nOf b) in
+      let numbers : Bool = numbersOk (numbersOf b) && from-own in
+      let long : Bool = eqb (length b) (lengthOf (nOf b) (numbersOf b)) in
+      let both = and-eq-true-iff (housesOk (nOf b) && numbers) (long && rest) .0 h in
+      let p = and-eq-true-iff (housesOk (nOf b)) numbers .0 (both .0) in
       let q = and-eq-true-iff (numbersOk (numbersOf b)) from-own .0 (p .1) in
-      let r = and-eq-true-iff (ltb (ownOf b) (nOf b)) from-long .0 (q .1) in
-      let s = and-eq-true-iff (eqb (length b) (lengthOf (nOf b) (numbersOf b))) from-sheet .0 (r .1) in
-      let t = and-eq-true-iff (sheetLegalAt b sheetPlace) last .0 (s .1) in
-      let u = and-eq-true-iff (downOk (nOf b) (downOf b)) (helpOk b) .0 (t .1) in
-      let w = help-facts (u .1) in
+      let r = and-eq-true-iff (ltb (ownOf b) (nOf b)) last .0 (q .1) in
+      let s = and-eq-true-iff (downOk (nOf b) (downOf b)) (leb (limitOf b) mostLimit) .0 (r .1) in
+      let t = and-eq-true-iff long rest .0 (both .1) in
+      let u = and-eq-true-iff (sheetLegalAt b sheetPlace) (helpsOk b (limitOf b) (nOf b)) .0 (t .1) in
       record {
         n = p .0;
         numbers = q .0;
         own = ltb-true (ownOf b) (nOf b) (r .0);
-        long = eqb-true (length b) (lengthOf (nOf b) (numbersOf b)) (s .0);
-        sheet = t .0;
-        down = u .0;
-        limit = w .0;
-        helped = w .1;
+        long = eqb-true (length b) (lengthOf (nOf b) (numbersOf b)) (t .0);
+        sheet = u .0;
+        down = s .0;
+        limit = leb-true (limitOf b) mostLimit (s .1);
+        helped = helps-at (limitOf b) (nOf b) (u .1);
       }
 
   pub facts-head : Head b → headLegal b ≡ true
-  unfolding headLegal
+  unfolding headLegal allowed
   facts-head l =
       let own = lt-ltb (ownOf b) (nOf b) (l .own) in
       let long = eq-eqb (length b) (lengthOf (nOf b) (numbersOf b)) (l .long) in
-      rw (l .n, l .numbers, own, long, l .sheet, l .down, facts-help (l .limit, l .helped))
+      let limit = le-leb (limitOf b) mostLimit (l .limit) in
+      rw (l .n, l .numbers, own, l .down, limit, long, l .sheet) (helps-all (limitOf b) (nOf b) (l .helped))
 
   -- a legal book is a legal head, and its slots
   pub legal-parts : Legal b → Head b

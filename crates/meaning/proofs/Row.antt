@@ -12,7 +12,7 @@ use Rattle.words.specs.Words.{Bytes}
 use Rattle.entry.specs.Entry.{Decl, Entry, Kind, SEND, ECHO, READY, recorded, marked}
 use Rattle.meaning.specs.Slot.{part, slotAt, slotOk, slotBytes, putSlot}
 use Rattle.meaning.specs.Layout.{slotLength, perEntry, slotPlace, entrySlot, heardSlot, readySentSlot, deliveredSlot}
-use Rattle.meaning.specs.Book.{nOf, numbersOf, ownOf, headerOf, look, placeIn, entryBytes, withRow}
+use Rattle.meaning.specs.Book.{nOf, numbersOf, headerOf, look, placeIn, entryBytes, withRow}
 use Rattle.meaning.specs.Legal.{Has, Fits, IsDecl, entryLegal}
 use Rattle.meaning.proofs.Legality.{entry-at, entry-all}
 use Rattle.meaning.proofs.Parts.{getD-first}

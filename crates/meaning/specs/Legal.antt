@@ -13,6 +13,7 @@ use Rattle.sheet.specs.Kept.{sheetLegalAt}
 use Rattle.entry.specs.Entry.{Decl, Entry, fresh, PerEntry}
 use Rattle.meaning.specs.Slot.{slotOk}
 use Rattle.meaning.specs.Layout.{numbersOk, mostLimit, sheetPlace, helpedPlace, slotCount, lengthOf, slotPlace, perEntry, placeFrom}
+use Rattle.meaning.specs.Opening.{allowed}
 use Rattle.meaning.specs.Book.{Header, Help, Meaning, nOf, numbersOf, ownOf, downOf, limitOf, placeIn}
 
 -- the first k slots of a book of n houses have one byte form per meaning
@@ -54,12 +55,12 @@ pub record Legal (b : List ℕ) : Type 0 where
 
 -- ---- what receiving by entry tests: the head, and the slots of one entry
 
--- all that is asked of a legal book but its slots
+-- all that is asked of a legal book but its slots: n, S, own number, f and d that opening allows, the length, the sheet, the help given
 unfoldable pub headLegal : List ℕ → Bool
-unfolding helpOk
+unfolding helpsOk
 headLegal b =
-    housesOk (nOf b) && (numbersOk (numbersOf b) && (ltb (ownOf b) (nOf b)
-    && (eqb (length b) (lengthOf (nOf b) (numbersOf b)) && (sheetLegalAt b sheetPlace && (downOk (nOf b) (downOf b) && helpOk b)))))
+    allowed (nOf b) (numbersOf b) (ownOf b) (downOf b) (limitOf b)
+    && (eqb (length b) (lengthOf (nOf b) (numbersOf b)) && (sheetLegalAt b sheetPlace && helpsOk b (limitOf b) (nOf b)))
 
 -- the same, as facts
 pub record Head (b : List ℕ) : Type 0 where

@@ -20,12 +20,12 @@ use reply::Step;
 // Where the season stands in a message and in a request.
 const SEASON: usize = 7;
 
-// A request: 3, then 4 and 14.
-fn ask(book: &mut [u8], house: u32, season: u32) -> Outcome
+// A request, by the season that it names: 3, then 4 and 14.
+fn ask(book: &mut [u8], house: u32, named: u32) -> Outcome
     requires { ⌜ headLegal (now book) ≡ true ⌝ }
-    ensures { λ r. ⌜ result r (now (book .exit)) ≡ requested (now (book .entry)) house season ⌝ }
+    ensures { λ r. ⌜ result r (now (book .exit)) ≡ requested (now (book .entry)) house named ⌝ }
 {
-    if season == layout::season_of(book) {
+    if named == layout::season_of(book) {
         return help::hear_request(book, house);
     }
     reply::refuse(3)

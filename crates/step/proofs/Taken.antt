@@ -1,9 +1,8 @@
 -- An accepted message at the bytes: what the code stores, gives and delivers is the protocol's step on the entry.
 use Prim.Native.Nat.{ℕ, _+_, _*_, _<_}
-use mathlib.Core.Path.{_≡_, refl, sym, ap, _∙_}
-use mathlib.Core.Bool.{Bool, true, false, _&&_}
+use mathlib.Core.Path.{_≡_, sym, ap, _∙_}
+use mathlib.Core.Bool.{Bool, false, _&&_}
 use mathlib.Core.List.{List}
-use native.Mathlib.Omega.{arith}
 use lib.Dec.{leb}
 use Rattle.card.specs.Card.{quorum, amplify, deliver, countsOf}
 use Rattle.card.specs.Count.{count}

@@ -2,7 +2,6 @@
 use Rattle.meaning.proofs.Legality.{legal-entry, entry-row}
 use denote.Ref.{now}
 use mathlib.Core.Path.{sym, _∙_}
-use borrow.Author.Needs.{needs}
 use Rattle.admit.proofs.is_entry_legal.Statement.{statement}
 use Rattle.admit.proofs.is_entry_legal.Tie as tie
 

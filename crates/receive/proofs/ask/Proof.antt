@@ -25,7 +25,7 @@ returns c =
     let at-season-of = at-if1 .before in
     let start = at-season-of .before .before .before in
     let a = start .args in
-    request-asked (now (a .book)) (a .house) (a .season) _ (at-season-of .season-of .ensures) (at-if1 .if1 .taken) _
+    request-asked (now (a .book)) (a .house) (a .named) _ (at-season-of .season-of .ensures) (at-if1 .if1 .taken) _
     (at-hear-request .hear-request .ensures)
 
 refuse-requires : tie.Need-refuse-requires
@@ -41,7 +41,7 @@ returns-2 c =
     let at-season-of = at-if1 .before in
     let start = at-season-of .before .before .before in
     let a = start .args in
-    request-other (now (a .book)) (a .house) (a .season) _ (at-season-of .season-of .ensures) (at-if1 .if1 .left) _
+    request-other (now (a .book)) (a .house) (a .named) _ (at-season-of .season-of .ensures) (at-if1 .if1 .left) _
     (at-refuse .refuse .ensures)
 
 pub ask-spec : {M : Type 1} → statement M

@@ -3,7 +3,6 @@ use mathlib.Core.Path.{_∙_}
 use lib.ListN.{replicate}
 use mathlib.Core.Bool.{true, false}
 use Rattle.calls.proofs.Entered.{letter-bytes}
-use borrow.Author.Needs.{needs}
 use Rattle.reply.proofs.announce.Statement.{statement}
 use Rattle.reply.proofs.announce.Tie as tie
 
