@@ -28,7 +28,8 @@ use Rattle.meaning.proofs.Row.{rowed-same, rowed-others, rowed-look}
 use Rattle.calls.specs.Entered.{Result, handed, helping, kindOf}
 use Rattle.calls.specs.Call.{refusal, stepOf, asked, askedAs, answering, heardAny, requestAnswer, requested, received}
 use Rattle.calls.specs.Silent.{Refuses}
-use Rattle.calls.specs.ByEntry.{enteredIn, calledIn, answeringIn, heardOn, heardIn, anyIn, receivedEntry, Outside, Stepped, Answers, ByEntry}
+use Rattle.calls.specs.ByEntry.{enteredIn, calledIn, answeringIn, heardOn, heardIn, anyIn, receivedEntry, Outside, Stepped}
+use Rattle.calls.specs.ByEntry.{Answers, ByEntry}
 use Rattle.calls.proofs.KindNumber.{kind-known}
 use Rattle.calls.proofs.Checking.{missing, called-refused}
 use Rattle.calls.proofs.Requests.{request-from, request-low}
@@ -91,7 +92,8 @@ module _ (b : List ℕ) (bytes : Bytes b) where
     kept-on m = inside (ltb (m .sender) (nOf b) && ltb (m .number) (numbersOf b)) refl (entryLegal b (m .sender) (m .number)) refl
       where
         answers : Fits b (m .sender) (m .number) → (k : Option Kind)
-            → Kept b (answeringIn b (askedAs p (m .sender) (m .number) (bytesOf (m .declaration)) k) .book) (Outside b (m .sender) (m .number))
+            → Kept b (answeringIn b (askedAs p (m .sender) (m .number) (bytesOf (m .declaration)) k) .book)
+            (Outside b (m .sender) (m .number))
         answers fits none = kept-none (Outside b (m .sender) (m .number))
         answers fits (some k) =
             kept-left _ (m .sender) (m .number) (stepOf b (receiving p k (m .sender) (m .number) (bytesOf (m .declaration))))

@@ -23,7 +23,7 @@ refusal answer b = record { given = handed answer none none; book = b }
 abbrev pub carried : List ℕ → (sender number : ℕ) → Out → Result
 carried b j c o = cond (eqb (o .answer) 0) (entered b j c o) (refusal (o .answer) b)
 
--- the protocol's step on what a legal book means: 4 to 8
+-- the protocol's step on what the bytes mean: 4 to 8
 unfoldable pub stepOf : List ℕ → Call → Out
 unfolding rulesBy
 stepOf b a =

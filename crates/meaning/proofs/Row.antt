@@ -19,7 +19,8 @@ use Rattle.meaning.proofs.Parts.{getD-first}
 use Rattle.meaning.proofs.Agree.{agree-n, agree-numbers}
 use Rattle.meaning.proofs.Places.{send-below, echo-below, ready-below, ready-sent-below, delivered-below}
 use Rattle.meaning.proofs.Room.{entry-room}
-use Rattle.meaning.proofs.Stores.{Sound, StoredIn, firstOf, pastOf, fits-sound, sound-entry, stored-in-entry, stored-nothing, stored-taken}
+use Rattle.meaning.proofs.Stores.{Sound, StoredIn, firstOf, pastOf, fits-sound, sound-entry}
+use Rattle.meaning.proofs.Stores.{stored-in-entry, stored-nothing, stored-taken}
 use Rattle.meaning.proofs.Rows.{rows-parts}
 use Rattle.meaning.proofs.Written.{entry-rows}
 use Rattle.meaning.proofs.Look.{look-at}

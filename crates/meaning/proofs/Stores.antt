@@ -290,12 +290,14 @@ module _ (from to : ℕ) (b : List ℕ) (sound : Sound from to b) (v : Decl) (d 
 
       -- the READY sent marked, where r says so; the delivered, where r says so
       stored-ready-sent : (r : Bool)
-          → StoredIn from to b (cond r (putSlot b (slotPlace n (entrySlot n s c j (readySentSlot n))) v) b) j c (marked r false v (look b j c))
+          → StoredIn from to b (cond r (putSlot b (slotPlace n (entrySlot n s c j (readySentSlot n))) v) b) j c
+          (marked r false v (look b j c))
       stored-ready-sent true = stored-in (readySentSlot n) (marked true false v) (ready-sent-below n) (λ row o. ready-sent-filled n row o v)
       stored-ready-sent false = stored-nothing b j c from to sound
 
       stored-delivered : (r : Bool)
-          → StoredIn from to b (cond r (putSlot b (slotPlace n (entrySlot n s c j (deliveredSlot n))) v) b) j c (marked false r v (look b j c))
+          → StoredIn from to b (cond r (putSlot b (slotPlace n (entrySlot n s c j (deliveredSlot n))) v) b) j c
+          (marked false r v (look b j c))
       stored-delivered true = stored-in (deliveredSlot n) (marked false true v) (delivered-below n) (λ row o. delivered-filled n row o v)
       stored-delivered false = stored-nothing b j c from to sound
 

@@ -12,7 +12,8 @@ use Rattle.entry.specs.Entry.{Decl, Entry, fresh, PerEntry}
 use Rattle.entry.specs.Lists.{upd}
 use Rattle.meaning.specs.Slot.{slotBytes, slotAt}
 use Rattle.meaning.specs.Layout.{nPlace, numbersPlace, ownPlace, seasonPlace, sheetPlace, downPlace, limitPlace, helpedPlace}
-use Rattle.meaning.specs.Layout.{slotPlace, perEntry, publishedSlot, entrySlot, sendSlot, echoSlot, readySlot, readySentSlot, deliveredSlot}
+use Rattle.meaning.specs.Layout.{slotPlace, perEntry, publishedSlot, entrySlot, sendSlot, echoSlot, readySlot, readySentSlot}
+use Rattle.meaning.specs.Layout.{deliveredSlot}
 
 -- n, S, own number, season, sheet and f: all that publishing, and receiving a message, read beside the entry
 pub record Header : Type 0 where

@@ -27,7 +27,7 @@ pub fn read_message(bytes: &[u8]) -> Reading
     Reading::Malformed
 }
 
-// What reading gives, as numbers and bytes: the one place where the reader's cases are taken apart.
+// What reading gives, as numbers and bytes, for who reads and does not receive.
 pub fn parts_of(bytes: &[u8]) -> ReadAnswer
     ensures { λ r. ⌜ r ≡ readAnswer (requestOf (now (bytes .entry))) (readOf (now (bytes .entry))) ⌝ }
 {

@@ -1,4 +1,5 @@
--- What the code leaves and gives for a message is the protocol's step, entered in its entry's row; what it refuses is what recording answers.
+-- What the code leaves and gives for a message is the protocol's step, entered in its entry's row; what it refuses is what recording
+-- answers.
 use Prim.Native.Nat.{ℕ, _<_}
 use mathlib.Core.Path.{_≡_, refl, sym, ap, ap₂, _∙_, subst}
 use mathlib.Core.Bool.{Bool, true, false, cond}

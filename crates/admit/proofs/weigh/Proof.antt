@@ -91,8 +91,8 @@ returns-3 c =
     let at-n-of = at-if1 .before in
     let start = at-n-of .before .before .before .before in
     let a = start .args in
-    stranger-heard (now (a .book)) (now (a .message)) (start .pre .0) (a .house) (omega (arith, at-n-of .n-of .ensures .0, at-if1 .if1 .left))
-    _ (at-refused2 .refused2 .ensures)
+    stranger-heard (now (a .book)) (now (a .message)) (start .pre .0) (a .house)
+    (omega (arith, at-n-of .n-of .ensures .0, at-if1 .if1 .left)) _ (at-refused2 .refused2 .ensures)
 
 pub weigh-spec : {M : Type 1} → statement M
 weigh-spec =

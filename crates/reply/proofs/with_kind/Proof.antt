@@ -37,7 +37,8 @@ loop-again c =
     let l = c .before .before .loop in
     let here : l .i ≡ 0 + l .i = omega arith in (
       search needs,
-      copied-more (l .out) m 0 (l .i) _ (omega (arith, l .inv .2, c .before .loop-test .taken)) (ap (λ (k : ℕ). getD m k 0) here) (l .inv .1),
+      copied-more (l .out) m 0 (l .i) _ (omega (arith, l .inv .2, c .before .loop-test .taken)) (ap (λ (k : ℕ). getD m k 0) here)
+          (l .inv .1),
       simp length-set (l .inv .2),
     )
 
@@ -50,7 +51,8 @@ returns c =
     let l = c .before .loop in
     let m = start .args .message .now in
     let e : l .i ≡ 36 = omega (arith, l .inv .0, c .loop-test .left) in
-    let all = copied-all (l .out) m 0 36 (l .inv .2) (omega (arith, start .pre)) (rw e at (l .inv .1)) ∙ take-all 36 m (omega (arith, start .pre)) in
+    let first = copied-all (l .out) m 0 36 (l .inv .2) (omega (arith, start .pre)) (rw e at (l .inv .1)) in
+    let all = first ∙ take-all 36 m (omega (arith, start .pre)) in
     ap (λ (x : List ℕ). set x 3 (start .args .kind)) all
 
 pub with-kind-spec : {M : Type 1} → statement M

@@ -13,7 +13,7 @@ use borrow.Author.Needs.{needs}
 use Rattle.slots.proofs.are_slots_ok.Statement.{statement}
 use Rattle.slots.proofs.are_slots_ok.Tie as tie
 use Rattle.slots.proofs.are_slots_ok.Reads as reads
-use Rattle.slots.proofs.are_slots_ok.Lts as lts
+use Rattle.slots.proofs.are_slots_ok.Lts as ways
 use Rattle.slots.proofs.gather_row.Reads as gather-row-reads
 
 abbrev Inv-loop : tie.InvT-loop
@@ -62,7 +62,7 @@ gather-row-requires-2 : tie.Need-gather-row-requires-2 Inv-loop μ-loop
 gather-row-requires-2 c κs = search needs
 
 -- where the first two tests of the strays meet: with the third they are the row's test
-tested : (c : lts.Joined1 (gather-row-reads.Asked, gather-row-reads.Learnt) reads.Pre reads.Post Inv-loop μ-loop)
+tested : (c : ways.Joined1 (gather-row-reads.Asked, gather-row-reads.Learnt) reads.Pre reads.Post Inv-loop μ-loop)
     → let all = c .before .before in
     let args = all .before .before .before .before .args in
     (c .if1 .if2 && eqb (all .gather-row2 .result .last) 0) ≡ rowOk (args .b .now) (args .at) (args .k)

@@ -26,7 +26,9 @@ record-answer-requires c κs =
     let at-echo-at = c .before .before in
     let at-n-of = at-echo-at .before in
     let start = at-n-of .before .before .before .before in
-    omega (arith, slot-room _ _ _ (start .pre .0 .begins .within) (echo-below (nOf (now (start .args .book))) (start .args .house) (start .pre .1)), at-echo-at .echo-at .ensures, at-n-of .n-of .ensures .0)
+    let below = echo-below (nOf (now (start .args .book))) (start .args .house) (start .pre .1) in
+    let room = slot-room _ _ _ (start .pre .0 .begins .within) below in
+    omega (arith, room, at-echo-at .echo-at .ensures, at-n-of .n-of .ensures .0)
 
 twenty-at-requires-2 : tie.Need-twenty-at-requires-2
 twenty-at-requires-2 c κs =
@@ -38,7 +40,9 @@ put-slot-requires c κs =
     let at-echo-at = c .before .before .before .before .before .before in
     let at-n-of = at-echo-at .before in
     let start = at-n-of .before .before .before .before in
-    omega (arith, slot-room _ _ _ (start .pre .0 .begins .within) (echo-below (nOf (now (start .args .book))) (start .args .house) (start .pre .1)), at-echo-at .echo-at .ensures, at-n-of .n-of .ensures .0)
+    let below = echo-below (nOf (now (start .args .book))) (start .args .house) (start .pre .1) in
+    let room = slot-room _ _ _ (start .pre .0 .begins .within) below in
+    omega (arith, room, at-echo-at .echo-at .ensures, at-n-of .n-of .ensures .0)
 
 twenty-at-requires-3 : tie.Need-twenty-at-requires-3
 twenty-at-requires-3 c κs =
@@ -65,7 +69,8 @@ ready-sent-at-requires c κs = search needs
 
 twenty-at-requires-4 : tie.Need-twenty-at-requires-4
 twenty-at-requires-4 c κs =
-    let start = c .before .before .before .before .before .before .before .before .before .before .before .before .before .before .before .before .before .before .before in
+    let halfway = c .before .before .before .before .before .before .before .before .before in
+    let start = halfway .before .before .before .before .before .before .before .before .before .before in
     omega (arith, sized (now (start .args .message)) (start .pre .0 .comes .formed))
 
 mark-requires : tie.Need-mark-requires

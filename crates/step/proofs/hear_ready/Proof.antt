@@ -26,7 +26,9 @@ record-answer-requires c κs =
     let at-ready-at = c .before .before in
     let at-n-of = at-ready-at .before in
     let start = at-n-of .before .before .before .before in
-    omega (arith, slot-room _ _ _ (start .pre .0 .begins .within) (ready-below (nOf (now (start .args .book))) (start .args .house) (start .pre .1)), at-ready-at .ready-at .ensures, at-n-of .n-of .ensures .0)
+    let below = ready-below (nOf (now (start .args .book))) (start .args .house) (start .pre .1) in
+    let room = slot-room _ _ _ (start .pre .0 .begins .within) below in
+    omega (arith, room, at-ready-at .ready-at .ensures, at-n-of .n-of .ensures .0)
 
 twenty-at-requires-2 : tie.Need-twenty-at-requires-2
 twenty-at-requires-2 c κs =
@@ -38,7 +40,9 @@ put-slot-requires c κs =
     let at-ready-at = c .before .before .before .before .before .before in
     let at-n-of = at-ready-at .before in
     let start = at-n-of .before .before .before .before in
-    omega (arith, slot-room _ _ _ (start .pre .0 .begins .within) (ready-below (nOf (now (start .args .book))) (start .args .house) (start .pre .1)), at-ready-at .ready-at .ensures, at-n-of .n-of .ensures .0)
+    let below = ready-below (nOf (now (start .args .book))) (start .args .house) (start .pre .1) in
+    let room = slot-room _ _ _ (start .pre .0 .begins .within) below in
+    omega (arith, room, at-ready-at .ready-at .ensures, at-n-of .n-of .ensures .0)
 
 twenty-at-requires-3 : tie.Need-twenty-at-requires-3
 twenty-at-requires-3 c κs =
@@ -65,7 +69,8 @@ ready-sent-at-requires c κs = search needs
 
 twenty-at-requires-4 : tie.Need-twenty-at-requires-4
 twenty-at-requires-4 c κs =
-    let start = c .before .before .before .before .before .before .before .before .before .before .before .before .before .before .before .before .before .before .before in
+    let halfway = c .before .before .before .before .before .before .before .before .before in
+    let start = halfway .before .before .before .before .before .before .before .before .before .before in
     omega (arith, sized (now (start .args .message)) (start .pre .0 .comes .formed))
 
 mark-requires : tie.Need-mark-requires
@@ -84,13 +89,15 @@ mark-requires c κs =
 
 delivered-at-requires : tie.Need-delivered-at-requires
 delivered-at-requires c κs =
-    let at-n-of = c .before .before .before .before .before .before .before .before .before .before .before .before .before .before .before .before .before .before .before .before in
+    let halfway = c .before .before .before .before .before .before .before .before .before .before in
+    let at-n-of = halfway .before .before .before .before .before .before .before .before .before .before in
     let start = at-n-of .before .before .before .before in
     (start .pre .0 .begins .within .small, at-n-of .n-of .ensures .1)
 
 twenty-at-requires-5 : tie.Need-twenty-at-requires-5
 twenty-at-requires-5 c κs =
-    let start = c .before .before .before .before .before .before .before .before .before .before .before .before .before .before .before .before .before .before .before .before .before .before .before .before .before in
+    let halfway = c .before .before .before .before .before .before .before .before .before .before .before .before in
+    let start = halfway .before .before .before .before .before .before .before .before .before .before .before .before .before in
     omega (arith, sized (now (start .args .message)) (start .pre .0 .comes .formed))
 
 mark-requires-2 : tie.Need-mark-requires-2
@@ -136,7 +143,8 @@ returns c =
     (at-twenty-at .twenty-at .ensures) (at-record-answer .record-answer .ensures) (λ i. omega (arith, known .slice-known .given i)) _
     (at-twenty-at2 .twenty-at2 .ensures) _ (at-put-slot .put-slot .ensures) _ (at-ready-sent-at .ready-sent-at .ensures) _ _
     (at-twenty-at3 .twenty-at3 .ensures) (at-twenty-at4 .twenty-at4 .ensures) _ (at-if1 .if1 .taken) (at-ready-at .ready-at .ensures) _
-    (at-ready-marks .ready-marks .ensures) (at-mark .mark .ensures) _ (at-delivered-at .delivered-at .ensures) _ (at-twenty-at5 .twenty-at5 .ensures) _ (at-mark2 .mark2 .ensures)
+    (at-ready-marks .ready-marks .ensures) (at-mark .mark .ensures) _ (at-delivered-at .delivered-at .ensures) _
+    (at-twenty-at5 .twenty-at5 .ensures) _ (at-mark2 .mark2 .ensures)
 
 refused-requires : tie.Need-refused-requires
 refused-requires c κs = search needs
@@ -154,8 +162,9 @@ returns-2 c =
     let at-n-of = at-ready-at .before in
     let start = at-n-of .before .before .before .before in
     let a = start .args in
-    ready-refused (now (a .book)) (now (a .message)) (a .base) (start .pre .0) (a .house) (start .pre .1) _ _ _ _ (at-n-of .n-of .ensures .0)
-    (at-twenty-at .twenty-at .ensures) (at-record-answer .record-answer .ensures) (at-ready-at .ready-at .ensures) (at-if1 .if1 .left) _
+    ready-refused (now (a .book)) (now (a .message)) (a .base) (start .pre .0) (a .house) (start .pre .1) _ _ _ _
+    (at-n-of .n-of .ensures .0) (at-twenty-at .twenty-at .ensures) (at-record-answer .record-answer .ensures)
+    (at-ready-at .ready-at .ensures) (at-if1 .if1 .left) _
     (at-refused .refused .ensures)
 
 pub hear-ready-spec : {M : Type 1} → statement M
