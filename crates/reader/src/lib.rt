@@ -3,20 +3,30 @@ ghost use mathlib.Core.Path.{_≡_};
 ghost use Rattle.message.specs.Message.{readOf, told, requestOf};
 ghost use Rattle.message.specs.Read.{readAnswer};
 use fields::MALFORMED;
-use lot::Declaration;
 use message::ReadAnswer;
 use message::Reading;
+
+// Where the kind, the season, the sender, the number and the declaration stand.
+const KIND: usize = 3;
+
+const SEASON: usize = 7;
+
+const SENDER: usize = 11;
+
+const NUMBER: usize = 12;
+
+const LOT: usize = 16;
 
 pub fn read_message(bytes: &[u8]) -> Reading
     ensures { λ r. ⌜ told r ≡ readOf (now (bytes .entry)) ⌝ }
 {
     if fields::is_well_formed(bytes) {
-        let d = octets::declaration_at(bytes, 16);
+        let d = octets::declaration_at(bytes, LOT);
         return Reading::Message {
-            kind: bytes[3],
-            season: octets::word_at(bytes, 7),
-            sender: bytes[11],
-            number: bytes[12],
+            kind: bytes[KIND],
+            season: octets::word_at(bytes, SEASON),
+            sender: bytes[SENDER],
+            number: bytes[NUMBER],
             lot: d.lot,
             colonies: d.colonies,
             kilograms: d.kilograms,
@@ -35,46 +45,28 @@ pub fn parts_of(bytes: &[u8]) -> ReadAnswer
         return ReadAnswer {
             answer: 0,
             kind: 9,
-            season: octets::word_at(bytes, 7),
+            season: octets::word_at(bytes, SEASON),
             sender: 0,
             number: 0,
             declaration: [0; 20],
         };
     }
-    let Reading::Message {
-        kind,
-        season,
-        sender,
-        number,
-        lot,
-        colonies,
-        kilograms,
-        moisture,
-        conductivity,
-    } = read_message(bytes)
-    else {
+    if fields::is_well_formed(bytes) {
         return ReadAnswer {
-            answer: MALFORMED,
-            kind: 0,
-            season: 0,
-            sender: 0,
-            number: 0,
-            declaration: [0; 20],
+            answer: 0,
+            kind: bytes[KIND],
+            season: octets::word_at(bytes, SEASON),
+            sender: bytes[SENDER],
+            number: bytes[NUMBER],
+            declaration: octets::twenty_at(bytes, LOT),
         };
-    };
-    let declaration = octets::bytes_of(Declaration {
-        lot,
-        colonies,
-        kilograms,
-        moisture,
-        conductivity,
-    });
+    }
     ReadAnswer {
-        answer: 0,
-        kind,
-        season,
-        sender,
-        number,
-        declaration,
+        answer: MALFORMED,
+        kind: 0,
+        season: 0,
+        sender: 0,
+        number: 0,
+        declaration: [0; 20],
     }
 }

@@ -1,10 +1,6 @@
 -- `reader::parts_of` meets its contract.
-use Rattle.message.specs.Read.{readAnswer}
-use Rattle.message.specs.Message.{Told, told}
-use Rattle.message.proofs.Request.{request-long, request-names, no-request}
-use mathlib.Core.Option.{none}
-use mathlib.Core.Path.{sym, ap, _∙_}
-use lib.ListN.{replicate}
+use Rattle.reader.proofs.Parts.{asks-long, request-parts, formed-long, message-parts, malformed-parts}
+use denote.Ref.{now}
 use native.Mathlib.Omega.{arith}
 use borrow.Author.Needs.{needs}
 use Rattle.reader.proofs.parts_of.Statement.{statement}
@@ -14,55 +10,111 @@ is-request-requires : tie.Need-is-request-requires
 is-request-requires c κs = search needs
 
 word-at-requires : tie.Need-word-at-requires
-word-at-requires c κs = omega (arith, request-long _ (sym (c .before .is-request .ensures) ∙ c .if1 .taken))
+word-at-requires c κs =
+    let at-if1 = c in
+    let at-is-request = at-if1 .before in
+    let start = at-is-request .before .before in
+    omega (arith, asks-long (now (start .args .bytes)) _ (at-is-request .is-request .ensures) (at-if1 .if1 .taken))
 
 returns : tie.Need-returns
 returns c =
-    rw (request-names _ (sym (c .before .before .is-request .ensures) ∙ c .before .if1 .taken))
-    (λ i.
-    record {
-      answer = 0;
-      kind = 9;
-      season = c .word-at .ensures i;
-      sender = 0;
-      number = 0;
-      declaration = replicate 20 0;
-    })
+    let at-word-at = c in
+    let at-if1 = at-word-at .before in
+    let at-is-request = at-if1 .before in
+    let start = at-is-request .before .before in
+    request-parts (now (start .args .bytes)) _ (at-is-request .is-request .ensures) (at-if1 .if1 .taken) _ (at-word-at .word-at .ensures)
 
-read-message-requires : tie.Need-read-message-requires
-read-message-requires c κs = search needs
+is-well-formed-requires : tie.Need-is-well-formed-requires
+is-well-formed-requires c κs = search needs
 
-enum-known-kind : tie.Need-enum-known-kind
-enum-known-kind c = search needs
+shared-slice-read-t7 : tie.Need-shared-slice-read-t7
+shared-slice-read-t7 c =
+    let at-if2 = c .before in
+    let at-is-well-formed = at-if2 .before in
+    let at-if1 = at-is-well-formed .before in
+    let at-is-request = at-if1 .before in
+    let start = at-is-request .before .before in
+    omega (
+      arith,
+      formed-long (now (start .args .bytes)) _ (at-is-request .is-request .ensures) (at-if1 .if1 .left) _
+          (at-is-well-formed .is-well-formed .ensures) (at-if2 .if2 .taken),
+    )
 
-enum-told : tie.Need-enum-told
-enum-told c = search needs
+word-at-requires-2 : tie.Need-word-at-requires-2
+word-at-requires-2 c κs =
+    let at-if2 = c .before in
+    let at-is-well-formed = at-if2 .before in
+    let at-if1 = at-is-well-formed .before in
+    let at-is-request = at-if1 .before in
+    let start = at-is-request .before .before in
+    omega (
+      arith,
+      formed-long (now (start .args .bytes)) _ (at-is-request .is-request .ensures) (at-if1 .if1 .left) _
+          (at-is-well-formed .is-well-formed .ensures) (at-if2 .if2 .taken),
+    )
+
+shared-slice-read-t10 : tie.Need-shared-slice-read-t10
+shared-slice-read-t10 c =
+    let at-if2 = c .before .before .before in
+    let at-is-well-formed = at-if2 .before in
+    let at-if1 = at-is-well-formed .before in
+    let at-is-request = at-if1 .before in
+    let start = at-is-request .before .before in
+    omega (
+      arith,
+      formed-long (now (start .args .bytes)) _ (at-is-request .is-request .ensures) (at-if1 .if1 .left) _
+          (at-is-well-formed .is-well-formed .ensures) (at-if2 .if2 .taken),
+    )
+
+shared-slice-read-t12 : tie.Need-shared-slice-read-t12
+shared-slice-read-t12 c =
+    let at-if2 = c .before .before .before .before in
+    let at-is-well-formed = at-if2 .before in
+    let at-if1 = at-is-well-formed .before in
+    let at-is-request = at-if1 .before in
+    let start = at-is-request .before .before in
+    omega (
+      arith,
+      formed-long (now (start .args .bytes)) _ (at-is-request .is-request .ensures) (at-if1 .if1 .left) _
+          (at-is-well-formed .is-well-formed .ensures) (at-if2 .if2 .taken),
+    )
+
+twenty-at-requires : tie.Need-twenty-at-requires
+twenty-at-requires c κs =
+    let at-if2 = c .before .before .before .before in
+    let at-is-well-formed = at-if2 .before in
+    let at-if1 = at-is-well-formed .before in
+    let at-is-request = at-if1 .before in
+    let start = at-is-request .before .before in
+    omega (
+      arith,
+      formed-long (now (start .args .bytes)) _ (at-is-request .is-request .ensures) (at-if1 .if1 .left) _
+          (at-is-well-formed .is-well-formed .ensures) (at-if2 .if2 .taken),
+    )
 
 returns-2 : tie.Need-returns-2
 returns-2 c =
-    let read = c .before .before in
-    rw (no-request _ (sym (read .before .before .is-request .ensures) ∙ read .before .if1 .left))
-    (ap (λ (t : Told). readAnswer none t) (sym (ap told (c .enum-told .given .1)) ∙ read .read-message .ensures))
-
-bytes-of-requires : tie.Need-bytes-of-requires
-bytes-of-requires c κs = search needs
+    let at-twenty-at = c in
+    let at-word-at2 = at-twenty-at .before .before .before in
+    let at-if2 = at-word-at2 .before .before in
+    let at-is-well-formed = at-if2 .before in
+    let at-if1 = at-is-well-formed .before in
+    let at-is-request = at-if1 .before in
+    let heard = at-is-request .before in
+    let start = heard .before in
+    message-parts (now (start .args .bytes)) _ (at-is-request .is-request .ensures) (at-if1 .if1 .left) _
+    (at-is-well-formed .is-well-formed .ensures) (at-if2 .if2 .taken) (λ i. omega (arith, heard .shared-slice-known .given i)) _
+    (at-word-at2 .word-at2 .ensures) _ (at-twenty-at .twenty-at .ensures)
 
 returns-3 : tie.Need-returns-3
 returns-3 c =
-    let k = c .before .before in
-    let read = k .before .before in
-    let r = k .kind .given .0 in
-    rw (no-request _ (sym (read .before .before .is-request .ensures) ∙ read .before .if1 .left))
-    ((λ i.
-    record {
-      answer = 0;
-      kind = r .0;
-      season = r .1 .0;
-      sender = r .1 .1 .0;
-      number = r .1 .1 .1 .0;
-      declaration = c .bytes-of .ensures i;
-    })
-    ∙ ap (λ (t : Told). readAnswer none t) (sym (ap told (k .kind .given .1)) ∙ read .read-message .ensures))
+    let at-if2 = c in
+    let at-is-well-formed = at-if2 .before in
+    let at-if1 = at-is-well-formed .before in
+    let at-is-request = at-if1 .before in
+    let start = at-is-request .before .before in
+    malformed-parts (now (start .args .bytes)) _ (at-is-request .is-request .ensures) (at-if1 .if1 .left) _
+    (at-is-well-formed .is-well-formed .ensures) (at-if2 .if2 .left)
 
 pub parts-of-spec : {M : Type 1} → statement M
 parts-of-spec =
@@ -71,9 +123,11 @@ parts-of-spec =
     is-request-requires
     word-at-requires
     returns
-    read-message-requires
-    enum-known-kind
-    enum-told
+    is-well-formed-requires
+    shared-slice-read-t7
+    word-at-requires-2
+    shared-slice-read-t10
+    shared-slice-read-t12
+    twenty-at-requires
     returns-2
-    bytes-of-requires
     returns-3)
