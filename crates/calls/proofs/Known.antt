@@ -20,7 +20,7 @@ use Rattle.entry.specs.Entry.{Decl, Kind}
 use Rattle.protocol.specs.Steps.{Out}
 use Rattle.protocol.specs.Book.{Call, receiving, senderOf, numberOf}
 use Rattle.meaning.specs.Layout.{helpedPlace}
-use Rattle.meaning.specs.Book.{Meaning, nOf, numbersOf, ownOf, seasonOf, headerOf, countHelp, meant}
+use Rattle.meaning.specs.Book.{Help, Meaning, nOf, numbersOf, ownOf, seasonOf, headerOf, countHelp, meant, limitOf, helpOf}
 use Rattle.meaning.specs.Legal.{legal, headLegal, entryLegal, Lent, Has, Fits}
 use Rattle.meaning.proofs.Legality.{legal-head, legal-entry}
 use Rattle.meaning.proofs.Helped.{help-head, help-entry, help-meant}
@@ -42,30 +42,33 @@ use Rattle.calls.proofs.ByEntry.{Left, called-same, called-left, given-
 record Kept (b a : List ℕ) (W : ℕ → Type 0) : Type 0 where
   pub head : headLegal b ≡ true → headLegal a ≡ true
   pub header : headerOf a ≡ headerOf b
+  pub limit : limitOf a ≡ limitOf b
   pub entry : (j c : ℕ) → entryLegal b j c ≡ true → entryLegal a j c ≡ true
   pub long : length a ≡ length b
   pub same : (i : ℕ) → W i → getD a i 0 ≡ getD b i 0
 
 kept-less : (b a : List ℕ) (Z W : ℕ → Type 0) → ((i : ℕ) → W i → Z i) → Kept b a Z → Kept b a W
 kept-less b a Z W f k =
-    record { head = k .head; header = k .header; entry = k .entry; long = k .long; same = λ i w. k .same i (f i w) }
+    record { head = k .head; header = k .header; limit = k .limit; entry = k .entry; long = k .long; same = λ i w. k .same i (f i w) }
 
 module _ (b : List ℕ) (bytes : Bytes b) where
   kept-none : (W : ℕ → Type 0) → Kept b b W
-  kept-none W = record { head = λ h. h; header = refl; entry = λ j c e. e; long = refl; same = λ i w. refl }
+  kept-none W = record { head = λ h. h; header = refl; limit = refl; entry = λ j c e. e; long = refl; same = λ i w. refl }
 
   kept-left : (a : List ℕ) (j c : ℕ) (o : Out) → Left b a j c (o .entry) → Kept b a (Outside b j c)
+  unfolding helpOf
   kept-left a j c o l =
       record {
         head = λ _. l .rowed .stored .sound .head;
         header = l .rowed .stored .header;
+        limit = ap (λ (w : Help). w .limit) (l .rowed .stored .help);
         entry = rowed-others b a j c (o .entry) (l .rowed);
         long = l .rowed .apart .long;
         same = rowed-same b a j c (o .entry) (l .rowed);
       }
 
   kept-asked : (p season : ℕ) → headLegal b ≡ true → Kept b (requested b p season .book) (λ i. i ≡ helpedPlace p → ⊥)
-  unfolding requested countHelp meant
+  unfolding requested countHelp meant helpOf
   kept-asked p season h = go (eqb (requestAnswer b p season) 0) refl
     where
       more : requestAnswer b p season ≡ 0 → Kept b (countHelp b p) (λ i. i ≡ helpedPlace p → ⊥)
@@ -75,6 +78,7 @@ module _ (b : List ℕ) (bytes : Bytes b) where
           record {
             head = λ _. help-head b h bytes p from low;
             header = ap (λ (B : Meaning). B .header) (help-meant b h bytes p from low);
+            limit = ap (λ (B : Meaning). B .help .limit) (help-meant b h bytes p from low);
             entry = help-entry b h bytes p from low;
             long = length-set b (helpedPlace p) _;
             same = λ i f. getD-set-other b (helpedPlace p) i _ 0 f;
@@ -333,5 +337,6 @@ by-entry =
       long = λ b bytes p message. received-kept b bytes p message .long;
       keeps-head = λ b bytes p message. received-kept b bytes p message .head;
       keeps-header = λ b bytes p message. received-kept b bytes p message .header;
+      keeps-limit = λ b bytes p message. received-kept b bytes p message .limit;
       keeps-entry = λ b bytes p message j c e. received-kept b bytes p message .entry j c e;
     }

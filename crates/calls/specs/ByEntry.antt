@@ -15,7 +15,7 @@ use Rattle.entry.specs.Entry.{Kind}
 use Rattle.protocol.specs.Steps.{Out}
 use Rattle.protocol.specs.Book.{Call, receiving, senderOf, numberOf}
 use Rattle.meaning.specs.Layout.{perEntry, helpedPlace}
-use Rattle.meaning.specs.Book.{nOf, numbersOf, ownOf, seasonOf, headerOf, look, placeIn, withRow}
+use Rattle.meaning.specs.Book.{nOf, numbersOf, ownOf, seasonOf, headerOf, limitOf, look, placeIn, withRow}
 use Rattle.meaning.specs.Legal.{headLegal, entryLegal, Lent, Fits}
 use Rattle.calls.specs.Entered.{Result, handed, letters, kindOf}
 use Rattle.calls.specs.Call.{refusal, stepOf, asked, requested, received}
@@ -105,9 +105,10 @@ pub record ByEntry : Type 0 where
       → (isRequest message ≡ true → i ≡ helpedPlace house → ⊥)
       → getD (receivedEntry b house message .book) i 0 ≡ getD b i 0
   pub long : (b : List ℕ) → Bytes b → (house : ℕ) (message : List ℕ) → length (receivedEntry b house message .book) ≡ length b
-  -- It keeps what it tests: the head, with n, S, own number, season, sheet and f, and each entry that was legal.
+  -- It keeps what it tests: the head, with n, S, own number, season, sheet, f and d, and each entry that was legal.
   pub keeps-head : (b : List ℕ) → Bytes b → (house : ℕ) (message : List ℕ) → headLegal b ≡ true
       → headLegal (receivedEntry b house message .book) ≡ true
   pub keeps-header : (b : List ℕ) → Bytes b → (house : ℕ) (message : List ℕ) → headerOf (receivedEntry b house message .book) ≡ headerOf b
+  pub keeps-limit : (b : List ℕ) → Bytes b → (house : ℕ) (message : List ℕ) → limitOf (receivedEntry b house message .book) ≡ limitOf b
   pub keeps-entry : (b : List ℕ) → Bytes b → (house : ℕ) (message : List ℕ) (j c : ℕ)
       → entryLegal b j c ≡ true → entryLegal (receivedEntry b house message .book) j c ≡ true
