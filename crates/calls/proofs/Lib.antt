@@ -16,4 +16,5 @@ pub mod Ordered
 pub mod Conflict
 pub mod ByEntry
 pub mod Known
+pub mod Named
 pub mod Claims
