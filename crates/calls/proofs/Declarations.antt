@@ -1,9 +1,8 @@
 -- Declarations that come in are 20 bytes, and plausible at the bytes exactly when their numbers are.
 use Prim.Native.Nat.{ℕ, zero, suc}
-use mathlib.Core.Path.{_≡_, refl, ap, subst, _∙_}
-use mathlib.Core.Bool.{Bool, true, false}
+use mathlib.Core.Path.{_≡_, refl, _∙_}
+use mathlib.Core.Bool.{Bool, true}
 use mathlib.Core.List.{List, [], _∷_}
-use native.Mathlib.Omega.{arith}
 use borrow.Author.Tests.{eq-eqb, lt-ltb}
 use Rattle.words.specs.Words.{Bytes}
 use Rattle.lot.specs.declared.Declaration.{Declaration}
@@ -11,8 +10,6 @@ use Rattle.sheet.specs.declared.Sheet.{Sheet}
 use Rattle.lot.specs.Declaration.{declarationAt, bytesOf}
 use Rattle.sheet.specs.Sheet.{plausible}
 use Rattle.lot.proofs.Declared.{bytes-are-bytes}
-use Rattle.message.specs.Message.{Five, Told, wellFormed, fiveAt, readAs, malformed, readOf}
-use Rattle.message.proofs.RoundTrip.{fiveOr}
 use Rattle.entry.specs.Entry.{Decl}
 use Rattle.meaning.specs.Legal.{IsDecl}
 use Rattle.calls.specs.Entered.{allBytes, isDecl, okBy}
@@ -35,18 +32,3 @@ plausible-ok s z v d t i es ed et = rw (decl-true v i) (et ∙ (λ i. plausible 
 pub read-decl : (s : List ℕ) (i : ℕ) → Bytes s → IsDecl (bytesOf (declarationAt s i))
 unfolding bytesOf
 read-decl s i b = record { long = refl; bytes = bytes-are-bytes s i b }
-
--- and so have those of a message that was read
-pub message-decl : (s : List ℕ) (m : Five) → Bytes s → readOf s ≡ readAs m → IsDecl (bytesOf (m .declaration))
-unfolding readOf fiveAt
-message-decl s m b r = go (wellFormed s) refl
-  where
-    go : (t : Bool) → wellFormed s ≡ t → IsDecl (bytesOf (m .declaration))
-    go true h =
-        let q : readAs (fiveAt s) ≡ readAs m = rw h at r in
-        let e = ap (λ (x : Told). fiveOr m (x .five)) q in
-        subst (λ (x : Five). IsDecl (bytesOf (x .declaration))) e (read-decl s 16 b)
-    go false h =
-        let q : malformed ≡ readAs m = rw h at r in
-        let z : _≡_ {A = ℕ} 2 0 = ap (λ (x : Told). x .answer) q in
-        absurd (omega arith)
