@@ -1,6 +1,8 @@
 // A message of the book's season: 4 for its entry, 1 for that entry's slots, 4 for the house, 5, 6, and then the step of its kind. Each
 // function makes the next test, refuses with its number, or goes on. What the reader read is handed on as numbers, and the message for its
 // declaration's bytes.
+#![tactic(auto)]
+
 ghost use Rattle.std.specs.Prelude.{◌≡◌, true, ◌<◌, get_or};
 ghost use Rattle.lot.specs.Declaration.{declaration_at};
 ghost use Rattle.message.specs.Message.{five_at};

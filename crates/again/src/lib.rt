@@ -1,4 +1,6 @@
 // A house that returns: the request that it asks all with, and what it sent, to send again.
+#![tactic(auto)]
+
 ghost use Rattle.std.specs.Prelude.{◌≡◌, ◌+◌, ◌≤◌, length};
 ghost use Rattle.std.proofs.Math.Option.{none};
 ghost use Rattle.meaning.specs.Layout.{sheet_place, slot_length};

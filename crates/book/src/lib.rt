@@ -1,4 +1,6 @@
 // Which bytes are a legal book, which have a legal head, and which entries have slots of one form each.
+#![tactic(auto)]
+
 ghost use Rattle.std.specs.Prelude.{◌≡◌, ◌<◌, ◌≤◌, length};
 ghost use Rattle.meaning.specs.Layout.{helped_place, per_entry};
 ghost use Rattle.meaning.specs.Book.{n_of};

@@ -1,8 +1,9 @@
 // What each call hands back, laid out as C and Rust see it.
+#![tactic(auto)]
 
 // What publishing and receiving give. An absent message or declaration is zeros; `helps` says that an asker is to be helped.
 #[repr(C)]
-#[derive(Drop)]
+#[derive(Clone, Copy)]
 pub struct Outcome {
     pub answer: u8,
     pub gives: bool,
@@ -14,7 +15,7 @@ pub struct Outcome {
 
 // What the waiting search gives: an entry, or a plain none (zeros), or answer 1.
 #[repr(C)]
-#[derive(Drop)]
+#[derive(Clone, Copy)]
 pub struct Waiting {
     pub answer: u8,
     pub waits: bool,
@@ -24,7 +25,7 @@ pub struct Waiting {
 
 // What a return gives: the request, or answer 1 and zeros.
 #[repr(C)]
-#[derive(Drop)]
+#[derive(Clone, Copy)]
 pub struct Returned {
     pub answer: u8,
     pub request: [u8; 11],
@@ -32,7 +33,7 @@ pub struct Returned {
 
 // What this house sent, or a plain none (zeros), or why not.
 #[repr(C)]
-#[derive(Drop)]
+#[derive(Clone, Copy)]
 pub struct Sent {
     pub answer: u8,
     pub gives: bool,

@@ -1,5 +1,7 @@
 // The clerk of each house: the calls that change no book, which tell what was sent, which entry waits and what a house asks on return; and
 // with them what follows a call in a season, where a message given is posted, who asked is helped, and a house that returns sends again.
+#![tactic(auto)]
+
 ghost use Rattle.std.specs.Prelude.{◌<◌};
 
 use calls::Waiting;

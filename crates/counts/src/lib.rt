@@ -1,4 +1,6 @@
 // The wall card as a constant table, and the counts that the steps compare with.
+#![tactic(auto)]
+
 ghost use Rattle.std.specs.Prelude.{◌≡◌, true};
 ghost use Rattle.card.specs.Card.{houses_ok, down_ok, column_of, counts_of};
 

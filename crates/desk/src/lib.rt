@@ -1,5 +1,7 @@
 // The desk: the books of several houses in one buffer, and the calls that change one: opening, publishing and receiving. Each is made with
 // the numbers that a script set, and what came of it is put among them, to be told.
+#![tactic(auto)]
+
 ghost use Rattle.std.specs.Prelude.{◌<◌};
 
 use calls::Outcome;

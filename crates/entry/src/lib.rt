@@ -1,1 +1,2 @@
 // Definitions and theorems alone: what an entry is.
+#![tactic(auto)]

@@ -1,4 +1,6 @@
 // The fields of a message: tags and lengths, by which 36 bytes are well formed and 11 a request.
+#![tactic(auto)]
+
 ghost use Rattle.std.specs.Prelude.{◌≡◌, ◌+◌, ◌<◌, length};
 ghost use Rattle.message.specs.Message.{is_kind, field_at, tagged, well_formed, is_request};
 

@@ -1,4 +1,6 @@
 // Floats by their bits: which a reading or a limit may be, and which is at most another, in whatever float mode the caller is.
+#![tactic(auto)]
+
 ghost use Rattle.std.specs.Prelude.{◌≡◌, true};
 ghost use Rattle.std.specs.Float.{binary32};
 ghost use Rattle.std.specs.Float.Ieee.{of_bits, le};

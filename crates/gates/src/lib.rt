@@ -1,4 +1,6 @@
 // Whether readings are within their gates, and a declaration plausible.
+#![tactic(auto)]
+
 ghost use Rattle.std.specs.Prelude.{◌≡◌, true, ◌*◌};
 ghost use Rattle.sheet.specs.Sheet.{measurable, within, limits_measurable, ordered, sheet_legal, readings_of, admitted, plausible};
 

@@ -1,5 +1,7 @@
 // What is handed in and handed back, by a script's numbers: a message laid as they say, bytes read into them, and the answer of a call put
 // among them, to be told.
+#![tactic(auto)]
+
 ghost use Rattle.std.specs.Prelude.{◌<◌};
 
 use lot::Declaration;
@@ -162,7 +164,7 @@ pub fn read_hand(r: Numbers, hand: [u8; 40]) -> Numbers {
 // ---- what came of a call
 
 // The numbers, and the bytes given.
-#[derive(Drop)]
+#[derive(Clone, Copy)]
 pub struct Came {
     pub r: Numbers,
     pub message: [u8; 36],

@@ -1,4 +1,6 @@
 // Helping: a request of the book's season, counted and answered.
+#![tactic(auto)]
+
 ghost use Rattle.std.specs.Prelude.{◌≡◌, true, ◌<◌};
 ghost use Rattle.meaning.specs.Book.{season_of};
 ghost use Rattle.meaning.specs.Legal.{head_legal};

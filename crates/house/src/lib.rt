@@ -1,4 +1,6 @@
 // The fourteen calls that a house links, as they are exported to C and Rust.
+#![tactic(auto)]
+
 ghost use Rattle.std.specs.Prelude.{◌≡◌};
 ghost use Rattle.lot.specs.Declaration.{declaration_at};
 ghost use Rattle.sheet.specs.Kept.{judged};

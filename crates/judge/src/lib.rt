@@ -1,4 +1,6 @@
 // The sheet's 22 bytes, and judging a declaration at the bytes.
+#![tactic(auto)]
+
 ghost use Rattle.std.specs.Prelude.{◌≡◌, ◌+◌, ◌<◌, length};
 ghost use Rattle.sheet.specs.Kept.{kept_legal, laid, sheet_at, sheet_legal_at, is_sheet, judged};
 

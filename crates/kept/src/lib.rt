@@ -1,4 +1,6 @@
 // A gate as a sheet's bytes keep it: the kind and two limits, the gate that they mean, and whether they have a legal gate's form.
+#![tactic(auto)]
+
 ghost use Rattle.std.specs.Prelude.{◌≡◌, ◌+◌, ◌<◌, length};
 ghost use Rattle.sheet.specs.Sheet.{limits_measurable};
 ghost use Rattle.sheet.specs.Kept.{kept_at, gate_of, kept_form};

@@ -1,4 +1,6 @@
 // Where a book's parts lie: the header's fields, its slots, the slots of an entry.
+#![tactic(auto)]
+
 ghost use Rattle.std.specs.Prelude.{◌≡◌, ◌*◌, ◌<◌, ◌≤◌, length, get_or};
 ghost use Rattle.meaning.specs.Layout.{n_place, numbers_place, own_place, sheet_place, down_place, limit_place, helped_place, head_length};
 ghost use Rattle.meaning.specs.Layout.{per_entry, slot_count, length_of, place_from, slot_place, published_slot, entry_slot};

@@ -1,5 +1,7 @@
 // A look through the lines of a roll, line by line: whether they are in order and finite, where a lot stands and what it weighs, and what
 // they come to. Readings are taken by their bits, so that no float mode of the caller matters.
+#![tactic(auto)]
+
 ghost use Rattle.std.specs.Prelude.{◌≡◌, ◌<◌, ◌^◌};
 ghost use Rattle.roll.specs.Rank.{rank};
 ghost use Rattle.roll.specs.Roll.{line_of, finite_readings};
@@ -9,7 +11,7 @@ use lot::Declaration;
 use roll::Line;
 
 // The highest moisture so far: its rank, 0 for none; its bits, and its lot.
-#[derive(Drop)]
+#[derive(Clone, Copy)]
 pub struct Top {
     pub rank: u32,
     pub bits: u32,
@@ -18,7 +20,7 @@ pub struct Top {
 
 // What a look has seen: whether all was fine, and the least lot that may come next; how many lots are below the one looked for, whether
 // that was found, and its kilograms; the kilograms of all lines; the highest moisture of all, and of the others.
-#[derive(Drop)]
+#[derive(Clone, Copy)]
 pub struct Seen {
     pub fine: bool,
     pub found: bool,

@@ -1,7 +1,8 @@
 // A declaration as its numbers.
+#![tactic(auto)]
 
 // A declaration's five numbers; the readings as their bits.
-#[derive(Drop)]
+#[derive(Clone, Copy)]
 pub struct Declaration {
     pub lot: u32,
     pub colonies: u32,

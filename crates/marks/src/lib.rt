@@ -1,4 +1,6 @@
 // What an entry of a legal book has recorded and marked, and which marks the vouchers now make.
+#![tactic(auto)]
+
 ghost use Rattle.std.specs.Prelude.{◌≡◌, cond, ◌&&◌, ◌+◌, ◌<◌, ◌≤◌, leb, length};
 ghost use Rattle.entry.specs.Entry.{is_none};
 ghost use Rattle.protocol.specs.Steps.{recording};
@@ -8,7 +10,7 @@ ghost use Rattle.layout.specs.Places.{Within};
 ghost use Rattle.marks.specs.Marks.{echo_mark, ready_marks};
 
 // Whether vouchers now make a READY, and deliver.
-#[derive(Drop)]
+#[derive(Clone, Copy)]
 pub struct Marks {
     pub gives: bool,
     pub delivers: bool,

@@ -1,7 +1,8 @@
 // What reading a message finds, and what writing one gives.
+#![tactic(auto)]
 
 // What reading finds: the message's numbers, or bytes that are no message.
-#[derive(Drop)]
+#[derive(Clone, Copy)]
 pub enum Reading {
     Message {
         kind: u8,
@@ -19,7 +20,7 @@ pub enum Reading {
 
 // What writing gives: answer 0 and the message, or answer 2 and zeros.
 #[repr(C)]
-#[derive(Drop)]
+#[derive(Clone, Copy)]
 pub struct Written {
     pub answer: u8,
     pub message: [u8; 36],
@@ -27,7 +28,7 @@ pub struct Written {
 
 // What reading gives: answer 0 and the five things, of a request kind 9 and the season alone, or answer 2 and zeros.
 #[repr(C)]
-#[derive(Drop)]
+#[derive(Clone, Copy)]
 pub struct ReadAnswer {
     pub answer: u8,
     pub kind: u8,

@@ -1,4 +1,6 @@
 // Numbers of 32 bits as four bytes, big-endian, a declaration as its 20, and 20 bytes as they stand.
+#![tactic(auto)]
+
 ghost use Rattle.std.specs.Prelude.{◌≡◌, ◌+◌, ◌<◌, length, take, drop};
 ghost use Rattle.words.specs.Words.{quad_of, word_at};
 ghost use Rattle.lot.specs.Declaration.{declaration_at, bytes_of};

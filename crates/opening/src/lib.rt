@@ -1,4 +1,6 @@
 // Opening a book: the whole buffer is written, or nothing.
+#![tactic(auto)]
+
 ghost use Rattle.std.specs.Prelude.{◌≡◌, ◌∷◌, ◌<◌, length, replicate};
 ghost use Rattle.words.specs.Words.{be32};
 ghost use Rattle.sheet.specs.Kept.{sheet_length};

@@ -1,5 +1,7 @@
 // The calls that are made before there is a book to call on, with the numbers that a script set: the wall card's column, a book's length,
 // a lot judged by the sheet, and opening.
+#![tactic(auto)]
+
 ghost use Rattle.std.specs.Prelude.{◌<◌};
 
 use card::Counts;

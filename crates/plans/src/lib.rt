@@ -1,5 +1,7 @@
 // The plan of a change: the lines to look through, and then, by what was seen, the answer, the line that is carried from where to where,
 // and the totals afterwards.
+#![tactic(auto)]
+
 ghost use Rattle.std.specs.Prelude.{◌≡◌, true, ◌+◌, ◌<◌, ◌≤◌, ◌^◌};
 ghost use Rattle.roll.specs.Roll.{zero_line, same_totals, entering, striking};
 ghost use Rattle.lines.specs.Look.{Fair, Within};
@@ -9,14 +11,14 @@ use lines::{Seen, Top};
 use roll::{Ask, Line, Totals};
 
 // So many lines are looked through, for a lot.
-#[derive(Drop)]
+#[derive(Clone, Copy)]
 pub struct Look {
     pub n: usize,
     pub lot: u32,
 }
 
 // An answer; a line that is carried over n places from a place on, upwards or downwards; and the totals afterwards.
-#[derive(Drop)]
+#[derive(Clone, Copy)]
 pub struct Plan {
     pub answer: u8,
     pub from: usize,

@@ -1,6 +1,8 @@
 // A season's post, as bytes: how each house stands, and two lists, the copies sent and the requests for help, each with the house it is
 // from, the house it goes to, whether it came, and its bytes. They stand in one buffer, before the books. Its first bytes are for what a
 // list has no room for.
+#![tactic(auto)]
+
 ghost use Rattle.std.specs.Prelude.{◌+◌, ◌≤◌, ◌<◌};
 
 // For each house whether it is down, how often it returned, whether it delivered.

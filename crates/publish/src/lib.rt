@@ -1,4 +1,6 @@
 // Publishing. Each function makes the next test in the order of answers, refuses with its number, or goes on; the step is taken at the end.
+#![tactic(auto)]
+
 ghost use Rattle.std.specs.Prelude.{◌≡◌, true, ◌<◌, length};
 ghost use Rattle.protocol.specs.Book.{publishing};
 ghost use Rattle.meaning.specs.Book.{numbers_of};

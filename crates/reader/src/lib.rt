@@ -1,4 +1,6 @@
 // The reader: what a message or a request says, or that it is malformed.
+#![tactic(auto)]
+
 ghost use Rattle.std.specs.Prelude.{◌≡◌};
 ghost use Rattle.message.specs.Message.{read_of, told, request_of};
 ghost use Rattle.message.specs.Read.{read_answer};

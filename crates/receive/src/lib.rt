@@ -1,5 +1,7 @@
 // Receiving, and receiving by entry: the one tests the whole book, the other its head and, further on, the named entry. Past that they are
 // one: each function makes the next test in the order of answers, refuses with its number, or goes on.
+#![tactic(auto)]
+
 ghost use Rattle.std.specs.Prelude.{◌≡◌, true, get_or};
 ghost use Rattle.std.proofs.Math.Option.{some};
 ghost use Rattle.words.specs.Words.{Bytes, word_at};

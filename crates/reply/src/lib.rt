@@ -1,4 +1,6 @@
 // What a call hands back: a refusal, help, an accepted publication's SEND, and what a step on a message's entry gives.
+#![tactic(auto)]
+
 ghost use Rattle.std.specs.Prelude.{◌≡◌, length};
 ghost use Rattle.std.proofs.Math.Option.{none, some};
 ghost use Rattle.lot.specs.Declaration.{declaration_at};
@@ -12,7 +14,7 @@ use fields::SEND;
 
 // What a step on a message's entry gives: the answer, whether a message and of which kind, whether the declaration is delivered. The bytes
 // of both stand in the message that came, so that they are laid once, at the end.
-#[derive(Drop)]
+#[derive(Clone, Copy)]
 pub struct Step {
     pub answer: u8,
     pub gives: bool,

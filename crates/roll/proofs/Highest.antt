@@ -27,6 +27,7 @@ unfolding finite_readings
 moisture_finite l e = and_left (finite (moisture_of l)) (finite (of_bits binary32 l.conductivity)) e
 
 pub among_finite : (ls : List Line) → all_finite ls ≡ true → (x : Line) → Among x ls → finite (moisture_of x) ≡ true
+among_finite [] a x x4 = elim x4 [ ]
 among_finite (l ∷ ls) a x (inl e) =
     subst (λ (m : Line). finite (moisture_of m) ≡ true) (sym e) (moisture_finite l (and_left (finite_readings l) (all_finite ls) a))
 among_finite (l ∷ ls) a x (inr p) = among_finite ls (and_right (finite_readings l) (all_finite ls) a) x p

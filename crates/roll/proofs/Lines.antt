@@ -177,10 +177,12 @@ weighs_strikes x lot k (m ∷ ms) o =
 -- ---- which lines
 
 pub has_among : (lot : ℕ) (ls : List Line) (x : Line) → Among x ls → x.lot ≡ lot → has lot ls ≡ true
+has_among lot [] x x4 h = elim x4 [ ]
 has_among lot (l ∷ ls) x (inl e) h = rw (eq-eqb l.lot lot (ap (λ (m : Line). m.lot) (sym e) ∙ h))
 has_among lot (l ∷ ls) x (inr p) h = bcase (eqb l.lot lot) (λ t. rw t) (λ f. rw f (has_among lot ls x p h))
 
 pub lots_from : (k : ℕ) (ls : List Line) → ordered_from k ls ≡ true → (x : Line) → Among x ls → k ≤ x.lot
+lots_from k [] o x x4 = elim x4 [ ]
 lots_from k (l ∷ ls) o x (inl e) = subst (λ (m : Line). k ≤ m.lot) (sym e) (rest k l ls o).0
 lots_from k (l ∷ ls) o x (inr p) = let c = rest k l ls o in through c.0 (lots_from (l.lot + 1) ls c.1 x p)
   where
@@ -189,6 +191,7 @@ lots_from k (l ∷ ls) o x (inr p) = let c = rest k l ls o in through c.0 (lots_
 
 -- the lots of an ordered roll tell its lines apart
 pub same_lot : (k : ℕ) (ls : List Line) → ordered_from k ls ≡ true → (x y : Line) → Among x ls → Among y ls → x.lot ≡ y.lot → x ≡ y
+same_lot k [] o x y x6 _ h = elim x6 [ ]
 same_lot k (l ∷ ls) o x y (inl e) (inl f) h = e ∙ sym f
 same_lot k (l ∷ ls) o x y (inl e) (inr q) h =
     absurd (apart (ap (λ (m : Line). m.lot) e) (lots_from (l.lot + 1) ls (rest k l ls o).1 y q) h)
@@ -225,6 +228,7 @@ enters_among l (m ∷ ms) x p = go (ltb m.lot l.lot) p (enters_among l ms x)
 
 pub among_strikes : (lot k : ℕ) (ls : List Line) → ordered_from k ls ≡ true → (x : Line) → Among x (strikes lot ls)
     → Among x ls × (x.lot ≡ lot → ⊥)
+among_strikes lot k [] o x p = elim p [ ]
 among_strikes lot k (m ∷ ms) o x p =
     bcase (eqb m.lot lot) (λ t. here t (subst (λ (b : Bool). Among x (cond b ms (m ∷ strikes lot ms))) t p))
     (λ f. further f (subst (λ (b : Bool). Among x (cond b ms (m ∷ strikes lot ms))) f p) (among_strikes lot (m.lot + 1) ms c.1 x))
@@ -244,6 +248,7 @@ among_strikes lot k (m ∷ ms) o x p =
     further f (inr q) r = (inr (r q).0, (r q).1)
 
 pub strikes_among : (lot : ℕ) (ls : List Line) (x : Line) → Among x ls → (x.lot ≡ lot → ⊥) → Among x (strikes lot ls)
+strikes_among lot [] x p d = elim p [ ]
 strikes_among lot (m ∷ ms) x p d = go (eqb m.lot lot) refl p (strikes_among lot ms x)
   where
     go : (b : Bool) → eqb m.lot lot ≡ b → (x ≡ m) ⊎ Among x ms → (Among x ms → (x.lot ≡ lot → ⊥) → Among x (strikes lot ms))

@@ -69,6 +69,7 @@ unfolding finite_readings
 finite_both l f = rw f.moisture f.conductivity
 
 each_finite : (ls : List Line) → all_finite ls ≡ true → (x : Line) → Among x ls → finite_readings x ≡ true
+each_finite [] a x x4 = elim x4 [ ]
 each_finite (l ∷ ls) a x (inl e) = subst (λ (m : Line). finite_readings m ≡ true) (sym e) (and_left (finite_readings l) (all_finite ls) a)
 each_finite (l ∷ ls) a x (inr p) = each_finite ls (and_right (finite_readings l) (all_finite ls) a) x p
 

@@ -6,6 +6,8 @@
 //   :k01 SEND             the word `SEND` sets k to 1; and where k is 1, [k] tells SEND
 //   :a02 , malformed      where a is 2, [a] tells ", malformed"
 // In what is told, <o> is the number o in decimal digits, and [k] the name of k's value, in which there may be such holes again.
+#![tactic(auto)]
+
 ghost use Rattle.std.specs.Prelude.{◌<◌};
 
 use std::num::wrapping_add_u32;

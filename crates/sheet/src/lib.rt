@@ -1,14 +1,15 @@
 // The season's sheet as its values, a gate as it is kept, and the two readings that are held to it.
+#![tactic(auto)]
 
 // The two laboratory readings.
-#[derive(Drop)]
+#[derive(Clone, Copy)]
 pub struct Readings {
     pub moisture: f32,
     pub conductivity: f32,
 }
 
 // What a reading must be within; a limit counts as inside.
-#[derive(Drop)]
+#[derive(Clone, Copy)]
 pub enum Gate {
     Open,
     AtMost(f32),
@@ -16,7 +17,7 @@ pub enum Gate {
 }
 
 // The season's sheet: a cap in kilograms per colony, and a gate for each reading.
-#[derive(Drop)]
+#[derive(Clone, Copy)]
 pub struct Sheet {
     pub cap: u32,
     pub moisture: Gate,
@@ -24,7 +25,7 @@ pub struct Sheet {
 }
 
 // A gate as it is kept: its kind (0 open, 1 at most, 2 between) and two limits as bits, 0 where there is none.
-#[derive(Drop)]
+#[derive(Clone, Copy)]
 pub struct Kept {
     pub kind: u8,
     pub low: u32,

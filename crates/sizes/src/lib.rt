@@ -1,4 +1,6 @@
 // Which n, S, own number, f and d are allowed, and how long a book of them is.
+#![tactic(auto)]
+
 ghost use Rattle.std.specs.Prelude.{◌≡◌, ◌&&◌};
 ghost use Rattle.card.specs.Card.{houses_ok};
 ghost use Rattle.meaning.specs.Layout.{numbers_ok};
@@ -43,7 +45,7 @@ pub fn is_allowed(n: u32, numbers: u32, own: u32, f: u32, d: u32) -> bool
 
 // Answer 0 and a book's length, or answer 9 and 0.
 #[repr(C)]
-#[derive(Drop)]
+#[derive(Clone, Copy)]
 pub struct LengthAnswer {
     pub answer: u8,
     pub length: u64,

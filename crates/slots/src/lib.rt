@@ -1,4 +1,6 @@
 // Slots on the bytes: whether one is full, whether each of a row of them has its one form, filling one.
+#![tactic(auto)]
+
 ghost use Rattle.std.specs.Prelude.{◌≡◌, ◌&&◌, ◌+◌, ◌*◌, ◌<◌, ◌≤◌, length, get_or};
 ghost use Rattle.std.proofs.Math.Seq.{paste};
 ghost use Rattle.entry.specs.Entry.{is_some};
@@ -15,7 +17,7 @@ const TURN: usize = 8;
 
 // What is gathered of slots: of each that is not full, the numbers of its bytes 0 to 7, 8 to 15 and 13 to 20, ORed with those before. The
 // three are zero exactly when each slot has the one byte form of its meaning.
-#[derive(Drop)]
+#[derive(Clone, Copy)]
 struct Strays {
     first: u64,
     middle: u64,

@@ -1,5 +1,7 @@
 // The steps of a season that call on no book: a copy is taken from the post, what is given goes to all, a house goes down, how a house
 // stands, how many copies there are; and what is told of each.
+#![tactic(auto)]
+
 ghost use Rattle.std.specs.Prelude.{◌+◌, ◌*◌, ◌<◌, ◌≤◌};
 
 use octets::wide;
@@ -105,7 +107,7 @@ pub fn give(desk: &mut [u8], r: Numbers, message: [u8; 36]) {
 // ---- what comes
 
 // What is taken from a list, with its numbers, and whether the house that it goes to receives it.
-#[derive(Drop)]
+#[derive(Clone, Copy)]
 pub struct Taken {
     pub r: Numbers,
     pub hand: [u8; 40],
@@ -205,7 +207,7 @@ fn times(a: u32, b: u8) -> u32
     a * b as u32
 }
 
-#[derive(Drop)]
+#[derive(Clone, Copy)]
 struct Bounds {
     copies: u32,
     readys: u32,

@@ -1,4 +1,6 @@
 // One step on the bytes: what the entry that a message names records, marks, gives and delivers, past every answer but the last.
+#![tactic(auto)]
+
 ghost use Rattle.std.specs.Prelude.{◌≡◌, ◌<◌};
 ghost use Rattle.entry.specs.Entry.{SEND, ECHO, READY};
 ghost use Rattle.meaning.specs.Book.{n_of};

@@ -1,5 +1,7 @@
 // The roll and the totals as they are lent: a look through the lines in use, a line carried over some of them, and a change of both with
 // its answer. All that is decided is decided by value, in `lines` and `plans`.
+#![tactic(auto)]
+
 ghost use Rattle.std.specs.Prelude.{◌≡◌, ◌+◌, ◌≤◌, length, take};
 ghost use Rattle.roll.specs.Roll.{outcome, changed};
 ghost use Rattle.lines.specs.Look.{seen_in, Small};

@@ -1,5 +1,7 @@
 // Tells what a script says: a phrase, in which the numbers that are set stand in holes, and of a call the phrase that is its own. In what
 // is told, <o> is the number o in decimal digits, and [k] the name of k's value, in which there may be such holes again.
+#![tactic(auto)]
+
 ghost use Rattle.std.specs.Prelude.{◌<◌};
 
 use libc::STDOUT_FILENO;
@@ -13,7 +15,7 @@ fn say(text: &[u8]) {
 // ---- phrases
 
 // Where it goes on, and where after the name that is being told, and after the one around that, and so on; 0 is nowhere.
-#[derive(Drop)]
+#[derive(Clone, Copy)]
 struct Spot {
     at: u32,
     then: u32,

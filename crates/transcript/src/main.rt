@@ -1,5 +1,7 @@
 // Shows the software at work: runs the script that it is given (the file `stdin`), call by call, and tells of each call its answer, what
 // was given and what was delivered. A line that begins with '>' is a call, with '#' or ':' none; every other line is told as it is.
+#![tactic(auto)]
+
 use libc::STDIN_FILENO;
 use post::{COPIES, DESK};
 use script::{CALL, FREE, LINE, Numbers, WRONG, usual, words};

@@ -1,4 +1,6 @@
 // Counting vouchers: how many slots of a row hold the same declaration.
+#![tactic(auto)]
+
 ghost use Rattle.std.specs.Prelude.{◌≡◌, ◌≤◌, length};
 ghost use Rattle.card.specs.Count.{count};
 ghost use Rattle.entry.specs.Entry.{holds};

@@ -1,4 +1,6 @@
 // The earliest waiting entry.
+#![tactic(auto)]
+
 ghost use Rattle.std.specs.Prelude.{◌≡◌, true};
 ghost use Rattle.meaning.specs.Book.{n_of, numbers_of};
 ghost use Rattle.meaning.specs.Legal.{legal, Has};
@@ -8,7 +10,7 @@ ghost use Rattle.waiting.specs.Found.{told};
 use calls::Waiting;
 
 // The number and the sender of an entry, or a plain none.
-#[derive(Drop)]
+#[derive(Clone, Copy)]
 pub enum Found {
     At(usize, usize),
     Nothing,

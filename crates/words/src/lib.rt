@@ -1,7 +1,8 @@
 // A number of 32 bits as four bytes, big-endian: the type that holds them.
+#![tactic(auto)]
 
 // The four bytes of a number, the highest first.
-#[derive(Drop)]
+#[derive(Clone, Copy)]
 pub struct Quad {
     pub a: u8,
     pub b: u8,

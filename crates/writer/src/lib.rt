@@ -1,4 +1,6 @@
 // The writer: the 36 bytes of a message, and the 11 of a request.
+#![tactic(auto)]
+
 ghost use Rattle.std.specs.Prelude.{◌≡◌, length};
 ghost use Rattle.message.specs.Message.{fields, written_of, request_wire};
 
