@@ -7,8 +7,8 @@ use mathlib.Core.Bool.{Bool, true, false, cond}
 use mathlib.Core.List.{List, [], ◌∷◌}
 use native.Mathlib.Omega.{arith}
 use lib.Dec.{ltb, eqb}
-use lib.Ieee.{binary32, of_bits, lt}
-use borrow.Author.Tests.{lt-ltb, le-ltb, ltb-true, ltb-false, eqb-true, eqb-false, eq-eqb, ne_eqb}
+use lib.Ieee.{lt}
+use borrow.Author.Tests.{lt-ltb, ltb-true, ltb-false, eqb-true, eqb-false, ne_eqb}
 use Rattle.sheet.specs.Sheet.{finite}
 use Rattle.roll.specs.declared.Line.{Line}
 use Rattle.roll.specs.Rank.{rank}
@@ -16,7 +16,7 @@ use Rattle.roll.specs.Roll.{moisture_of, finite_readings, ordered_from, ordered,
 use Rattle.roll.specs.Plain.{Among}
 use Rattle.roll.proofs.Tests.{bcase, and_left, and_right}
 use Rattle.roll.proofs.Ranks.{lt_rank, rank_there}
-use Rattle.roll.proofs.Lines.{Rest, rest, enters_ordered, enters_finite, among_enters, enters_among}
+use Rattle.roll.proofs.Lines.{rest, enters_ordered, enters_finite, among_enters, enters_among}
 use Rattle.roll.proofs.Highest.{r, moisture_finite, Top, top_is, is_top, highest_none}
 use Rattle.lines.specs.declared.Seen.{Seen}
 use Rattle.lines.specs.Look.{no_top, top_of, raised, merged, looked, nothing_seen, scanned, seen_in}

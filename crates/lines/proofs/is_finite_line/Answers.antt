@@ -1,14 +1,10 @@
--- `lines::is_finite_line` meets its contract.
-use Prim.Native.Nat.{◌%◌, ◌<◌, ◌≤◌}
-use mathlib.Core.Path.{◌≡◌, sym, ◌∙◌}
-use mathlib.Core.Bool.{false}
-use lib.Dec.{ltb}
+-- The line is finite where both readings are, by the bits without the sign.
+use Rattle.std.proofs.Common.{◌≡◌, ◌%◌, ◌<◌, ◌≤◌, false, ltb, sym, ◌∙◌}
 use borrow.Author.Tests.{lt-ltb, le-ltb}
 use Rattle.sheet.proofs.Finite.{finite_bits}
 use Rattle.roll.specs.declared.Line.{Line}
 use Rattle.roll.specs.Roll.{finite_readings}
-use Rattle.lines.proofs.is_finite_line.Statement.{statement}
-use Rattle.lines.proofs.is_finite_line.Tie as tie
+use Rattle.lines.proofs.is_finite_line.Goals as goal
 
 both : (l : Line) → l.moisture % 0x8000_0000 < 0x7f80_0000 → ltb (l.conductivity % 0x8000_0000) 0x7f80_0000 ≡ finite_readings l
 unfolding finite_readings
@@ -18,11 +14,8 @@ one : (l : Line) → 0x7f80_0000 ≤ l.moisture % 0x8000_0000 → false ≡ fini
 unfolding finite_readings
 one l h = rw (finite_bits l.moisture ∙ le-ltb (l.moisture % 0x8000_0000) 0x7f80_0000 h)
 
-returns : tie.Need-returns
-returns c = search both
+pub returns-then-l-lt2139095040 : goal.returns-then-l-lt2139095040
+returns-then-l-lt2139095040 c = search both
 
-returns_2 : tie.Need-returns-2
-returns_2 c = search one
-
-pub is_finite_line_spec : {M : Type 1} → statement M
-is_finite_line_spec = tie.close (tie.spec returns returns_2)
+pub returns : goal.returns
+returns c = search one

@@ -1,0 +1,13 @@
+-- The rank worked out is that of the bits.
+use Rattle.std.proofs.Common.{arith}
+use Rattle.std.proofs.lemmas.Bool.Decides.{nat_tests}
+use Rattle.roll.specs.Rank.{rank}
+use Rattle.lines.proofs.rank_of.Goals as goal
+
+pub returns-then-bits-lt2147483648 : goal.returns-then-bits-lt2147483648
+unfolding rank
+returns-then-bits-lt2147483648 c = grind (arith, nat_tests)
+
+pub returns : goal.returns
+unfolding rank
+returns c = grind (arith, nat_tests)
