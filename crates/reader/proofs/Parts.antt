@@ -5,7 +5,6 @@ use mathlib.Core.Bool.{Bool, true, false}
 use mathlib.Core.List.{List}
 use lib.ListN.{length, get_or, replicate, take, drop}
 use Rattle.words.specs.Words.{Bytes, word_at}
-use Rattle.message.specs.declared.ReadAnswer.{ReadAnswer}
 use Rattle.message.specs.Message.{well_formed, five_at, read_of, is_request, request_of}
 use Rattle.message.specs.Read.{read_answer}
 use Rattle.message.proofs.Form.{sized}
