@@ -8,8 +8,8 @@ who=columns
 # shellcheck source=tests/shared
 . tests/shared
 
-said=$(sed '/^# What is done/,$d' crates.txt | sed -n 's/^\([a-z]*\):.*/\1/p')
-coded=$(sed '1,/^# What is done/d' crates.txt | sed -n 's/^\([a-z]*\):.*/\1/p')
+said=$(sed '/^# What is done/,$d' crates.txt | sed -n 's/^\([a-z]*\)[a-z ]*:.*/\1/p')
+coded=$(sed '1,/^# What is done/d' crates.txt | sed -n 's/^\([a-z]*\)[a-z ]*:.*/\1/p')
 for column in "$said" "$coded"; do
     [ "$(wc -w <<<"$column")" -ge 5 ] || wrong 'crates.txt: a column has fewer than five crates'
 done

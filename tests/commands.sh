@@ -16,28 +16,25 @@ who=commands
 # ---- the tree and the stand-in
 
 mkdir -p "$tree/tests" "$room/kit" "$room/none"
-cp -R show build .ci crates bindings docs CHANGELOG.md "$tree/"
-printf '%s\n' '# five crates' 'card:' 'words:' 'lot: words' 'house: card lot' 'transcript: lot io' >"$tree/crates.txt"
+cp -R show build .ci bindings docs CHANGELOG.md "$tree/"
+tar -cf - --exclude='crates/*/out' crates | tar -xf - -C "$tree"
+printf '%s\n' '# five crates' 'card:' 'words:' 'lot: words' 'house staticlib: card lot' 'transcript: lot std' >"$tree/crates.txt"
 cat >"$room/kit/rt" <<'END'
 #!/usr/bin/env bash
 # Says what rt says, and proves nothing.
+crate=${PWD##*/}
 case $1 in
 version) echo "${KIT:-$(cat .ci/kit)}" && exit ;;
-ci) echo 'rt: ok, all of it' && exit ;;
+ci) echo "rt: ok; handles allowed: none; must-fail edits: 9 refused${BAD:-}; all of it" && echo '9 passed, 0 failed' && exit ;;
 esac
-[ -z "${WAIT:-}" ] || { echo started >"$WAIT.started" && read -r _ <"$WAIT.go"; }
-for crate in words lot; do echo "rt: $crate proved (1 s)" >&2; done
-[ -z "${FAILS:-}" ] || { echo 'rt: sheet NOT PROVED (exit 1, 2 s)' && exit 1; }
-mkdir -p target/log target/staticlib
-case $1 in
-check)
-    echo 'rt: transcript proved (1 s)'
-    cp crates/transcript/stdout target/log/transcript.stdout
-    ;;
-staticlib)
-    echo "rt: target/staticlib/libhouse.a has the functions of house that are marked"
-    echo an archive >target/staticlib/libhouse.a
-    ;;
+if [ "$crate" = words ] && [ -n "${WAIT:-}" ]; then echo started >"$WAIT.started" && read -r _ <"$WAIT.go"; fi
+if [ "$crate" = lot ] && [ -n "${FAILS:-}" ]; then echo 'fn lot::half: not proved' && echo 'logic=not-proved' && exit 1; fi
+mkdir -p out
+case "$crate $1" in
+'transcript run') cat stdout && echo 'logic=proved functions=1' >&2 ;;
+'house lib') echo an archive >out/libhouse.a ;;
+*' lib') echo 'logic=proved functions=1' ;;
+*) exit 2 ;;
 esac
 END
 chmod +x "$room/kit/rt"
@@ -132,8 +129,8 @@ grep -q '^show: 0 min [1-9][0-9]* s: 0 of 3; left: words lot transcript$' "$room
 # ---- what ./show shows
 
 try ./show
-ended 0 'show: 1 of 3: words proved (1 s)' './show'
-ended 0 'show: 3 of 3: transcript proved (1 s)' './show'
+ended 0 'show: 1 of 3: words proved (' './show'
+ended 0 'show: 3 of 3: transcript proved (' './show'
 [ "$(head -n 1 <<<"$said")" = '== What the proved calls did (all)' ] || wrong './show has no headline'
 scenes=$(awk -v RS= 'END { print NR - 1 }' crates/transcript/stdout)
 case $(tail -n 1 <<<"$said") in
@@ -156,7 +153,7 @@ cmp -s "$room/parts" crates/transcript/stdout || wrong 'the three parts of ./sho
 with=(FAILS=1)
 keep
 try ./build
-ended 1 'sheet NOT PROVED' './build, a proof fails'
+ended 1 'logic=not-proved' './build, a proof fails'
 ended 1 'build: not proved (target/build.log has all that rt said)' './build, a proof fails'
 [ ! -e "$tree/target/house" ] || wrong './build left something, and a proof failed'
 try ./show
@@ -166,8 +163,8 @@ with=()
 # ---- the archive and its stamp
 
 try ./build
-ended 0 'build: 1 of 4: words proved (1 s)' './build'
-ended 0 'house proved and compiled' './build'
+ended 0 'build: 1 of 4: card proved (' './build'
+ended 0 'build: 4 of 4: house proved (' './build'
 for file in libgrassmunch.a grassmunch.h grassmunch.stamp; do
     [ -s "$tree/target/house/$file" ] || wrong "./build left no $file"
 done
@@ -217,13 +214,18 @@ ended 1 'ci: tests/part.sh failed' '.ci/run, a test fails'
 echo 'bash .ci/archive && sleep 0.2 && echo later' >"$tree/tests/part.sh"
 echo 'echo sooner' >"$tree/tests/second.sh"
 try .ci/run
-ended 0 'rt: ok, all of it' '.ci/run'
-[ "$(tail -n 1 <<<"$said")" = 'rt: ok, all of it' ] || wrong '.ci/run does not end with the last line of rt ci'
+ended 0 'rt: ok; ' '.ci/run'
+[ "$(tail -n 1 <<<"$said")" = '9 passed, 0 failed' ] || wrong '.ci/run does not end with the last line of rt ci'
 [ "$(grep -A 1 '^ci: tests' <<<"$said" | grep -cx -e 'ci: tests/part.sh' -e later -e 'ci: tests/second.sh' -e sooner)" = 4 ] ||
     wrong '.ci/run does not tell what each test said below its name'
 echo 'exit 1' >"$tree/tests/compare.sh"
 try .ci/run
 ended 1 'ci: tests/compare.sh failed' '.ci/run, the comparison fails'
+echo 'echo compared' >"$tree/tests/compare.sh"
+with=('BAD=, 1 bad')
+try .ci/run
+ended 1 'ci: must-fail edits are bad' '.ci/run, an edit is bad'
+with=()
 
 # ---- a document that is not there
 

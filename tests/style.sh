@@ -1,5 +1,6 @@
 #!/usr/bin/env bash
-# Rattle and antt files are in rt's layout, no line is over 140 characters, and no proof file keeps what rt prints while one works.
+# No line of Rattle and antt is over 140 characters, and no proof file keeps what rt prints while one works. That files are in rt's layout
+# rt ci sees.
 set -uo pipefail
 cd "$(dirname "${BASH_SOURCE[0]}")/.." || exit 1
 export LC_ALL=C.UTF-8
@@ -13,8 +14,7 @@ none() { # WHAT FOUND
 $(head -n 10 <<<"$2")"
 }
 
-layout=$(rt fmt --check 2>&1) || none 'not in the layout of rt fmt' "${layout:-rt fmt says nothing}"
-none 'over 140 characters' "$(find crates \( -name '*.rt' -o -name '*.antt' \) -exec grep -nHE '^.{141,}$' {} + | cut -c1-100)"
+none 'over 140 characters' "$(find crates -name out -prune -o \( -name '*.rt' -o -name '*.antt' \) -exec grep -nHE '^.{141,}$' {} + | cut -c1-100)"
 none 'a place or an import that was printed for the author' \
-    "$(find crates -name 'Proof.antt' -exec grep -nHE '^-- src/|^use .* as lts$' {} +)"
+    "$(find crates \( -name 'Proof.antt' -o -name 'Answers.antt' -o -name 'Invariants.antt' \) -exec grep -nHE '^-- src/|^use .* as lts$' {} +)"
 exit "$bad"
