@@ -48,6 +48,7 @@ const CARD: [Column; LARGEST] = [
 ];
 
 // Whether the card has a column for n houses.
+#[tactic(auto, unfolding(card::specs::Card::houses_ok, card::specs::Card::largest))]
 pub fn is_houses(n: u32) -> bool
     ensures { result ≡ houses_ok n }
 {
@@ -72,6 +73,7 @@ fn column_of(n: usize) -> Column
 }
 
 // Whether f houses of n may be down: 0 to 4, and some t fits.
+#[tactic(auto, unfolding(card::specs::Card::down_ok, card::specs::Card::most_down))]
 pub fn is_down(n: u32, f: u32) -> bool
     ensures { result ≡ down_ok n f }
 {
