@@ -4,12 +4,13 @@
 
 ghost use Rattle.std.specs.Prelude.{◌<◌};
 
-use libc::STDOUT_FILENO;
 use script::{CALL, LINE, Numbers, TAIL, TEXT, WRONG, byte_at, find, get, text_at, wide};
+use std::io;
+use std::io::Write;
 use std::num::wrapping_add_u32;
 
-fn say(text: &[u8]) {
-    io::write_all(STDOUT_FILENO, text);
+fn say<W: Write>(out: &mut W, text: &[u8]) -> io::Result<()> {
+    out.write_all(text)
 }
 
 // ---- phrases
@@ -50,37 +51,37 @@ fn go_out(p: Spot) -> Spot {
     }
 }
 
-fn say_number(n: u32) {
-    io::print_decimal(STDOUT_FILENO, n as u64);
+fn say_number<W: Write>(out: &mut W, n: u32) -> io::Result<()> {
+    write!(out, "{n}")
 }
 
-fn say_letter(c: u8) {
+fn say_letter<W: Write>(out: &mut W, c: u8) -> io::Result<()> {
     let one: [u8; 1] = [c];
-    say(&one);
+    say(out, &one)
 }
 
 // A letter or a hole at a time.
-fn step(s: &[u8], p: Spot, r: Numbers) -> Spot {
+fn step<W: Write>(out: &mut W, s: &[u8], p: Spot, r: Numbers) -> io::Result<Spot> {
     let at = p.at;
     let letter = byte_at(s, wrapping_add_u32(at, 1));
     let next = wrapping_add_u32(at, 3);
     let c = text_at(s, at);
     match c {
-        0 => go_out(p),
-        b'[' => go_in(p, find(s, letter, get(r, letter), 0), next),
+        0 => Ok(go_out(p)),
+        b'[' => Ok(go_in(p, find(s, letter, get(r, letter), 0), next)),
         b'<' => {
-            say_number(get(r, letter));
-            move_to(p, next)
+            say_number(out, get(r, letter))?;
+            Ok(move_to(p, next))
         }
         _ => {
-            say_letter(c);
-            move_to(p, wrapping_add_u32(at, 1))
+            say_letter(out, c)?;
+            Ok(move_to(p, wrapping_add_u32(at, 1)))
         }
     }
 }
 
 // Tells what stands at a place, to the end of its line.
-pub fn tell(s: &[u8], at: u32, r: Numbers) {
+pub fn tell<W: Write>(out: &mut W, s: &[u8], at: u32, r: Numbers) -> io::Result<()> {
     let mut p = Spot {
         at,
         then: 0,
@@ -89,60 +90,61 @@ pub fn tell(s: &[u8], at: u32, r: Numbers) {
     };
     let mut i: u32 = 0;
     while i < 512 {
-        p = step(s, p, r);
+        p = step(out, s, p, r)?;
         i += 1;
     }
+    Ok(())
 }
 
 // Tells a phrase, by its number in the script.
-pub fn tell_phrase(s: &[u8], phrase: u32, r: Numbers) {
-    tell(s, find(s, b'T', phrase, 0), r);
+pub fn tell_phrase<W: Write>(out: &mut W, s: &[u8], phrase: u32, r: Numbers) -> io::Result<()> {
+    tell(out, s, find(s, b'T', phrase, 0), r)
 }
 
 // ---- lines
 
-pub fn end_line() {
-    say(b"\n");
+pub fn end_line<W: Write>(out: &mut W) -> io::Result<()> {
+    say(out, b"\n")
 }
 
 // Tells what stands at a place, and the line ends.
-pub fn tell_line(s: &[u8], at: u32, r: Numbers) {
-    tell(s, at, r);
-    end_line();
+pub fn tell_line<W: Write>(out: &mut W, s: &[u8], at: u32, r: Numbers) -> io::Result<()> {
+    tell(out, s, at, r)?;
+    end_line(out)
 }
 
-pub fn say_line(s: &[u8], phrase: u32, r: Numbers) {
-    tell_phrase(s, phrase, r);
-    end_line();
+pub fn say_line<W: Write>(out: &mut W, s: &[u8], phrase: u32, r: Numbers) -> io::Result<()> {
+    tell_phrase(out, s, phrase, r)?;
+    end_line(out)
 }
 
 // What is told of a call: as the script has it for every such call, or the line's own text and the answer.
-pub fn told(s: &[u8], r: Numbers) {
+pub fn told<W: Write>(out: &mut W, s: &[u8], r: Numbers) -> io::Result<()> {
     if r[WRONG] != 0 {
-        say(b"not understood:");
-        tell_line(s, r[LINE], r);
-        return;
+        say(out, b"not understood:")?;
+        return tell_line(out, s, r[LINE], r);
     }
     if r[TEXT] == 0 {
-        say_line(s, r[CALL], r);
-        return;
+        return say_line(out, s, r[CALL], r);
     }
-    tell(s, r[TEXT], r);
-    tell_line(s, find(s, b'z', r[TAIL], 0), r);
+    tell(out, s, r[TEXT], r)?;
+    tell_line(out, s, find(s, b'z', r[TAIL], 0), r)
 }
 
 // ---- bytes
 
-fn say_hex(c: u8) {
-    say(b" ");
-    io::print_hex(STDOUT_FILENO, wide(c) as u64, 2);
+fn say_hex<W: Write>(out: &mut W, c: u8) -> io::Result<()> {
+    say(out, b" ")?;
+    let n = wide(c);
+    write!(out, "{n:02x}")
 }
 
 // Bytes from a place to before another, in hexadecimal.
-pub fn say_bytes(bytes: &[u8], first: u32, end: u32) {
+pub fn say_bytes<W: Write>(out: &mut W, bytes: &[u8], first: u32, end: u32) -> io::Result<()> {
     let mut at = first;
     while at < end {
-        say_hex(byte_at(bytes, at));
+        say_hex(out, byte_at(bytes, at))?;
         at += 1;
     }
+    Ok(())
 }
