@@ -4,10 +4,10 @@ use mathlib.Core.Path.{◌≡◌, sym, ap, ◌∙◌}
 use mathlib.Core.Bool.{Bool, false, ◌&&◌}
 use mathlib.Core.List.{List}
 use lib.Dec.{leb}
-use Rattle.card.specs.Card.{quorum, amplify, deliver, counts_of}
+use Rattle.card.specs.Card.{counts_of}
 use Rattle.card.specs.Count.{count}
 use Rattle.words.specs.Words.{Bytes}
-use Rattle.entry.specs.Entry.{Decl, Kind, ECHO, READY, is_none, holds, votes, recorded, marked}
+use Rattle.entry.specs.Entry.{Decl, Kind, ECHO, READY, is_none, holds, recorded, marked}
 use Rattle.protocol.specs.Steps.{Rules, Out, say, only_if, reached, takes_echo, takes_ready, takes}
 use Rattle.protocol.specs.Thresholds.{rules_of}
 use Rattle.meaning.specs.Slot.{slot_at, put_slot}

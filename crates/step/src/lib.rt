@@ -9,7 +9,6 @@ ghost use Rattle.calls.specs.ByEntry.{called_in};
 ghost use Rattle.reply.specs.Handed.{sender_in, outcome_of};
 ghost use Rattle.step.specs.Carries.{asked_by, Carries};
 
-use fields::{ECHO, READY};
 use reply::Step;
 
 // Where the declaration's 20 bytes stand in a message.
@@ -28,7 +27,7 @@ pub fn hear_send(book: &mut [u8], base: usize, message: &[u8]) -> Step
         return Step {
             answer: 0,
             gives: true,
-            kind: ECHO,
+            kind: fields::ECHO,
             delivers: false,
         };
     }
@@ -56,7 +55,7 @@ pub fn hear_echo(book: &mut [u8], house: usize, base: usize, message: &[u8]) -> 
         return Step {
             answer: 0,
             gives,
-            kind: READY,
+            kind: fields::READY,
             delivers: false,
         };
     }
@@ -90,7 +89,7 @@ pub fn hear_ready(book: &mut [u8], house: usize, base: usize, message: &[u8]) ->
         return Step {
             answer: 0,
             gives: m.gives,
-            kind: READY,
+            kind: fields::READY,
             delivers: m.delivers,
         };
     }
