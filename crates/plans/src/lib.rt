@@ -56,6 +56,7 @@ pub fn strike_lot(lot: u32) -> Ask
 }
 
 // A roll not too long, and no more lines in use than there are.
+#[tactic(auto, unfolding(crate::specs::Plan::long_enough))]
 fn is_long_enough(len: usize, lines: usize) -> bool
     ensures { (result ≡ long_enough len lines) × (result ≡ true → (lines ≤ len) × (lines ≤ 4096)) }
 {
