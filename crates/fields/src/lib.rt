@@ -15,6 +15,7 @@ pub const ECHO: u8 = 2;
 pub const READY: u8 = 3;
 
 // 1 SEND, 2 ECHO, 3 READY.
+#[tactic(auto, unfolding(message::specs::Message::is_kind))]
 pub fn is_kind(kind: u8) -> bool
     ensures { result ≡ is_kind kind }
 {
@@ -33,6 +34,7 @@ fn is_field(bytes: &[u8], i: usize, tag: u8, len: u32) -> bool
 }
 
 // The three tags and lengths, in this order.
+#[tactic(auto, unfolding(message::specs::Message::tagged))]
 fn is_tagged(bytes: &[u8]) -> bool
     requires { length bytes.now ≡ 36 }
     ensures { result ≡ tagged bytes.now }
@@ -46,6 +48,7 @@ fn is_tagged(bytes: &[u8]) -> bool
 }
 
 // Exactly these fields, in this order.
+#[tactic(auto, unfolding(message::specs::Message::well_formed))]
 pub fn is_well_formed(bytes: &[u8]) -> bool
     ensures { result ≡ well_formed bytes.now }
 {
@@ -58,6 +61,7 @@ pub fn is_well_formed(bytes: &[u8]) -> bool
 }
 
 // A request for help: kind 9 and the season alone.
+#[tactic(auto, unfolding(message::specs::Message::is_request))]
 pub fn is_request(bytes: &[u8]) -> bool
     ensures { result ≡ is_request bytes.now }
 {
