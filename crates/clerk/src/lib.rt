@@ -9,6 +9,8 @@ use hand::{Came, answered, nothing};
 use octets::wide;
 use post::{APART, BOOKS, COPIES, bit, byte, copy, has};
 use script::{BYTES, CALL, FROM, GIVES, HONEST, HOUSES, KIND, NUMBER, Numbers, OWN, SENDER, WRONG};
+use std::io;
+use std::io::Write;
 use std::num::wrapping_add_u32;
 use telling::{say_line, told};
 
@@ -92,7 +94,15 @@ fn look_up(desk: &[u8], r: Numbers) -> Came {
 // ---- what is sent again
 
 // What a house sent of a kind, to the houses from `first` to before `end`.
-fn send_kind(s: &[u8], desk: &mut [u8], r: Numbers, kind: u32, first: u32, end: u32) {
+fn send_kind<W: Write>(
+    out: &mut W,
+    s: &[u8],
+    desk: &mut [u8],
+    r: Numbers,
+    kind: u32,
+    first: u32,
+    end: u32,
+) -> io::Result<()> {
     let mut r = r;
     r[CALL] = SENT;
     r[KIND] = kind;
@@ -100,65 +110,81 @@ fn send_kind(s: &[u8], desk: &mut [u8], r: Numbers, kind: u32, first: u32, end: 
     let r = came.r;
     let message = came.message;
     if r[GIVES] == 1 {
-        stage::send_again(s, desk, hand::read(r, &message), message, first, end);
+        return stage::send_again(out, s, desk, hand::read(r, &message), message, first, end);
     }
+    Ok(())
 }
 
 // All that a house sent on the entry of house 0, which alone publishes in these seasons.
-fn send_all(s: &[u8], desk: &mut [u8], r: Numbers, first: u32, end: u32) {
+fn send_all<W: Write>(
+    out: &mut W,
+    s: &[u8],
+    desk: &mut [u8],
+    r: Numbers,
+    first: u32,
+    end: u32,
+) -> io::Result<()> {
     let before = has(desk, COPIES, 0);
-    send_kind(s, desk, r, 1, first, end);
-    send_kind(s, desk, r, 2, first, end);
-    send_kind(s, desk, r, 3, first, end);
+    send_kind(out, s, desk, r, 1, first, end)?;
+    send_kind(out, s, desk, r, 2, first, end)?;
+    send_kind(out, s, desk, r, 3, first, end)?;
     if has(desk, COPIES, 0) == before {
-        say_line(s, NOTHING, r);
+        return say_line(out, s, NOTHING, r);
     }
+    Ok(())
 }
 
 // ---- what follows a call
 
 // A helper sends to the asker alone.
-fn help(s: &[u8], desk: &mut [u8], r: Numbers) {
+fn help<W: Write>(out: &mut W, s: &[u8], desk: &mut [u8], r: Numbers) -> io::Result<()> {
     let asker = r[FROM];
-    send_all(s, desk, r, asker, wrapping_add_u32(asker, 1));
+    send_all(out, s, desk, r, asker, wrapping_add_u32(asker, 1))
 }
 
 // What came of a call is told; in a season a message given is posted, and who asked is helped.
-pub fn follow(s: &[u8], desk: &mut [u8], r: Numbers, message: [u8; 36]) {
-    told(s, r);
+pub fn follow<W: Write>(
+    out: &mut W,
+    s: &[u8],
+    desk: &mut [u8],
+    r: Numbers,
+    message: [u8; 36],
+) -> io::Result<()> {
+    told(out, s, r)?;
     if r[HONEST] != 0 {
         stage::give(desk, r, message);
         if r[GIVES] == 2 {
-            help(s, desk, r);
+            return help(out, s, desk, r);
         }
     }
+    Ok(())
 }
 
-fn look(s: &[u8], desk: &mut [u8], r: Numbers) {
+fn look<W: Write>(out: &mut W, s: &[u8], desk: &mut [u8], r: Numbers) -> io::Result<()> {
     let came = look_up(desk, r);
     let r = came.r;
     let message = came.message;
-    follow(s, desk, r, message);
+    follow(out, s, desk, r, message)
 }
 
 // On return a house sends again to all what it has sent and asks all for help.
-fn start_again(s: &[u8], desk: &mut [u8], r: Numbers) {
+fn start_again<W: Write>(out: &mut W, s: &[u8], desk: &mut [u8], r: Numbers) -> io::Result<()> {
     stage::go_up(desk, r[OWN]);
     let came = look_up(desk, r);
     let r = came.r;
     let request = came.message;
-    told(s, r);
-    send_all(s, desk, r, 0, r[HOUSES]);
-    stage::ask_all(s, desk, r, request);
+    told(out, s, r)?;
+    send_all(out, s, desk, r, 0, r[HOUSES])?;
+    stage::ask_all(out, s, desk, r, request)
 }
 
 // A call or a step that changes no book.
-pub fn take_step(s: &[u8], desk: &mut [u8], r: Numbers) {
+pub fn take_step<W: Write>(out: &mut W, s: &[u8], desk: &mut [u8], r: Numbers) -> io::Result<()> {
     match r[CALL] {
-        2..=4 => told(s, outset::on_nothing(r)),
-        11..=14 => look(s, desk, r),
-        SHOW => hand::show(s, r),
-        BACK => start_again(s, desk, r),
-        _ => stage::take_step(s, desk, r),
+        2..=4 => told(out, s, outset::on_nothing(r)),
+        11..=14 => look(out, s, desk, r),
+        SHOW => hand::show(out, s, r),
+        BACK => start_again(out, s, desk, r),
+        _ => stage::take_step(out, s, desk, r),
     }
 }

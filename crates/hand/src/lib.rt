@@ -9,6 +9,8 @@ use message::Written;
 use octets::wide;
 use post::{byte, copy, put};
 use script::{FREE, KIND, LENGTH, NUMBER, Numbers, SEASON, SENDER, TEXT, WRONG};
+use std::io;
+use std::io::Write;
 use telling::{end_line, say_bytes, tell};
 
 // ---- the numbers, by their letters
@@ -198,10 +200,10 @@ pub fn given(answer: u8, gives: bool, helps: bool) -> u32 {
 }
 
 // Bytes laid as the numbers say: what they read as, in the line's own words, and the bytes from number x on.
-pub fn show(s: &[u8], r: Numbers) {
+pub fn show<W: Write>(out: &mut W, s: &[u8], r: Numbers) -> io::Result<()> {
     let hand = lay(r);
     let r = read_hand(r, hand);
-    tell(s, r[TEXT], r);
-    say_bytes(&hand, r[FREE], r[LENGTH]);
-    end_line();
+    tell(out, s, r[TEXT], r)?;
+    say_bytes(out, &hand, r[FREE], r[LENGTH])?;
+    end_line(out)
 }

@@ -12,6 +12,8 @@ use post::{
 use script::{
     CALL, DELIVERS, FREE, FROM, GIVES, HELP_LIMIT, HONEST, HOUSES, LENGTH, Numbers, OWN, WRONG,
 };
+use std::io;
+use std::io::Write;
 use std::num::wrapping_add_u32;
 use telling::{end_line, say_bytes, say_line, tell_phrase, told};
 
@@ -80,20 +82,36 @@ fn post_to(desk: &mut [u8], r: Numbers, list_at: u32, first: u32, end: u32, mess
 }
 
 // A message that was sent is sent again to the houses from `first` to before `end`.
-pub fn send_again(s: &[u8], desk: &mut [u8], r: Numbers, message: [u8; 36], first: u32, end: u32) {
+pub fn send_again<W: Write>(
+    out: &mut W,
+    s: &[u8],
+    desk: &mut [u8],
+    r: Numbers,
+    message: [u8; 36],
+    first: u32,
+    end: u32,
+) -> io::Result<()> {
     let r = numbered(r, first, has(desk, COPIES, 0), end);
-    say_line(s, to_whom(first, end), r);
+    say_line(out, s, to_whom(first, end), r)?;
     post_to(desk, r, COPIES, first, end, message);
+    Ok(())
 }
 
 // A request goes to all.
-pub fn ask_all(s: &[u8], desk: &mut [u8], r: Numbers, request: [u8; 36]) {
+pub fn ask_all<W: Write>(
+    out: &mut W,
+    s: &[u8],
+    desk: &mut [u8],
+    r: Numbers,
+    request: [u8; 36],
+) -> io::Result<()> {
     let houses = r[HOUSES];
     let r = numbered(r, 0, has(desk, REQUESTS, 0), houses);
-    tell_phrase(s, ASKS, r);
-    say_bytes(&request, 0, 11);
-    end_line();
+    tell_phrase(out, s, ASKS, r)?;
+    say_bytes(out, &request, 0, 11)?;
+    end_line(out)?;
     post_to(desk, r, REQUESTS, 0, houses, request);
+    Ok(())
 }
 
 // What came of a call in a season: a delivery is noted, and a message given goes to all.
@@ -174,14 +192,14 @@ pub fn take(desk: &mut [u8], r: Numbers) -> Taken {
 // ---- down and back
 
 // Byte x of the book of house 0 becomes another.
-fn spoil(s: &[u8], desk: &mut [u8], r: Numbers) {
+fn spoil<W: Write>(out: &mut W, s: &[u8], desk: &mut [u8], r: Numbers) -> io::Result<()> {
     put(desk, BOOKS as u32, r[FREE], r[BECOMES]);
-    told(s, r);
+    told(out, s, r)
 }
 
-fn go_down(s: &[u8], desk: &mut [u8], r: Numbers) {
+fn go_down<W: Write>(out: &mut W, s: &[u8], desk: &mut [u8], r: Numbers) -> io::Result<()> {
     put(desk, DOWN, r[OWN], 1);
-    told(s, r);
+    told(out, s, r)
 }
 
 pub fn go_up(desk: &mut [u8], own: u32) {
@@ -191,12 +209,12 @@ pub fn go_up(desk: &mut [u8], own: u32) {
 
 // ---- what is told
 
-fn stand(s: &[u8], desk: &[u8], r: Numbers) {
+fn stand<W: Write>(out: &mut W, s: &[u8], desk: &[u8], r: Numbers) -> io::Result<()> {
     let mut r = r;
     r[IS_DOWN] = has(desk, DOWN, r[OWN]);
     r[FREE] = has(desk, RETURNS, r[OWN]);
     r[HAS_DELIVERED] = has(desk, DELIVERED, r[OWN]);
-    told(s, r);
+    told(out, s, r)
 }
 
 // A product, with a bound by which sums of it fit.
@@ -225,33 +243,36 @@ fn bounds_of(n: u32, h: u32, d: u32) -> Bounds {
 }
 
 // The copies sent, those between honest houses where some are not, the READYs, and the bounds.
-fn bound(s: &[u8], desk: &[u8], r: Numbers) {
+fn bound<W: Write>(out: &mut W, s: &[u8], desk: &[u8], r: Numbers) -> io::Result<()> {
     let bounds = bounds_of(r[HOUSES], r[HONEST], r[HELP_LIMIT]);
     let mut r = r;
     r[FREE] = has(desk, COPIES, 0);
     r[LAST] = has(desk, COPIES, 1);
     r[SOME_WRONG] = bit(r[LAST] < r[FREE]);
     r[BOUND] = bounds.copies;
-    told(s, r);
+    told(out, s, r)?;
     r[FREE] = has(desk, COPIES, 2);
     r[BOUND] = bounds.readys;
-    say_line(s, READYS, r);
+    say_line(out, s, READYS, r)
 }
 
-fn refuse(s: &[u8], r: Numbers) {
+fn refuse<W: Write>(out: &mut W, s: &[u8], r: Numbers) -> io::Result<()> {
     let mut r = r;
     r[WRONG] = 1;
-    told(s, r);
+    told(out, s, r)
 }
 
 // A step that calls on no book, or a call that there is not.
-pub fn take_step(s: &[u8], desk: &mut [u8], r: Numbers) {
+pub fn take_step<W: Write>(out: &mut W, s: &[u8], desk: &mut [u8], r: Numbers) -> io::Result<()> {
     match r[CALL] {
-        BEGIN => post::begin(desk),
-        GO_DOWN => go_down(s, desk, r),
-        STAND => stand(s, desk, r),
-        BOUNDS => bound(s, desk, r),
-        SPOIL => spoil(s, desk, r),
-        _ => refuse(s, r),
+        BEGIN => {
+            post::begin(desk);
+            Ok(())
+        }
+        GO_DOWN => go_down(out, s, desk, r),
+        STAND => stand(out, s, desk, r),
+        BOUNDS => bound(out, s, desk, r),
+        SPOIL => spoil(out, s, desk, r),
+        _ => refuse(out, s, r),
     }
 }
