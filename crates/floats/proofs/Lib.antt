@@ -1,1 +1,2 @@
 pub mod Measurable
+pub mod Nan

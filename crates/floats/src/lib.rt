@@ -7,6 +7,7 @@ ghost use Rattle.std.specs.Float.Ieee.{of_bits, le};
 ghost use Rattle.sheet.specs.Sheet.{measurable};
 
 // The float that bits stand for, a NaN's too.
+#[tactic(auto, using(crate::proofs::Nan::zero_by_zero))]
 pub fn float_of(bits: u32) -> f32
     ensures { result ≡ of_bits binary32 bits }
 {
@@ -17,6 +18,7 @@ pub fn float_of(bits: u32) -> f32
 }
 
 // Not NaN, infinite or below zero, by the bits: below those of infinity, or minus zero's.
+#[tactic(auto, using(crate::proofs::Measurable::in_range, crate::proofs::Measurable::at_minus_zero, crate::proofs::Measurable::out_of_range))]
 pub fn is_measurable(bits: u32) -> bool
     ensures { result ≡ measurable (of_bits binary32 bits) }
 {

@@ -64,6 +64,7 @@ fn most(colonies: u32, cap: u32) -> u64
     (colonies as u64) * (cap as u64)
 }
 
+#[tactic(auto, using(sheet::proofs::Exactly::no_colonies))]
 pub fn is_plausible(sheet: Sheet, d: Declaration) -> bool
     requires { sheet_legal sheet ≡ true }
     ensures { result ≡ plausible sheet d }

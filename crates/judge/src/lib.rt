@@ -42,6 +42,7 @@ pub fn is_sheet_at(bytes: &[u8], i: usize) -> bool
 }
 
 // These bytes are the one form of a legal sheet.
+#[tactic(auto, unfolding(sheet::specs::Kept::is_sheet))]
 pub fn is_sheet(bytes: &[u8]) -> bool
     ensures { result ≡ is_sheet bytes.now }
 {

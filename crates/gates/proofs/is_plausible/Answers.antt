@@ -1,7 +1,7 @@
 -- A declaration is plausible when each test passes and the readings decide.
 use Rattle.std.proofs.Common.{arith, sym, ap, ◌∙◌}
 use Rattle.sheet.specs.Sheet.{admitted}
-use Rattle.sheet.proofs.Exactly.{no_colonies, too_heavy, readings_decide, moisture_fails, conductivity_fails}
+use Rattle.sheet.proofs.Exactly.{too_heavy, readings_decide, moisture_fails, conductivity_fails}
 use Rattle.gates.proofs.is_plausible.Goals as goal
 
 -- every test passed, and the readings decide
@@ -21,7 +21,3 @@ returns-else-is_measurable c = moisture_fails _ _ (sym c.is_measurable.ensures �
 -- too many kilograms
 pub returns-else-d-most : goal.returns-else-d-most
 returns-else-d-most c = sym (too_heavy _ _ (omega arith) (omega arith))
-
--- no colonies
-pub returns-else-d-ge1 : goal.returns-else-d-ge1
-returns-else-d-ge1 c = sym (no_colonies _ _ (omega arith))
