@@ -13,6 +13,7 @@ const MOST_NUMBERS: u32 = 4;
 const MOST_LIMIT: u32 = 8;
 
 // S is 1 to 4.
+#[tactic(auto, unfolding(meaning::specs::Layout::numbers_ok, meaning::specs::Layout::most_numbers))]
 fn is_numbers(numbers: u32) -> bool
     ensures { result ≡ numbers_ok numbers }
 {
@@ -30,6 +31,7 @@ fn is_size(n: u32, numbers: u32) -> bool
 }
 
 // n, S, own number, f and d are allowed.
+#[tactic(auto, unfolding(meaning::specs::Opening::allowed, meaning::specs::Layout::most_limit))]
 pub fn is_allowed(n: u32, numbers: u32, own: u32, f: u32, d: u32) -> bool
     ensures { result ≡ allowed n numbers own f d }
 {
@@ -52,6 +54,7 @@ pub struct LengthAnswer {
 }
 
 // The public answer for a length that depends on n and S only.
+#[tactic(auto, using(crate::proofs::Sizes::n_byte, crate::proofs::Sizes::numbers_byte), unfolding(meaning::specs::Opening::length_answer))]
 pub fn length_of(n: u32, numbers: u32) -> LengthAnswer
     ensures { ◌≡◌ {A = Length} (record { answer = result.answer; length = result.length }) (length_answer n numbers) }
 {
