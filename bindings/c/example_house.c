@@ -1,13 +1,11 @@
-/* Four houses in one process: they open, publish, receive and store; one loses power twice, returns and is helped, and one loses it once;
- * another lies about what it declares, to different houses and then to one, which keeps the evidence; each enters on its roll what is
- * delivered, and strikes the liar's lot; and they write an account of it.
+/* Four houses in one process: they open, publish, receive and store; one loses power twice, returns and is helped; another lies about
+ * what it declares, to different houses and then to one, which keeps the evidence; and they write an account of it.
  *
- * Each call works on a copy of the book. The copy is stored, with a delivery beside it; then the delivery is entered on a copy of the roll
- * and the totals, and these are stored; and only then does anything leave. What a house sent can be read off its book, so that no message
- * is stored: after a power cut the book says what is to be sent again, and the delivery beside it is entered again.
+ * Each call works on a copy of the book. The copy is stored, with a delivery beside it, and only then does anything leave. What a
+ * house sent can be read off its book, so that no message is stored: after a power cut the book says what is to be sent again.
  * A house tests its book once, when it takes it from its file, and then receives by entry; one that it opened is legal.
  * The carrier, here the row `carried`, loses what comes to a house that is down; a house with neighbours puts its network there.
- * The one argument is the folder for the books and the rolls. */
+ * The one argument is the folder for the books. */
 #define _POSIX_C_SOURCE 200809L
 #include "grassmunch.h"
 
@@ -20,27 +18,22 @@
 /* Among four houses one may be wrong where f is 0, and none where f is 1. All four are to be up at the end, so f is 0; and each may
  * return twice, so d is 2. */
 enum { HOUSES = 4, NUMBERS = 2, DOWN = 0, LIMIT = 2, SEASON = 2026, PUBLISHER = 2, NUMBER = 1, LOSES_POWER = 1, LIAR = 3 };
-enum { COPIES = 128, LINES = 4, LOT_OF_LIAR = 90 };
+enum { COPIES = 128, LOTS = 2 };
 
 /* Made by `declare` at the start: the lot that is published, one that weighs too much, one with no colonies, one with a reading below
  * zero, and the two of the liar. */
 static uint8_t lot77[GM_DECLARATION_BYTES], heavy[GM_DECLARATION_BYTES], no_bees[GM_DECLARATION_BYTES], minus_3[GM_DECLARATION_BYTES];
 static uint8_t lot90[GM_DECLARATION_BYTES], twin[GM_DECLARATION_BYTES];
 
-/* Here a few lines are enough, and a copy may stand on the stack; a roll of GM_MOST_LINES is for the heap. */
-struct roll {
-    gm_line lines[LINES];
-    gm_totals totals;
-};
-
 /* Its book, and the copy that a call works on, are on the heap, each as long as gm_length says: GM_LONGEST_BOOK bytes are too many for the
  * stack of many a thread. */
 struct house {
     uint32_t own;
     bool up;
+    size_t entered; /* the lots in its register */
+    uint8_t lots[LOTS][GM_DECLARATION_BYTES];
     size_t len;
     uint8_t *book, *worked;
-    struct roll roll;
 };
 
 /* A message or a request on its way. */
@@ -79,7 +72,7 @@ static void declare(uint8_t *to, uint32_t lot, uint32_t colonies, uint32_t kilog
                                                   .conductivity = 0.5F});
 }
 
-/* ---- the house's own disk */
+/* ---- the house's own disk and register */
 
 static void name_file(char *name, size_t size, uint32_t own, const char *end) {
     snprintf(name, size, "%s/house-%u.%s", folder, (unsigned)own, end);
@@ -90,21 +83,20 @@ static bool write_whole(int file, const void *bytes, size_t size) {
     return (size_t)write(file, bytes, size) == size;
 }
 
-/* A new file. What is written to it is kept by `keep_file`. */
-static int new_file(uint32_t own) {
-    char fresh[256];
-    name_file(fresh, sizeof fresh, own, "new");
-    return open(fresh, O_WRONLY | O_CREAT | O_TRUNC, 0600);
-}
-
-/* Whole or not at all: the new file, synced, is then renamed over the old one. */
-static bool keep_file(uint32_t own, int file, bool whole, const char *end) {
+/* The book, and beside it a delivery behind a 1, or zeros. Whole or not at all: a new file, synced, then renamed over the old
+ * one. */
+static bool store(uint32_t own, const uint8_t *book, size_t len, const gm_outcome *gave) {
     char fresh[256], kept[256];
     name_file(fresh, sizeof fresh, own, "new");
-    name_file(kept, sizeof kept, own, end);
-    bool written = whole && fsync(file) == 0;
-    bool closed = file >= 0 && close(file) == 0;
-    if (!written || !closed || rename(fresh, kept) != 0) {
+    name_file(kept, sizeof kept, own, "book");
+    int file = open(fresh, O_WRONLY | O_CREAT | O_TRUNC, 0600);
+    if (file < 0) {
+        return false;
+    }
+    bool whole = write_whole(file, book, len) && write_whole(file, &gave->delivers, 1) &&
+                 write_whole(file, gave->declaration, GM_DECLARATION_BYTES) && fsync(file) == 0;
+    bool closed = close(file) == 0;
+    if (!whole || !closed || rename(fresh, kept) != 0) {
         return false;
     }
     int place = open(folder, O_RDONLY);
@@ -112,132 +104,36 @@ static bool keep_file(uint32_t own, int file, bool whole, const char *end) {
     return place >= 0 && close(place) == 0 && synced;
 }
 
-/* The book, and beside it a delivery behind a 1, or zeros. */
-static bool store(uint32_t own, const uint8_t *book, size_t len, const gm_outcome *gave) {
-    int file = new_file(own);
-    bool whole = file >= 0 && write_whole(file, book, len) && write_whole(file, &gave->delivers, 1) &&
-                 write_whole(file, gave->declaration, GM_DECLARATION_BYTES);
-    return keep_file(own, file, whole, "book");
-}
-
-/* The totals' 24 bytes, and 20 for each line in use. Numbers are stored as bytes, and not as a struct lies in memory. */
-static bool store_roll(uint32_t own, const struct roll *roll) {
-    uint8_t bytes[GM_TOTALS_BYTES + LINES * GM_DECLARATION_BYTES], *at = bytes + GM_TOTALS_BYTES;
-    gm_totals_to_bytes(bytes, &roll->totals);
-    for (size_t line = 0; line < roll->totals.lines; line++) {
-        gm_line_to_bytes(at, &roll->lines[line]);
-        at += GM_DECLARATION_BYTES;
+/* A delivery comes once, but after a power cut it may be here already. */
+static void enter(struct house *house, const uint8_t *delivery) {
+    for (size_t lot = 0; lot < house->entered; lot++) {
+        if (memcmp(house->lots[lot], delivery, GM_DECLARATION_BYTES) == 0) {
+            return;
+        }
     }
-    int file = new_file(own);
-    return keep_file(own, file, file >= 0 && write_whole(file, bytes, (size_t)(at - bytes)), "roll");
-}
-
-/* Opens what was stored last. */
-static int kept_file(uint32_t own, const char *end) {
-    char kept[256];
-    name_file(kept, sizeof kept, own, end);
-    return open(kept, O_RDONLY);
+    if (house->entered < LOTS) {
+        memcpy(house->lots[house->entered++], delivery, GM_DECLARATION_BYTES);
+        deliveries++;
+    }
 }
 
 /* What was stored last, if it is there to the byte and a legal book. gm_waiting tests the whole book, once; from then on the house receives
- * by entry. Beside it stands a delivery behind a 1, or zeros. */
-static bool recover_book(struct house *house, uint8_t beside[1 + GM_DECLARATION_BYTES]) {
-    int file = kept_file(house->own, "book");
+ * by entry. */
+static bool recover(struct house *house) {
+    char kept[256];
+    name_file(kept, sizeof kept, house->own, "book");
+    int file = open(kept, O_RDONLY);
     if (file < 0) {
         return false;
     }
-    size_t size = 1 + GM_DECLARATION_BYTES;
-    uint8_t past_end;
-    bool whole = (size_t)read(file, house->book, house->len) == house->len && (size_t)read(file, beside, size) == size &&
-                 read(file, &past_end, 1) == 0;
+    uint8_t delivery[1 + GM_DECLARATION_BYTES], past_end;
+    bool whole = (size_t)read(file, house->book, house->len) == house->len &&
+                 (size_t)read(file, delivery, sizeof delivery) == sizeof delivery && read(file, &past_end, 1) == 0;
     bool legal = whole && gm_waiting(house->book, house->len).answer == GM_ACCEPTED;
+    if (legal && delivery[0] == 1) {
+        enter(house, delivery + 1);
+    }
     return close(file) == 0 && legal;
-}
-
-/* What was stored last, if it is there to the byte and the totals are those of the lines. gm_roll_test says so, and changes neither. */
-static bool recover_roll(struct house *house) {
-    int file = kept_file(house->own, "roll");
-    if (file < 0) {
-        return false;
-    }
-    struct roll roll;
-    memset(&roll, 0, sizeof roll);
-    uint8_t bytes[GM_TOTALS_BYTES], past_end;
-    bool whole = (size_t)read(file, bytes, sizeof bytes) == sizeof bytes;
-    gm_totals_from_bytes(&roll.totals, bytes);
-    whole = whole && roll.totals.lines <= LINES;
-    for (size_t line = 0; whole && line < roll.totals.lines; line++) {
-        whole = (size_t)read(file, bytes, GM_DECLARATION_BYTES) == GM_DECLARATION_BYTES;
-        roll.lines[line] = gm_roll_line(bytes);
-    }
-    whole = whole && read(file, &past_end, 1) == 0;
-    house->roll = roll;
-    return close(file) == 0 && whole && gm_roll_test(house->roll.lines, LINES, &house->roll.totals) == GM_ACCEPTED;
-}
-
-/* ---- the roll */
-
-static void tell_totals(uint8_t answer, const gm_totals *totals) {
-    printf("%s", gm_answer_text(answer));
-    if (answer != GM_ACCEPTED) {
-        printf(" (answer %u)\n", (unsigned)answer);
-        return;
-    }
-    printf("; totals: %u in use, %llu kg, ", (unsigned)totals->lines, (unsigned long long)totals->kilograms);
-    if (totals->measured == 1) {
-        float moisture;
-        memcpy(&moisture, &totals->moisture, sizeof moisture);
-        printf("highest moisture %g percent\n", (double)moisture);
-    } else {
-        printf("no highest moisture\n");
-    }
-}
-
-/* This line stands on the roll. A line has no padding, so that all of its bytes are compared. */
-static bool is_on_roll(const struct roll *roll, const gm_line *line) {
-    for (size_t at = 0; at < roll->totals.lines; at++) {
-        if (memcmp(&roll->lines[at], line, sizeof *line) == 0) {
-            return true;
-        }
-    }
-    return false;
-}
-
-/* On a copy, stored, which then takes the roll's place. A delivery comes once, but after a power cut it may be here already: at answer 22
- * the same line stands there. Another line would be a second declaration of the lot, for people to look at. */
-static bool enter(struct house *house, const uint8_t *delivery) {
-    struct roll copy = house->roll;
-    gm_line line = gm_roll_line(delivery);
-    uint8_t answer = gm_roll_insert(copy.lines, LINES, &copy.totals, line);
-    printf("house %u enters lot %u on its roll: ", (unsigned)house->own, (unsigned)line.lot);
-    tell_totals(answer, &copy.totals);
-    if (answer == GM_LOT_ALREADY_THERE) {
-        return is_on_roll(&house->roll, &line);
-    }
-    if (answer != GM_ACCEPTED || !store_roll(house->own, &copy)) {
-        return false;
-    }
-    house->roll = copy;
-    deliveries++;
-    return true;
-}
-
-/* On a copy, stored, as above. Before that the book is stored with no delivery beside it: else the next start would enter again a lot that
- * was struck. */
-static bool strike(struct house *house, uint32_t lot) {
-    gm_outcome nothing = {0};
-    struct roll copy = house->roll;
-    uint8_t answer = gm_roll_strike(copy.lines, LINES, &copy.totals, lot);
-    printf("house %u strikes lot %u: ", (unsigned)house->own, (unsigned)lot);
-    tell_totals(answer, &copy.totals);
-    if (answer != GM_ACCEPTED) {
-        return answer == GM_LOT_NOT_ON_ROLL;
-    }
-    if (!store(house->own, house->book, house->len, &nothing) || !store_roll(house->own, &copy)) {
-        return false;
-    }
-    house->roll = copy;
-    return true;
 }
 
 /* ---- the house's own carrier */
@@ -269,25 +165,20 @@ static void send_again(const struct house *house) {
     }
 }
 
-/* Power is back, and nothing that was sent to the house was lost: it asks for no help. The delivery of its file is entered, or was. */
+/* Power is back, and nothing that was sent to the house was lost: it asks for no help. */
 static bool start(struct house *house) {
-    uint8_t beside[1 + GM_DECLARATION_BYTES];
-    if (!recover_book(house, beside) || !recover_roll(house)) {
+    if (!recover(house)) {
         return false;
     }
     house->up = true;
-    printf("house %u starts at once with the book, the delivery and the roll of its files\n", (unsigned)house->own);
-    if (beside[0] != 1 || !enter(house, beside + 1)) {
-        return false;
-    }
+    printf("house %u starts at once with the book and the delivery of its file\n", (unsigned)house->own);
     send_again(house);
-    return true;
+    return house->entered > 0;
 }
 
 /* "On return a house sends again to all what it has sent and asks all for help." */
 static bool come_back(struct house *house) {
-    uint8_t beside[1 + GM_DECLARATION_BYTES];
-    if (!recover_book(house, beside) || !recover_roll(house)) {
+    if (!recover(house)) {
         return false;
     }
     gm_return_answer back = gm_return(house->book, house->len);
@@ -295,9 +186,6 @@ static bool come_back(struct house *house) {
     printf("house %u returns with the book of its file: %s; waiting: number %u of sender %u\n", (unsigned)house->own,
            gm_answer_text(back.answer), (unsigned)next.number, (unsigned)next.sender);
     if (back.answer != GM_ACCEPTED || !next.waits) {
-        return false;
-    }
-    if (beside[0] == 1 && !enter(house, beside + 1)) {
         return false;
     }
     house->up = true;
@@ -365,18 +253,8 @@ static void keep_evidence(const struct house *house, uint32_t from, const uint8_
     printf("\n");
 }
 
-/* Memory is gone, and the files stay. */
-static bool power_fails(struct house *house, const char *when) {
-    printf("house %u loses power %s\n", (unsigned)house->own, when);
-    house->up = false;
-    memset(house->book, 0, house->len);
-    memset(house->worked, 0, house->len);
-    memset(&house->roll, 0, sizeof house->roll);
-    return true;
-}
-
-/* One house loses power twice: after a READY was stored and before it leaves; and after a delivery was stored and before its roll has
- * it. */
+/* One house loses power twice: after a READY was stored and before it leaves; and after a delivery was stored and before the
+ * register has it. */
 static bool loses_power(struct house *house, const gm_outcome *gave) {
     static bool first, second;
     if (house->own != LOSES_POWER) {
@@ -384,24 +262,20 @@ static bool loses_power(struct house *house, const gm_outcome *gave) {
     }
     if (!first && gave->gives && gm_read(gave->message, GM_MESSAGE_BYTES).kind == GM_READY) {
         first = true;
-        return power_fails(house, "before its READY leaves");
-    }
-    if (!second && gave->delivers) {
+        printf("house %u loses power before its READY leaves\n", (unsigned)house->own);
+    } else if (!second && gave->delivers) {
         second = true;
-        return power_fails(house, "before its roll has the delivery");
-    }
-    return false;
-}
-
-/* Another house loses power after its roll was stored. */
-static bool loses_power_later(struct house *house, const gm_outcome *gave) {
-    if (house->own != 0 || gm_roll_line(gave->declaration).lot != LOT_OF_LIAR) {
+        printf("house %u loses power before its register has the delivery\n", (unsigned)house->own);
+    } else {
         return false;
     }
-    return power_fails(house, "once its roll has the delivery");
+    house->up = false;
+    memset(house->book, 0, house->len);
+    memset(house->worked, 0, house->len);
+    return true;
 }
 
-/* ---- a call: on a copy, stored; then the roll, stored; then what the call gave leaves */
+/* ---- a call: on a copy, stored, then what it gave leaves */
 
 /* The copy that the next call works on. */
 static uint8_t *copy_book(struct house *house) {
@@ -429,16 +303,11 @@ static bool settle(struct house *house, uint32_t from, const gm_outcome *gave) {
     if (loses_power(house, gave)) {
         return !gave->delivers || start(house);
     }
-    if (gave->delivers) {
-        if (!enter(house, gave->declaration)) {
-            return false;
-        }
-        if (loses_power_later(house, gave)) {
-            return start(house);
-        }
-    }
     if (gave->gives) {
         carry_to_all(house->own, gave->message, GM_MESSAGE_BYTES);
+    }
+    if (gave->delivers) {
+        enter(house, gave->declaration);
     }
     if (gave->helps) {
         help(house, from);
@@ -488,8 +357,7 @@ static bool open_all(void) {
         }
         uint8_t answer = gm_open(house->book, house->len, HOUSES, NUMBERS, own, DOWN, LIMIT, SEASON, sheet, sizeof sheet);
         printf("house %u opens its book: %s\n", (unsigned)own, gm_answer_text(answer));
-        house->roll.totals = gm_empty_totals();
-        if (answer != GM_ACCEPTED || !store(own, house->book, house->len, &nothing) || !store_roll(own, &house->roll)) {
+        if (answer != GM_ACCEPTED || !store(own, house->book, house->len, &nothing)) {
             return false;
         }
     }
@@ -596,7 +464,7 @@ static bool lie(void) {
     }
     for (uint32_t own = 0; own < LIAR; own++) {
         const struct house *house = &houses[own];
-        if (house->roll.totals.lines != 2 || !is_on_roll(&house->roll, &houses[0].roll.lines[1])) {
+        if (house->entered != 2 || memcmp(house->lots[1], houses[0].lots[1], GM_DECLARATION_BYTES) != 0) {
             return false;
         }
     }
@@ -616,27 +484,16 @@ static bool repeat_and_conflict(void) {
     return bring_all();
 }
 
-/* The inspectors looked at the evidence. Striking it once more is refused, and changes nothing. */
-static bool strike_the_lie(void) {
-    printf("the inspectors have lot %d struck\n", LOT_OF_LIAR);
-    for (uint32_t own = 0; own < LIAR; own++) {
-        if (!strike(&houses[own], LOT_OF_LIAR)) {
-            return false;
-        }
-    }
-    return strike(&houses[0], LOT_OF_LIAR) && houses[0].roll.totals.lines == 1;
-}
-
 static bool run(void) {
     declare(lot77, 77, 40, 800, 17.5F);
     declare(heavy, 77, 40, 801, 17.5F);
     declare(no_bees, 78, 0, 0, 17.5F);
     declare(minus_3, 79, 40, 800, -3.0F);
-    declare(lot90, LOT_OF_LIAR, 30, 600, 18.5F);
-    declare(twin, LOT_OF_LIAR, 30, 500, 18.5F);
+    declare(lot90, 90, 30, 600, 17.5F);
+    declare(twin, 90, 30, 500, 17.5F);
     return open_all() && publish(&houses[PUBLISHER], NUMBER, lot77) && bring_all() && come_back(&houses[LOSES_POWER]) &&
            bring_all() && repeat_the_request() && refuse() && ask_for_the_colonies() && ask_for_the_reading() && lie() &&
-           repeat_and_conflict() && strike_the_lie() && !gm_waiting(houses[LOSES_POWER].book, houses[LOSES_POWER].len).waits;
+           repeat_and_conflict() && !gm_waiting(houses[LOSES_POWER].book, houses[LOSES_POWER].len).waits;
 }
 
 int main(int count, char **words) {
@@ -646,7 +503,7 @@ int main(int count, char **words) {
     bool went_well = run();
     free_all();
     if (!went_well) {
-        printf("the house stopped: a book had no memory, or a book or a roll was not stored, not recovered, not sound or not as it was\n");
+        printf("the house stopped: a book had no memory, or was not stored, not recovered, not legal or not as it was\n");
         return 1;
     }
     return 0;

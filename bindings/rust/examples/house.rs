@@ -1,13 +1,11 @@
-//! Four houses in one process: they open, publish, receive and store; one loses power twice, returns and is helped, and one loses it once;
-//! another lies about what it declares, to different houses and then to one, which keeps the evidence; each enters on its roll what is
-//! delivered, and strikes the liar's lot; and they write an account of it.
+//! Four houses in one process: they open, publish, receive and store; one loses power twice, returns and is helped; another lies about
+//! what it declares, to different houses and then to one, which keeps the evidence; and they write an account of it.
 //!
-//! Each call works on a copy of the book. The copy is stored, with a delivery beside it; then the delivery is entered on a copy of the roll
-//! and the totals, and these are stored; and only then does anything leave. What a house sent can be read off its book, so that no message
-//! is stored: after a power cut the book says what is to be sent again, and the delivery beside it is entered again.
+//! Each call works on a copy of the book. The copy is stored, with a delivery beside it, and only then does anything leave. What
+//! a house sent can be read off its book, so that no message is stored: after a power cut the book says what is to be sent again.
 //! A house tests its book once, when it takes it from its file, and then receives by entry; one that it opened is legal.
 //! The carrier, here the row `carried`, loses what comes to a house that is down; a house with neighbours puts its network there.
-//! The one argument is the folder for the books and the rolls.
+//! The one argument is the folder for the books.
 
 use std::error::Error;
 use std::fs::{self, File};
@@ -15,8 +13,7 @@ use std::io::Write;
 use std::path::{Path, PathBuf};
 
 use grassmunch::{
-    Book, Declaration, Entry, Gate, Heard, Kind, Line, Message, Opening, Outcome, Refusal, Roll,
-    Sheet, Worked,
+    Book, Declaration, Entry, Gate, Heard, Kind, Message, Opening, Outcome, Refusal, Sheet, Worked,
 };
 
 type Fallible<T> = Result<T, Box<dyn Error>>;
@@ -39,9 +36,6 @@ const PUBLISHER: usize = 2;
 const NUMBER: u32 = 1;
 const LOSES_POWER: usize = 1;
 const LIAR: usize = 3;
-const LOT_OF_LIAR: u32 = 90;
-/// The lines of a roll: here a few are enough.
-const LINES: usize = 4;
 
 /// A message or a request on its way.
 struct Copy {
@@ -50,7 +44,7 @@ struct Copy {
     bytes: Vec<u8>,
 }
 
-/// A house's own disk: one file with the book, and beside it a delivery behind a 1, or zeros; and one with the roll and the totals.
+/// A house's own disk: one file, with the book, and beside it a delivery behind a 1, or zeros.
 struct Disk {
     folder: PathBuf,
     own: usize,
@@ -62,34 +56,21 @@ impl Disk {
     }
 
     /// Whole or not at all: a new file, synced, then renamed over the old one.
-    fn keep(&self, end: &str, bytes: &[u8]) -> Fallible<()> {
-        let mut file = File::create(self.file("new"))?;
-        file.write_all(bytes)?;
-        file.sync_all()?;
-        fs::rename(self.file("new"), self.file(end))?;
-        File::open(&self.folder)?.sync_all()?;
-        Ok(())
-    }
-
     fn store(&self, book: &Book, delivery: Option<&Declaration>) -> Fallible<()> {
         let mut bytes = book.as_bytes().to_vec();
         bytes.push(delivery.is_some().into());
         bytes.extend(delivery.map_or([0; Declaration::BYTES], |delivery| *delivery.as_bytes()));
-        self.keep("book", &bytes)
-    }
-
-    fn store_roll(&self, roll: &Roll) -> Fallible<()> {
-        self.keep("roll", &roll.to_bytes())
-    }
-
-    /// What was stored last, if it is there to the byte and the totals are those of the lines: `from_bytes` says so.
-    fn recover_roll(&self) -> Fallible<Roll> {
-        Ok(Roll::from_bytes(&fs::read(self.file("roll"))?, LINES)?)
+        let mut file = File::create(self.file("new"))?;
+        file.write_all(&bytes)?;
+        file.sync_all()?;
+        fs::rename(self.file("new"), self.file("book"))?;
+        File::open(&self.folder)?.sync_all()?;
+        Ok(())
     }
 
     /// What was stored last, if it is there to the byte and a legal book. `from_bytes` tests the whole book, once; from then on the house
     /// receives by entry.
-    fn recover_book(&self) -> Fallible<(Book, Option<Declaration>)> {
+    fn recover(&self) -> Fallible<(Book, Option<Declaration>)> {
         let mut bytes = fs::read(self.file("book"))?;
         let length = Book::length(OPENING.n, OPENING.s)?;
         if bytes.len() != length + 1 + Declaration::BYTES {
@@ -105,11 +86,11 @@ impl Disk {
 }
 
 struct House {
-    /// None while the house is down: memory is gone, and the files stay.
+    /// None while the house is down: memory is gone, and the file stays.
     book: Option<Book>,
-    /// None likewise.
-    roll: Option<Roll>,
     disk: Disk,
+    /// Its register. A delivery comes once, but after a power cut it may be here already.
+    register: Vec<Declaration>,
 }
 
 impl House {
@@ -117,57 +98,18 @@ impl House {
         let book = Book::open(&OPENING, own as u32)?;
         let folder = folder.to_owned();
         let disk = Disk { folder, own };
-        let roll = Roll::empty(LINES)?;
         disk.store(&book, None)?;
-        disk.store_roll(&roll)?;
         println!("house {own} opens its book: accepted");
         Ok(House {
             book: Some(book),
-            roll: Some(roll),
             disk,
+            register: Vec::new(),
         })
     }
 
-    /// On a copy, stored, which then takes the roll's place. A delivery comes once, but after a power cut it may be here already: at answer
-    /// 22 the same line stands there. Another line would be a second declaration of the lot, for people to look at.
-    fn enter(&mut self, delivery: &Declaration) -> Fallible<bool> {
-        let (line, own) = (Line::of(delivery), self.disk.own);
-        let roll = self.roll.as_mut().ok_or("house is down")?;
-        let mut copy = roll.clone();
-        print!("house {own} enters lot {} on its roll: ", line.lot());
-        match copy.insert(line) {
-            Ok(()) => println!("accepted; {}", totals(&copy)),
-            Err(Refusal::LotAlreadyThere) if roll.line(line.lot()) == Some(line) => {
-                tell_refusal(Refusal::LotAlreadyThere);
-                return Ok(false);
-            }
-            Err(refusal) => return Err(refusal.into()),
-        }
-        self.disk.store_roll(&copy)?;
-        *roll = copy;
-        Ok(true)
-    }
-
-    /// On a copy, stored, as above. Before that the book is stored with no delivery beside it: else the next start would enter again a lot
-    /// that was struck.
-    fn strike(&mut self, lot: u32) -> Fallible<()> {
-        let own = self.disk.own;
-        let roll = self.roll.as_mut().ok_or("house is down")?;
-        let mut copy = roll.clone();
-        print!("house {own} strikes lot {lot}: ");
-        match copy.strike(lot) {
-            Ok(()) => println!("accepted; {}", totals(&copy)),
-            Err(Refusal::LotNotOnRoll) => {
-                tell_refusal(Refusal::LotNotOnRoll);
-                return Ok(());
-            }
-            Err(refusal) => return Err(refusal.into()),
-        }
-        let book = self.book.as_ref().ok_or("house is down")?;
-        self.disk.store(book, None)?;
-        self.disk.store_roll(&copy)?;
-        *roll = copy;
-        Ok(())
+    fn enter(&mut self, delivery: Option<Declaration>) {
+        self.register
+            .extend(delivery.filter(|lot| !self.register.contains(lot)));
     }
 }
 
@@ -178,7 +120,6 @@ struct Valley {
     taken: usize,
     lost: usize,
     cuts: usize,
-    deliveries: usize,
     /// From here on the liar lies, and what comes to it nobody hears.
     lies: bool,
 }
@@ -202,21 +143,6 @@ fn told(of: &Declaration) -> String {
     format!(
         "lot {lot}: {colonies} colonies, {kilograms} kg, {moisture} percent, {conductivity} mS/cm"
     )
-}
-
-fn totals(roll: &Roll) -> String {
-    let totals = roll.totals();
-    let (lines, kilograms) = (totals.lines, totals.kilograms);
-    let highest = totals
-        .highest_moisture
-        .map_or("no highest moisture".into(), |moisture| {
-            format!("highest moisture {moisture} percent")
-        });
-    format!("totals: {lines} in use, {kilograms} kg, {highest}")
-}
-
-fn tell_refusal(refusal: Refusal) {
-    println!("{} (answer {})", refusal.sentence(), refusal.number());
 }
 
 fn tell(gave: &Outcome) {
@@ -293,9 +219,9 @@ impl Valley {
         Ok(())
     }
 
-    /// A call on a copy of the book. The copy is stored, with a delivery beside it, and takes the book's place; the delivery is entered on
-    /// the roll, which is stored; and then what the call gave leaves. A refusal is told, and handed back; answer 1 stops the house: memory
-    /// was overwritten, and at its next start it reads its file, and tests it.
+    /// A call on a copy of the book. The copy is stored, with a delivery beside it; then it takes the book's place, and what the call
+    /// gave leaves. A refusal is told, and handed back; answer 1 stops the house: memory was overwritten, and at its next start it reads
+    /// its file, and tests it.
     fn call(
         &mut self,
         own: usize,
@@ -306,7 +232,7 @@ impl Valley {
         let worked = match call(book.as_mut().ok_or("house is down")?) {
             Ok(worked) => worked,
             Err(refusal) => {
-                tell_refusal(refusal);
+                println!("{} (answer {})", refusal.sentence(), refusal.number());
                 return match refusal {
                     Refusal::NoLegalBook => Err(refusal.into()),
                     _ => Ok(Some(refusal)),
@@ -321,68 +247,42 @@ impl Valley {
             }
             return Ok(None);
         }
-        if let Some(delivery) = &gave.delivery {
-            self.enter(own, delivery)?;
-            if self.loses_power_later(own, delivery) {
-                self.start(own)?;
-                return Ok(None);
-            }
-        }
         if let Some(message) = gave.message {
             self.carry_to_all(own, &message);
         }
+        self.houses[own].enter(gave.delivery);
         if gave.helps {
             self.help(own, from)?;
         }
         Ok(None)
     }
 
-    fn enter(&mut self, own: usize, delivery: &Declaration) -> Fallible<()> {
-        if self.houses[own].enter(delivery)? {
-            self.deliveries += 1;
-        }
-        Ok(())
-    }
-
-    fn power_fails(&mut self, own: usize, when: &str) -> bool {
-        println!("house {own} loses power {when}");
-        self.houses[own].book = None;
-        self.houses[own].roll = None;
-        true
-    }
-
-    /// Another house loses power after its roll was stored.
-    fn loses_power_later(&mut self, own: usize, delivery: &Declaration) -> bool {
-        own == 0
-            && delivery.lot() == LOT_OF_LIAR
-            && self.power_fails(own, "once its roll has the delivery")
-    }
-
-    /// One house loses power twice: after a READY was stored and before it leaves; and after a delivery was stored and before its roll has
-    /// it.
+    /// One house loses power twice: after a READY was stored and before it leaves; and after a delivery was stored and before the
+    /// register has it.
     fn loses_power(&mut self, own: usize, gave: &Outcome) -> bool {
         let is_ready = gave
             .message
             .is_some_and(|message| kind_of(&message) == "READY");
-        let when = match self.cuts {
-            0 if is_ready => "before its READY leaves",
-            1 if gave.delivery.is_some() => "before its roll has the delivery",
+        let before = match self.cuts {
+            0 if is_ready => "its READY leaves",
+            1 if gave.delivery.is_some() => "its register has the delivery",
             _ => return false,
         };
         if own != LOSES_POWER {
             return false;
         }
         self.cuts += 1;
-        self.power_fails(own, when)
+        self.houses[own].book = None;
+        println!("house {own} loses power before {before}");
+        true
     }
 
-    /// Takes the book, a delivery and the roll from the files.
-    fn recover(&mut self, own: usize) -> Fallible<(Book, Option<Declaration>)> {
-        let house = &mut self.houses[own];
-        let (book, delivery) = house.disk.recover_book()?;
-        house.roll = Some(house.disk.recover_roll()?);
-        house.book = Some(book.clone());
-        Ok((book, delivery))
+    /// Takes the book and a delivery from the file.
+    fn recover(&mut self, own: usize) -> Fallible<Book> {
+        let (book, delivery) = self.houses[own].disk.recover()?;
+        self.houses[own].enter(delivery);
+        self.houses[own].book = Some(book.clone());
+        Ok(book)
     }
 
     /// Sends again to all what it has sent: the last message may not have left.
@@ -393,28 +293,22 @@ impl Valley {
         }
     }
 
-    /// Power is back, and nothing that was sent to the house was lost: it asks for no help. The delivery of its file is entered, or was.
+    /// Power is back, and nothing that was sent to the house was lost: it asks for no help.
     fn start(&mut self, own: usize) -> Fallible<()> {
-        let (book, delivery) = self.recover(own)?;
-        println!(
-            "house {own} starts at once with the book, the delivery and the roll of its files"
-        );
-        self.enter(own, &delivery.ok_or("no delivery beside the book")?)?;
+        let book = self.recover(own)?;
+        println!("house {own} starts at once with the book and the delivery of its file");
         self.send_again(own, &book);
         Ok(())
     }
 
     /// "On return a house sends again to all what it has sent and asks all for help."
     fn come_back(&mut self, own: usize) -> Fallible<()> {
-        let (book, delivery) = self.recover(own)?;
+        let book = self.recover(own)?;
         let Some(Entry { number, sender }) = book.waiting()? else {
             return Err("nothing waits".into());
         };
         print!("house {own} returns with the book of its file: accepted; ");
         println!("waiting: number {number} of sender {sender}");
-        if let Some(delivery) = &delivery {
-            self.enter(own, delivery)?;
-        }
         self.send_again(own, &book);
         println!("house {own} asks all for help");
         self.carry_to_all(own, &book.come_back()?);
@@ -451,7 +345,8 @@ impl Valley {
         let is_request = |copy: &&Copy| copy.bytes.len() == Message::REQUEST_BYTES;
         let requests = self.carried.iter().filter(is_request).count();
         let copies = self.carried.len() - requests;
-        let (lost, deliveries) = (self.lost, self.deliveries);
+        let lost = self.lost;
+        let deliveries: usize = self.houses.iter().map(|house| house.register.len()).sum();
         println!(
             "{copies} copies and {requests} requests were carried, {lost} of them lost; {deliveries} deliveries"
         );
@@ -497,7 +392,7 @@ impl Valley {
                 season: OPENING.season,
                 sender: LIAR as u8,
                 number: NUMBER as u8,
-                declaration: Declaration::new(LOT_OF_LIAR, 30, kilograms, 18.5, 0.5),
+                declaration: Declaration::new(90, 30, kilograms, 17.5, 0.5),
             };
             self.carry(LIAR, to, &message.to_bytes());
         }
@@ -512,10 +407,9 @@ impl Valley {
             self.say(to, if to < 2 { 600 } else { 500 });
         }
         self.bring_all()?;
-        let first = &self.houses[0].roll;
-        let lots = first.as_ref().map(|roll| roll.totals().lines);
+        let first = &self.houses[0].register;
         let mut honest = self.houses[..LIAR].iter();
-        if lots != Some(2) || !honest.all(|house| house.roll == *first) {
+        if first.len() != 2 || !honest.all(|house| house.register == *first) {
             return Err("the honest houses delivered different declarations".into());
         }
         println!("houses 0, 1 and 2 delivered one declaration of lot 90, the same");
@@ -530,15 +424,6 @@ impl Valley {
         println!("house {LIAR} tells house 0 what it told house 2");
         self.say(0, 500);
         self.bring_all()
-    }
-
-    /// The inspectors looked at the evidence. Striking it once more is refused, and changes nothing.
-    fn strike_the_lie(&mut self) -> Fallible<()> {
-        println!("the inspectors have lot {LOT_OF_LIAR} struck");
-        for house in &mut self.houses[..LIAR] {
-            house.strike(LOT_OF_LIAR)?;
-        }
-        self.houses[0].strike(LOT_OF_LIAR)
     }
 }
 
@@ -560,7 +445,6 @@ fn main() -> Fallible<()> {
         taken: 0,
         lost: 0,
         cuts: 0,
-        deliveries: 0,
         lies: false,
     };
 
@@ -587,6 +471,5 @@ fn main() -> Fallible<()> {
     valley.ask_for_the_colonies()?;
     valley.ask_for_the_reading()?;
     valley.lie()?;
-    valley.repeat_and_conflict()?;
-    valley.strike_the_lie()
+    valley.repeat_and_conflict()
 }
