@@ -1,8 +1,8 @@
 #!/usr/bin/env bash
-# What a house links: the header as C11 and C++17, the C example and each answer over the archive, the Rust crate and its example.
+# What a house links: the header as C11 and C++17, the C examples and each answer over the archive, the Rust crate and its examples.
 #
-# Rust is native: it links bindings/rust/stand-in on every machine, and on x86-64 the archive too. Both examples write one account and the
-# same files, books and rolls, to the byte. Says nothing where all passes.
+# Rust is native: it links bindings/rust/stand-in on every machine, and on x86-64 the archive too. Both examples of a house write one
+# account and the same books, to the byte; both with a roll another account, and the same books and rolls. Says nothing where all passes.
 set -uo pipefail
 cd "$(dirname "${BASH_SOURCE[0]}")/.." || exit 1
 export LC_ALL=C.UTF-8
@@ -80,6 +80,10 @@ build_c example_house
 fresh_folder "$room/books-c"
 run_c example_house "$room/books-c" >"$room/account-c" || fail 'the C example ended with an error'
 quiet 'the account of the C example' diff bindings/example_house.stdout "$room/account-c"
+build_c example_roll
+fresh_folder "$room/rolls-c"
+run_c example_roll "$room/rolls-c" >"$room/account-rolls-c" || fail 'the C example with a roll ended with an error'
+quiet 'the account of the C example with a roll' diff bindings/example_roll.stdout "$room/account-rolls-c"
 
 # ---- the Rust crate
 unsafe_files=$(grep -lrw --include='*.rs' unsafe bindings/rust/src bindings/rust/examples)
@@ -106,9 +110,17 @@ try_rust() { # WHAT LIBRARY
     "$room/rust-$what/debug/examples/house" "$room/books-$what" >"$room/account-$what" || fail "the Rust example over the $what"
     quiet "the account of the Rust example over the $what" diff bindings/example_house.stdout "$room/account-$what"
     for house in 0 1 2 3; do
+        quiet "the file of house $house, C and Rust over the $what" \
+            cmp "$room/books-c/house-$house.book" "$room/books-$what/house-$house.book"
+    done
+    fresh_folder "$room/rolls-$what"
+    "$room/rust-$what/debug/examples/roll" "$room/rolls-$what" >"$room/account-rolls-$what" ||
+        fail "the Rust example with a roll over the $what"
+    quiet "the account of the Rust example with a roll over the $what" diff bindings/example_roll.stdout "$room/account-rolls-$what"
+    for house in 0 1 2 3; do
         for end in book roll; do
-            quiet "the $end of house $house, C and Rust over the $what" \
-                cmp "$room/books-c/house-$house.$end" "$room/books-$what/house-$house.$end"
+            quiet "the $end of house $house that keeps a roll, C and Rust over the $what" \
+                cmp "$room/rolls-c/house-$house.$end" "$room/rolls-$what/house-$house.$end"
         done
     done
 }

@@ -1,6 +1,6 @@
 #!/usr/bin/env bash
 # What `./build dist` packs: twice the same bytes, with all that a house needs; unpacked elsewhere, its sums are right and its C and Rust
-# examples build over it and write their account. Says nothing where all passes.
+# examples, of a house and with a roll, build over it and write their accounts. Says nothing where all passes.
 set -uo pipefail
 cd "$(dirname "${BASH_SOURCE[0]}")/.." || exit 1
 export LC_ALL=C.UTF-8
@@ -22,7 +22,8 @@ trap 'rm -rf "$elsewhere"' EXIT
 quiet 'unpacking' tar -xzf "$room/one.tar.gz" -C "$elsewhere"
 top=$(echo "$elsewhere"/grassmunch-*)
 for file in README.md CHANGELOG.md SHA256SUMS docs/HOUSE.md docs/BOOK.md docs/RULES.md include/grassmunch.h lib/libgrassmunch.a \
-    lib/grassmunch.stamp lib/pkgconfig/grassmunch.pc rust/Cargo.toml rust/build.rs rust/src/lib.rs examples/example_house.c; do
+    lib/grassmunch.stamp lib/pkgconfig/grassmunch.pc rust/Cargo.toml rust/build.rs rust/src/lib.rs examples/example_house.c \
+    examples/example_roll.c; do
     [ -s "$top/$file" ] || fail "no $file in it"
 done
 (cd "$top" && quiet 'the sums' sha256sum --strict --quiet -c SHA256SUMS) || exit 1
@@ -35,23 +36,27 @@ if commit=$(git rev-parse HEAD 2>/dev/null); then
 fi
 
 # ---- C: by the plain flags, by pkg-config where it is there, and by the machine's own compiler where it is one for x86-64
-account() { # WHAT COMMAND...
-    local what=$1
-    shift
+account() { # EXAMPLE WHAT COMMAND...
+    local example=$1 what=$2
+    shift 2
     fresh_folder "$room/books"
     "$@" "$room/books" >"$room/account" 2>"$room/said" || fail "$what ended with an error: $(cat "$room/said")"
-    quiet "the account of $what" diff "$top/examples/example_house.stdout" "$room/account"
+    quiet "the account of $what" diff "$top/examples/$example.stdout" "$room/account"
 }
 try_c() { # WHAT FLAGS -- LIBRARIES
-    local what=$1
+    local what=$1 example
     shift
-    link_c "$room/example" "$top/examples/example_house.c" "$@"
-    account "the C example by $what" run_linked "$room/example"
+    for example in example_house example_roll; do
+        link_c "$room/example" "$top/examples/$example.c" "$@"
+        account "$example" "$example.c by $what" run_linked "$room/example"
+    done
 }
 try_c 'plain flags' -I"$top/include" -- -L"$top/lib" -lgrassmunch
 if [ "$machine" = x86_64 ] && cc -fsyntax-only -x c - <<<'#include <unistd.h>' 2>/dev/null; then
-    quiet 'the C example by cc' cc -std=c11 -I"$top/include" "$top/examples/example_house.c" -L"$top/lib" -lgrassmunch -o "$room/native"
-    account 'the C example by cc' "$room/native"
+    for example in example_house example_roll; do
+        quiet "$example.c by cc" cc -std=c11 -I"$top/include" "$top/examples/$example.c" -L"$top/lib" -lgrassmunch -o "$room/native"
+        account "$example" "$example.c by cc" "$room/native"
+    done
 fi
 if command -v pkg-config >/dev/null; then
     export PKG_CONFIG_PATH=$top/lib/pkgconfig
@@ -68,4 +73,7 @@ if [ "$machine" != x86_64 ]; then
     cp "$stand_in" "$top/lib/libgrassmunch.a"
 fi
 export CARGO_TARGET_DIR=$room/rust
-account 'the Rust example' cargo run --quiet --offline --locked --manifest-path "$top/rust/Cargo.toml" --example house --
+for example in house roll; do
+    account "example_$example" "the Rust example $example" \
+        cargo run --quiet --offline --locked --manifest-path "$top/rust/Cargo.toml" --example "$example" --
+done

@@ -2,7 +2,7 @@
 //! here is proved, and no house links it.
 //!
 //! The archive is for x86-64. On another processor the tests link this in its place, so that the Rust crate's own code
-//! (declarations, sheets, refusals, the example) runs there too. That crate lends slices, so no pointer here is null.
+//! (declarations, sheets, refusals, the examples) runs there too. That crate lends slices, so no pointer here is null.
 
 // the wrappers in it are for a house
 #[allow(dead_code)]
