@@ -9,6 +9,7 @@ ghost use Rattle.layout.specs.Places.{Within};
 ghost use Rattle.book.specs.Parts.{sized};
 
 // Each of the first k askers was helped at most d times.
+#[tactic(auto, using(crate::proofs::Legality::helps_none, crate::proofs::Legality::helps_hit, crate::proofs::Legality::helps_miss))]
 fn are_helps_ok(b: &[u8], d: usize, k: usize) -> bool
     requires { (k < 256) × (helped_place k ≤ length b.now) }
     ensures { result ≡ helps_ok b.now d k }
@@ -22,6 +23,7 @@ fn are_helps_ok(b: &[u8], d: usize, k: usize) -> bool
 }
 
 // n, S, own number, f and d are allowed, and there are as many bytes as n and S ask.
+#[tactic(auto, using(crate::proofs::Legality::not_sized, crate::proofs::Legality::not_allowed, crate::proofs::Legality::sized_is))]
 fn is_sized(b: &[u8]) -> bool
     ensures { result ≡ sized b.now }
 {
@@ -42,6 +44,7 @@ fn is_sized(b: &[u8]) -> bool
 }
 
 // Whether the head is a legal book's: all but the slots.
+#[tactic(auto, using(crate::proofs::Legality::sized_room, crate::proofs::Legality::helps_room, crate::proofs::Legality::head_unsized, crate::proofs::Legality::head_bad_help, crate::proofs::Legality::head_sheet))]
 pub fn is_head_legal(b: &[u8]) -> bool
     ensures { result ≡ head_legal b.now }
 {
@@ -54,6 +57,7 @@ pub fn is_head_legal(b: &[u8]) -> bool
 }
 
 // Whether the bytes are a legal book.
+#[tactic(auto, using(crate::proofs::Legality::head_places, crate::proofs::Legality::slots_room, crate::proofs::Legality::legal_bad_head, crate::proofs::Legality::legal_slots))]
 pub fn is_legal(b: &[u8]) -> bool
     ensures { result ≡ legal b.now }
 {
@@ -69,6 +73,7 @@ pub fn is_legal(b: &[u8]) -> bool
 }
 
 // Whether each slot of the entry that begins at `base` has its one form.
+#[tactic(auto, using(crate::proofs::Legality::entry_is), unfolding(meaning::specs::Layout::per_entry))]
 pub fn is_entry_ok(b: &[u8], base: usize) -> bool
     requires { Within b.now base }
     ensures { result ≡ row_ok b.now base (per_entry (n_of b.now)) }
