@@ -30,7 +30,8 @@ pub slot_room : (b : List ℕ) (base i : ℕ) → Within b base → i < per_entr
 slot_room b base i w l = omega (arith, w.room)
 
 -- a row of n slots from slot i on
-pub row_within : (b : List ℕ) (base i : ℕ) → Within b base → i + n_of b ≤ per_entry (n_of b) → place_from base i + slot_length * n_of b ≤ length b
+pub row_within : (b : List ℕ) (base i : ℕ) → Within b base → i + n_of b ≤ per_entry (n_of b)
+    → place_from base i + slot_length * n_of b ≤ length b
 row_within b base i W l = omega (arith, W.room, l)
 
 pub echoes_below : (n : ℕ) → echo_slot 0 + n ≤ per_entry n

@@ -58,6 +58,7 @@ pub fn is_full(b: &[u8], at: usize) -> bool
 }
 
 // What is gathered with the slot at `at` too.
+#[tactic(auto, using(crate::proofs::Gathered::full_gathered))]
 fn gather(b: &[u8], at: usize, s: Strays) -> Strays
     requires { at + slot_length ≤ length b.now }
     ensures { clear result ≡ clear s && slot_ok b.now at }

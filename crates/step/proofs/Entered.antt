@@ -123,8 +123,8 @@ module _ (b : List ℕ) (bytes : Bytes b) (j c p : ℕ) (fits : Fits b j c) (hp 
         ∙ ap (entered_in b j c)
         (ap (λ (x : Bool). taking b bytes j c p fits hp v dv ECHO x false) mark ∙ echo_taken b bytes j c p fits hp v dv)
 
-    pub ready_entered : (done : ℕ) → done ≡ place_from base (delivered_slot n) → at ≡ place_from base (ready_slot n p) → b₁ ≡ put_slot b at v
-        → (m : Marks) → m ≡ ready_marks b₁ base v → b₂ ≡ cond m.gives (put_slot b₁ sent v) b₁
+    pub ready_entered : (done : ℕ) → done ≡ place_from base (delivered_slot n) → at ≡ place_from base (ready_slot n p)
+        → b₁ ≡ put_slot b at v → (m : Marks) → m ≡ ready_marks b₁ base v → b₂ ≡ cond m.gives (put_slot b₁ sent v) b₁
         → (b₃ : List ℕ) → b₃ ≡ cond m.delivers (put_slot b₂ done v) b₂
         → o ≡ handed 0 (only_if m.gives (wired 3 (season_of b) j c (declaration_at v 0))) (only_if m.delivers v)
         → result_of o b₃ ≡ entered_in b j c (takes (rules_by (header_of b)) READY p v (look b j c))

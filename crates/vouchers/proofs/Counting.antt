@@ -60,7 +60,8 @@ pub one_more : (found p n most : ℕ) → found ≤ p → p < n → n < most →
 one_more found p n most h k l = omega arith
 
 -- all n slots were looked at, by the numbers of the slot that holds d
-module _ (b d s : List ℕ) (at n p m x y z : ℕ) (within : place_from at n ≤ length b) (long : length d ≡ 20) (u : Bytes b) (v : Bytes d) where
+module _ (b d s : List ℕ) (at n p m x y z : ℕ) (within : place_from at n ≤ length b) (long : length d ≡ 20) (u : Bytes b)
+    (v : Bytes d) where
   pub counted : s ≡ put_slot (replicate slot_length 0) 0 d → x ≡ eight s 0 → y ≡ eight s 5 → z ≡ eight s 13
       → n ≤ p → (p ≤ n) × ((m ≡ so_many b at x y z p) × (m ≤ p)) → (m ≡ count (λ i. holds (slot_at b (place_from at i)) d) n) × (m ≤ n)
   counted e ex ey ez f so_far =

@@ -48,7 +48,8 @@ twenty_at-requires-then-answer-eq0-4 c = omega (arith, sized c.args.message.now 
 pub mark-requires-then-answer-eq0 : goal.mark-requires-then-answer-eq0
 mark-requires-then-answer-eq0 c =
     let below = delivered_below (n_of c.args.book.now) in
-    omega (arith, slot_room _ _ _ c.requires.0.begins.within below, c.delivered_at.ensures, c.n_of-n.ensures.0, c.put_slot.auto.b, c.mark.auto.book)
+    let room = slot_room _ _ _ c.requires.0.begins.within below in
+    omega (arith, room, c.delivered_at.ensures, c.n_of-n.ensures.0, c.put_slot.auto.b, c.mark.auto.book)
 
 pub returns-then-answer-eq0 : goal.returns-then-answer-eq0
 returns-then-answer-eq0 c =
@@ -57,7 +58,8 @@ returns-then-answer-eq0 c =
     ready_heard a.book.now a.message.now a.base c.requires.0 a.house c.requires.1 _ _ _ _ c.n_of-n.ensures.0
     c.twenty_at.ensures c.record_answer-answer.ensures (λ i. (bytes i).fits) _
     c.twenty_at-then-answer-eq0.ensures _ c.put_slot.ensures _ c.ready_sent_at.ensures _ _ c.twenty_at-then-answer-eq0-2.ensures
-    c.twenty_at-then-answer-eq0-3.ensures _ c.if-answer-eq0.true c.ready_at-at.ensures _ c.ready_marks-m.ensures c.mark.ensures _ c.delivered_at.ensures _
+    c.twenty_at-then-answer-eq0-3.ensures _ c.if-answer-eq0.true c.ready_at-at.ensures _ c.ready_marks-m.ensures c.mark.ensures _
+    c.delivered_at.ensures _
     c.twenty_at-then-answer-eq0-4.ensures _ c.mark-then-answer-eq0.ensures
 
 pub returns : goal.returns
