@@ -139,10 +139,10 @@ fn is_next(seen: Seen, l: Line) -> bool
     false
 }
 
-// One more line is seen.
+// One more line is seen; its kilograms are a 32-bit number, as in every line that is lent.
 pub fn look(lot: u32, seen: Seen, l: Line) -> Seen
     requires { Fair seen }
-    ensures { result ≡ looked lot seen l }
+    ensures { (result ≡ looked lot seen l) × (l.kilograms < 2 ^ 32) }
 {
     let fine = is_next(seen, l);
     let next = wide(l.lot) + 1;

@@ -1,30 +1,29 @@
 -- What the code works out is what 2026-05 asks: the answer, every line and the totals.
-use Prim.Native.Nat.{ℕ, zero, suc, ◌+◌, ◌-◌, ◌<◌, ◌≤◌, min}
-use mathlib.Core.Path.{◌≡◌, refl, sym, ap, ◌∙◌, subst}
+use Prim.Native.Nat.{ℕ, suc, ◌+◌, ◌-◌, ◌<◌, ◌≤◌, min}
+use mathlib.Core.Path.{◌≡◌, refl, sym, ap, ◌∙◌}
 use mathlib.Core.Logic.{◌⊎◌, inl, inr}
 use mathlib.Core.Option.{Option, none, some}
-use mathlib.Core.Bool.{Bool, true, false, cond, ◌&&◌}
+use mathlib.Core.Bool.{Bool, true, false, ◌&&◌}
 use mathlib.Core.List.{List, [], ◌∷◌, ◌++◌, append_assoc}
 use native.Mathlib.Omega.{arith}
 use lib.ListN.{length, get_or, take, drop, take-append-drop, length-drop, length-take}
 use lib.Dec.{leb, ltb, eqb}
 use lib.Seq.{length-take-le, drop-cons}
 use borrow.Author.Tests.{leb-true, leb-false, ltb-true, ltb-false, le-leb, lt-leb, lt-ltb, ne_eqb}
-use Rattle.sheet.specs.Sheet.{finite}
 use Rattle.roll.specs.declared.Line.{Line}
 use Rattle.roll.specs.declared.Totals.{Totals}
 use Rattle.roll.specs.declared.Ask.{Ask}
 use Rattle.roll.specs.Rank.{rank}
-use Rattle.roll.specs.Roll.{moisture_of, finite_readings, ordered, all_finite, has, weight, highest, totals_with, totals_of, same_totals, sound}
+use Rattle.roll.specs.Roll.{finite_readings, ordered, all_finite, has, weight, highest, totals_with, totals_of, same_totals, sound}
 use Rattle.roll.specs.Roll.{enters, strikes, zero_line, outcome, refused, accepted, entered, struck, changed}
 use Rattle.roll.proofs.Tests.{bcase, and_left, and_right, or_left, or_right}
 use Rattle.roll.proofs.Ranks.{rank_there}
-use Rattle.roll.proofs.Lines.{weighs, weight_enters, weight_strikes, length_enters, strikes_length, enters_ordered, enters_finite}
+use Rattle.roll.proofs.Lines.{weight_enters, weight_strikes, length_enters, strikes_length, enters_ordered, enters_finite}
 use Rattle.roll.proofs.Lines.{strikes_ordered, strikes_finite}
 use Rattle.roll.proofs.Sound.{same_are}
 use Rattle.roll.proofs.Highest.{among_finite, top_is}
 use Rattle.lines.specs.declared.Seen.{Seen}
-use Rattle.lines.specs.Look.{top_of, merged, looked, nothing_seen, scanned, seen_in, Small}
+use Rattle.lines.specs.Look.{top_of, merged, nothing_seen, seen_in}
 use Rattle.lines.proofs.Scan.{belows, sees_fine, sees_found, sees_place, sees_kilograms, weight_is, belows_within, belows_found}
 use Rattle.lines.proofs.Tops.{Mark, mark_of, FiniteIn, all_is, others_are, merged_is}
 use Rattle.plans.specs.declared.Plan.{Plan}

@@ -1,16 +1,16 @@
 -- Entering and striking by the place of a lot: the lines before it, and those from it on.
 use Prim.Native.Nat.{ℕ, suc, ◌+◌, ◌<◌, ◌≤◌}
 use mathlib.Core.Path.{◌≡◌, refl, sym, ap, ◌∙◌}
-use mathlib.Core.Bool.{Bool, true, false, cond, ◌||◌, true≢false}
+use mathlib.Core.Bool.{true, false, true≢false}
 use mathlib.Core.List.{List, [], ◌∷◌, ◌++◌}
 use native.Mathlib.Omega.{arith}
-use lib.ListN.{length, take, drop}
+use lib.ListN.{take, drop}
 use lib.Dec.{ltb, eqb}
 use borrow.Author.Tests.{ltb-false, eqb-true, le-ltb}
 use Rattle.roll.specs.declared.Line.{Line}
 use Rattle.roll.specs.Roll.{ordered_from, has, enters, strikes}
 use Rattle.roll.proofs.Tests.{bcase, or_then}
-use Rattle.roll.proofs.Lines.{Rest, rest, has_past}
+use Rattle.roll.proofs.Lines.{rest, has_past}
 use Rattle.lines.proofs.Scan.{belows}
 
 -- on an ordered roll no lot past k is below it
