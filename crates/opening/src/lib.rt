@@ -9,6 +9,7 @@ ghost use Rattle.meaning.specs.Opening.{Opened, opened};
 ghost use Rattle.opening.specs.Parts.{blank};
 
 // Every byte 0.
+#[tactic(auto, using(crate::proofs::Filling::zero_more, crate::proofs::Filling::zeros_all))]
 fn clear(b: &mut [u8])
     ensures { b.new ≡ replicate (length b.old) 0 }
 {
@@ -26,6 +27,7 @@ fn before_sheet(n: u8, numbers: u8, own: u8, season: u32) -> [u8; 7]
 }
 
 // Writes the whole buffer: the header, and every slot empty.
+#[tactic(auto, using(crate::proofs::Filling::blank_laid))]
 fn lay_blank(b: &mut [u8], n: u8, numbers: u8, own: u8, f: u8, d: u8, season: u32, sheet: &[u8])
     requires { (limit_place < length b.old) × (length sheet.now ≡ sheet_length) }
     ensures { b.new ≡ blank (length b.old) n numbers own f d season sheet.now }
@@ -37,6 +39,7 @@ fn lay_blank(b: &mut [u8], n: u8, numbers: u8, own: u8, f: u8, d: u8, season: u3
 }
 
 // Opening: 9, 10, 11; else it writes the whole buffer.
+#[tactic(auto, using(crate::proofs::Opening::opens_9, crate::proofs::Opening::opens_10, crate::proofs::Opening::opens_11, crate::proofs::Opening::opens_0), unfolding(meaning::specs::Layout::length_of, meaning::specs::Layout::head_length))]
 pub fn open_book(
     book: &mut [u8],
     n: u32,
