@@ -49,13 +49,7 @@ fn come<W: Write>(out: &mut W, s: &[u8], desk: &mut [u8], r: Numbers) -> io::Res
 }
 
 // Copy k comes, if it is left.
-fn come_if<W: Write>(
-    out: &mut W,
-    s: &[u8],
-    desk: &mut [u8],
-    r: Numbers,
-    k: u32,
-) -> io::Result<()> {
+fn come_if<W: Write>(out: &mut W, s: &[u8], desk: &mut [u8], r: Numbers, k: u32) -> io::Result<()> {
     let mut r = r;
     r[CALL] = COPY;
     r[FREE] = k;
