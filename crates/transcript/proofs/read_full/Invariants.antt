@@ -1,0 +1,9 @@
+-- What is read fits the space, and each read that takes bytes leaves less of it.
+use Rattle.std.proofs.Common.{◌-◌, ◌≤◌, length}
+use Rattle.transcript.proofs.read_full.Given as goal
+
+abbrev pub invariant-loop-done : goal.invariant-loop-done
+invariant-loop-done g l = l.done ≤ length l.space
+
+abbrev pub decreases-loop-done : goal.decreases-loop-done
+decreases-loop-done g l = length l.space - l.done
