@@ -71,13 +71,13 @@ all_is lot ls a = sees_all ls lot nothing_seen none refl tt a
 
 -- ---- the others
 
-other : (lot : ℕ) (s : Seen) (l : Line) → eqb l.lot lot ≡ false → (looked lot s l).others ≡ raised s.others (top_of l)
-unfolding looked
-other lot s l e = rw e
-
 the_lot : (lot : ℕ) (s : Seen) (l : Line) → eqb l.lot lot ≡ true → (looked lot s l).others ≡ s.others
 unfolding looked
 the_lot lot s l e = rw e
+
+other : (lot : ℕ) (s : Seen) (l : Line) → eqb l.lot lot ≡ false → (looked lot s l).others ≡ raised s.others (top_of l)
+unfolding looked
+other lot s l e = rw e
 
 -- past the lot all lines are others
 others_past : (ls : List Line) (lot k : ℕ) (s : Seen) (b : Option Line) → lot < k → ordered_from k ls ≡ true → s.others ≡ mark_of b
