@@ -14,7 +14,7 @@ use Rattle.message.proofs.Form.{sized}
 use Rattle.message.proofs.RoundTrip.{five_or}
 use Rattle.message.proofs.Request.{request_long, request_names, no_request}
 use Rattle.meaning.specs.Book.{season_of}
-use Rattle.meaning.specs.Legal.{legal, head_legal, Lent}
+use Rattle.meaning.specs.Legal.{head_legal, Lent}
 use Rattle.calls.specs.declared.Outcome.{Outcome}
 use Rattle.calls.specs.Entered.{Result, result_of, handed}
 use Rattle.calls.specs.Call.{request_answer, requested, received}

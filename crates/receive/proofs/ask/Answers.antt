@@ -1,0 +1,13 @@
+-- A legal head has room for the season; a request of another is refused.
+use Rattle.std.proofs.Common.{arith}
+use Rattle.meaning.proofs.Room.{head_room}
+use Rattle.receive.proofs.Heard.{request_other}
+use Rattle.receive.proofs.ask.Goals as goal
+
+pub season_of-requires : goal.season_of-requires
+season_of-requires c = let h = head_room _ c.requires in omega arith
+
+pub returns : goal.returns
+returns c =
+    let a = c.args in
+    request_other a.book.now a.house a.named _ c.season_of.ensures c.if-named-season_of.false _ c.refuse.ensures
