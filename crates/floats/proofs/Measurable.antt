@@ -55,6 +55,9 @@ out_of_range b small past other = go (measurable (of_bits binary32 b)) refl
     go true e = absurd (no ((measurable_exactly (of_bits binary32 b)).0 e))
     go false e = e
 
+-- the three together
+pub ruleset measurable_by_bits = (in_range, at_minus_zero, out_of_range)
+
 -- ---- and at most another, by the bits without the sign
 
 -- of sizes of which zero alone may have a sign

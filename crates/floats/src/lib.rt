@@ -18,7 +18,7 @@ pub fn float_of(bits: u32) -> f32
 }
 
 // Not NaN, infinite or below zero, by the bits: below those of infinity, or minus zero's.
-#[tactic(auto, using(crate::proofs::Measurable::in_range, crate::proofs::Measurable::at_minus_zero, crate::proofs::Measurable::out_of_range))]
+#[tactic(auto, using(crate::proofs::Measurable::measurable_by_bits))]
 pub fn is_measurable(bits: u32) -> bool
     ensures { result ≡ measurable (of_bits binary32 bits) }
 {
