@@ -162,6 +162,11 @@ module _ (b : List ℕ) where
       legal_slots y z =
           rw (legal_is, ← e, t) (z ∙ (λ i. row_ok b ((p ∙ ap (λ (m : ℕ). slot_place m 0) u) i) ((w ∙ ap₂ slot_count u v) i)))
 
+-- what `is_head_legal` and `is_legal` need, under one name each
+pub ruleset head_rules = (sized_room, helps_room, head_unsized, head_bad_help, head_sheet)
+
+pub ruleset slots_rules = (head_places, slots_room, legal_bad_head, legal_slots)
+
 -- ---- the slots of an entry
 
 pub entry_is : (b : List ℕ) (base n : ℕ) (r : Bool) → n ≡ n_of b → r ≡ row_ok b base (2 * n + 3) → r ≡ row_ok b base (per_entry (n_of b))

@@ -44,7 +44,7 @@ fn is_sized(b: &[u8]) -> bool
 }
 
 // Whether the head is a legal book's: all but the slots.
-#[tactic(auto, using(crate::proofs::Legality::sized_room, crate::proofs::Legality::helps_room, crate::proofs::Legality::head_unsized, crate::proofs::Legality::head_bad_help, crate::proofs::Legality::head_sheet))]
+#[tactic(auto, using(crate::proofs::Legality::head_rules))]
 pub fn is_head_legal(b: &[u8]) -> bool
     ensures { result ≡ head_legal b.now }
 {
@@ -57,7 +57,7 @@ pub fn is_head_legal(b: &[u8]) -> bool
 }
 
 // Whether the bytes are a legal book.
-#[tactic(auto, using(crate::proofs::Legality::head_places, crate::proofs::Legality::slots_room, crate::proofs::Legality::legal_bad_head, crate::proofs::Legality::legal_slots))]
+#[tactic(auto, using(crate::proofs::Legality::slots_rules))]
 pub fn is_legal(b: &[u8]) -> bool
     ensures { result ≡ legal b.now }
 {
