@@ -13,12 +13,12 @@ is_full-requires c =
 pub is_full-requires-then-is_full : goal.is_full-requires-then-is_full
 is_full-requires-then-is_full c =
     let room = slot_room _ _ _ c.entry_at-base.ensures.within (delivered_below _) in
-    omega (arith, c.delivered_at.ensures, c.n_of.ensures.0)
+    omega (arith, c.n_of.ensures.0)
 
 pub returns-then-is_full : goal.returns-then-is_full
 returns-then-is_full c =
     waits_heard _ _ _ c.requires _ c.entry_at-base.ensures _ c.send_at.ensures _ c.is_full.ensures _ _ _ c.if-is_full.true
-    c.n_of.ensures.0 c.delivered_at.ensures c.is_full-then-is_full.ensures
+    c.n_of.ensures.0 (cc) c.is_full-then-is_full.ensures
 
 pub returns : goal.returns
 returns c = waits_unheard _ _ _ c.requires _ c.entry_at-base.ensures _ c.send_at.ensures _ c.is_full.ensures c.if-is_full.false
