@@ -1,20 +1,10 @@
 -- The contracts that `Claims` settles are those of the fourteen calls in the source, as Rattle reads them.
-use seplogic.Ra.Ura.{Ura}
-use mathlib.Core.Path.{◌≡◌, refl}
-use base.Logic.{SProp}
-use prog.Memory.{Memory}
-use prog.Routine.{Routine}
-use types.Logic.{Logic}
-use contract.Monad.{Fun}
+use mathlib.Core.Path.{◌≡◌}
 use contract.Lifetimes.{Lfts}
 use borrow.Fn.World.{ArgsD, ResD}
 use borrow.Fn.Kinds.{ended_of}
 use denote.Triple.Clauses.{AtExit}
-use denote.Builtin.{u32}
-use Rattle.roll.specs.Roll.{entered, struck}
-use Rattle.roll.specs.contracts.Line
 use Rattle.house.proofs.Claims.{claims}
-use Rattle.house.proofs.Thin.{thinly}
 use Rattle.house.specs.contracts.gm_length
 use Rattle.house.proofs.gm_length.Reads as length_reads
 use Rattle.house.proofs.gm_length.Kinds as length_kinds
@@ -49,10 +39,14 @@ use Rattle.house.specs.contracts.gm_read
 use Rattle.house.proofs.gm_read.Reads as read_reads
 use Rattle.house.proofs.gm_read.Kinds as read_kinds
 use Rattle.house.specs.contracts.gm_roll_line
-use Rattle.house.proofs.gm_roll_line.Reads as line_reads_lem
+use Rattle.house.proofs.gm_roll_line.Reads as line_reads
 use Rattle.house.proofs.gm_roll_line.Kinds as line_kinds
 use Rattle.house.specs.contracts.gm_roll_insert
+use Rattle.house.proofs.gm_roll_insert.Reads as insert_reads
+use Rattle.house.proofs.gm_roll_insert.Kinds as insert_kinds
 use Rattle.house.specs.contracts.gm_roll_strike
+use Rattle.house.proofs.gm_roll_strike.Reads as strike_reads
+use Rattle.house.proofs.gm_roll_strike.Kinds as strike_kinds
 
 pub length_settled : (κs : Lfts 0) (a : ArgsD gm_length.signature κs) (r r' : ResD gm_length.signature κs)
     (s s' : AtExit (ended_of 0 length_kinds.ps length_kinds.r) κs) → length_reads.Post κs a r s → length_reads.Post κs a r' s' → r ≡ r'
@@ -103,14 +97,15 @@ pub read_settled : (κs : Lfts 1) (a : ArgsD gm_read.signature κs) (r r' : ResD
 read_settled κs a r r' s s' p q = claims.settled.read_settled _ r r' p q
 
 pub line_settled : (κs : Lfts 1) (a : ArgsD gm_roll_line.signature κs) (r r' : ResD gm_roll_line.signature κs)
-    (s s' : AtExit (ended_of 1 line_kinds.ps line_kinds.r) κs) → line_reads_lem.Post κs a r s → line_reads_lem.Post κs a r' s' → r ≡ r'
+    (s s' : AtExit (ended_of 1 line_kinds.ps line_kinds.r) κs) → line_reads.Post κs a r s → line_reads.Post κs a r' s' → r ≡ r'
 line_settled κs a r r' s s' p q = claims.settled.line_settled _ r r' p q
 
--- `gm_roll_insert` and `gm_roll_strike` are proved by hand; what each ensures is that of a thin function.
-pub insert_ensures : {M : Type 1} {𝓤 : Ura M} (𝓛 : Logic 𝓤) (mem : Memory → SProp 𝓤) (run : Routine → Fun 𝓤)
-    → gm_roll_insert.clauses 𝓛 mem run ≡ thinly 𝓤 Line.the_row entered
-insert_ensures 𝓛 mem run = refl
+pub insert_settled : (κs : Lfts 2) (a : ArgsD gm_roll_insert.signature κs) (r r' : ResD gm_roll_insert.signature κs)
+    (s s' : AtExit (ended_of 2 insert_kinds.ps insert_kinds.r) κs) → insert_reads.Post κs a r s → insert_reads.Post κs a r' s'
+    → (r ≡ r') × (s.0.now ≡ s'.0.now) × (s.1.0.now ≡ s'.1.0.now)
+insert_settled κs a r r' s s' p q = claims.settled.insert_settled _ _ _ r r' _ _ _ _ p q
 
-pub strike_ensures : {M : Type 1} {𝓤 : Ura M} (𝓛 : Logic 𝓤) (mem : Memory → SProp 𝓤) (run : Routine → Fun 𝓤)
-    → gm_roll_strike.clauses 𝓛 mem run ≡ thinly 𝓤 u32 struck
-strike_ensures 𝓛 mem run = refl
+pub strike_settled : (κs : Lfts 2) (a : ArgsD gm_roll_strike.signature κs) (r r' : ResD gm_roll_strike.signature κs)
+    (s s' : AtExit (ended_of 2 strike_kinds.ps strike_kinds.r) κs) → strike_reads.Post κs a r s → strike_reads.Post κs a r' s'
+    → (r ≡ r') × (s.0.now ≡ s'.0.now) × (s.1.0.now ≡ s'.1.0.now)
+strike_settled κs a r r' s s' p q = claims.settled.strike_settled _ _ _ r r' _ _ _ _ p q
