@@ -65,6 +65,7 @@ fn weigh(
 }
 
 // Whether each slot of the entry that begins at `base` has its one form; where the whole book was found legal, it has.
+#[tactic(auto, using(meaning::proofs::Legality::legal_entry, meaning::proofs::Legality::entry_row))]
 fn is_entry_legal(book: &[u8], whole: bool, sender: u8, number: u8, base: usize) -> bool
     requires { Has book.now sender number × Begins book.now sender number base × (whole ≡ true → legal book.now ≡ true) }
     ensures { result ≡ entry_legal book.now sender number }
