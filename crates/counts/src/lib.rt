@@ -55,13 +55,13 @@ pub fn is_houses(n: u32) -> bool
     1 <= n && n as usize <= LARGEST
 }
 
-// The card's column for n houses. The card is gone through from its first column on, which compiles to tables of constants. Taken at n - 1
-// at once, the whole card is laid on the stack first.
+// The card's column for n houses. The card is borrowed, so that it stays among the constants: as a value it is laid on the stack first. It is
+// gone through from its first column on.
 fn column_of(n: usize) -> Column
     requires { houses_ok n ≡ true }
     ensures { result ≡ column_of n }
 {
-    let card = CARD;
+    let card = &CARD;
     let mut column = card[0];
     for i in 1..LARGEST {
         if i == n {
