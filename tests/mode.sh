@@ -1,6 +1,6 @@
 #!/usr/bin/env bash
-# No instruction of the archive obeys the processor's float mode: of those that touch a float register it has moves, bitwise logic and
-# whole-number work alone. Where no disassembler is on the machine it says so; that answers do not depend on the mode is run
+# No instruction of the archive obeys the processor's float mode: of those that touch a float register it has moves (of a whole register, of
+# a part, or by a mask's bits), bitwise logic and whole-number work alone. Where no disassembler is on the machine it says so; that answers do not depend on the mode is run
 # by the driver at every call that is compared (tests/driver/driver.c), and with denormal moistures on a roll by bindings/c/every_answer.c,
 # with one or without.
 set -uo pipefail
@@ -26,5 +26,5 @@ done
 # the names of the instructions that touch a float register, or are of the old float unit
 found=$(awk '$1 ~ /^[0-9a-f]+:$/ && (/%[xyz]mm[0-9]/ || $2 ~ /^f/) { print $2 }' <<<"$listing" | sort -u)
 grep -q '^mov' <<<"$found" || fail 'the disassembly was not read: it has no move of a float register'
-others=$(grep -vE '^v?(mov[a-z0-9]+|xorp[sd]|andn?p[sd]|orp[sd]|unpck[lh]p[sd]|shufp[sd]|p[a-z0-9]+)$' <<<"$found")
+others=$(grep -vE '^v?(mov[a-z0-9]+|(insert|extract)ps|blendvp[sd]|xorp[sd]|andn?p[sd]|orp[sd]|unpck[lh]p[sd]|shufp[sd]|p[a-z0-9]+)$' <<<"$found")
 [ -z "$others" ] || fail "the archive has instructions that may obey the float mode: $others"
