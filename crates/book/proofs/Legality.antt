@@ -54,7 +54,8 @@ module _ (b : List ℕ) (d : ℕ) where
 
 module _ (b : List ℕ) where
   both : sized b ≡ true
-      → (allowed (n_of b) (numbers_of b) (own_of b) (down_of b) (limit_of b) ≡ true) × (eqb (length b) (length_of (n_of b) (numbers_of b)) ≡ true)
+      → (allowed (n_of b) (numbers_of b) (own_of b) (down_of b) (limit_of b) ≡ true)
+      × (eqb (length b) (length_of (n_of b) (numbers_of b)) ≡ true)
   unfolding sized
   both h =
       (and-eq-true_iff (allowed (n_of b) (numbers_of b) (own_of b) (down_of b) (limit_of b))

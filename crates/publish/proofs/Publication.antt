@@ -25,7 +25,8 @@ pub publication_entered : (b : List ℕ) → legal b ≡ true → Bytes b → (c
 unfolding published_at publishes
 publication_entered b h bytes c l v dv n at own season b₁ o en ea eo es e₁ eq =
     let s = stored_published b h bytes v dv (n_of b) (numbers_of b) refl refl (own_of b) c refl l in
-    let m = ap₂ (λ (x y : ℕ). only_if true (wired 1 x y c (declaration_at v 0))) es eo ∙ letter_wired (season_of b) (own_of b) c true SEND v in
+    let w = ap₂ (λ (x y : ℕ). only_if true (wired 1 x y c (declaration_at v 0))) es eo in
+    let m = w ∙ letter_wired (season_of b) (own_of b) c true SEND v in
     let place = ea ∙ ap (λ (x : ℕ). slot_place x c) en in
     ap₂ result_of (eq ∙ ap (λ (x : Option (List ℕ)). handed 0 x none) m) (e₁ ∙ ap (λ (x : ℕ). put_slot b x v) place)
     ∙ entered_is b (own_of b) c (publishes v (look b (own_of b) c)) (put_slot b (slot_place (n_of b) c) v) s
