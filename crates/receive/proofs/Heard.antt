@@ -31,6 +31,9 @@ module _ (b : List ℕ) (p season book_season : ℕ) (e : book_season ≡ season
   unfolding requested request_answer
   request_other f r q = rw (ne_eqb season (season_of b) (λ s. f (s ∙ sym e))) (ap (λ (x : Outcome). result_of x b) q)
 
+  pub request_asked : season ≡ book_season → (x : Result) → x ≡ requested b p (season_of b) → x ≡ requested b p season
+  request_asked s x q = q ∙ ap (requested b p) (sym (s ∙ e))
+
 -- ---- a message
 
 module _ (b m : List ℕ) (p season book_season : ℕ) (es : season ≡ word_at m 7) (e : book_season ≡ season_of b) where

@@ -55,6 +55,10 @@ module _ (b : List ℕ) (at x y z p n m : ℕ) (more : p < n) (so_far : (p ≤ n
         → k ≡ m + 1 → Next k
     none_differs s t d e f x' y' z' = hit k (are_alike 5 b here x y z (sym d ∙ x') (sym e ∙ y') (sym f ∙ z'))
 
+-- so far no more are found than slots were looked at, so that one more fits where n does
+pub one_more : (found p n most : ℕ) → found ≤ p → p < n → n < most → found + 1 < most
+one_more found p n most h k l = omega arith
+
 -- all n slots were looked at, by the numbers of the slot that holds d
 module _ (b d s : List ℕ) (at n p m x y z : ℕ) (within : place_from at n ≤ length b) (long : length d ≡ 20) (u : Bytes b)
     (v : Bytes d) where
