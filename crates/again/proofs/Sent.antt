@@ -106,7 +106,8 @@ module _ (b : List ℕ) (kind j c : ℕ) (has : Has b j c) (w : Sent) where
   sent_no_kind_here f g h ew = ew ∙ ap (λ (o : Option Kind). sent_as b o j c) (sym (no_kind kind f g h))
 
   module _ (base : ℕ) (at : Begins b j c base) where
-    pub sent_echo : kind ≡ 2 → (send : ℕ) → send ≡ place_from base send_slot → w ≡ sending 0 (letter_of kind (season_of b) j c (slot_at b send))
+    pub sent_echo : kind ≡ 2 → (send : ℕ) → send ≡ place_from base send_slot
+        → w ≡ sending 0 (letter_of kind (season_of b) j c (slot_at b send))
         → Is
     sent_echo e send es ew =
         let place = es ∙ from_base b j c has base at.is send_slot in

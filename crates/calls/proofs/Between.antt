@@ -106,7 +106,8 @@ module _ (b : List ℕ) (h : legal b ≡ true) (bytes : Bytes b) where
 -- ---- two books that agree on the header and on one entry
 
 module _ (b d : List ℕ) (hb : legal b ≡ true) (hd : legal d ≡ true) (bb : Bytes b) (bd : Bytes d) (same : header_of b ≡ header_of d) where
-  step_same : (a : Call) → look b (sender_of (own_of b) a) (number_of a) ≡ look d (sender_of (own_of b) a) (number_of a) → step_of b a ≡ step_of d a
+  step_same : (a : Call) → look b (sender_of (own_of b) a) (number_of a) ≡ look d (sender_of (own_of b) a) (number_of a)
+      → step_of b a ≡ step_of d a
   unfolding step_of meant
   step_same a e =
       (alone (rules_by (header_of b)) (numbers_of b) (own_of b) a).same (look b) (look d) e
@@ -131,7 +132,8 @@ module _ (b d : List ℕ) (hb : legal b ≡ true) (hd : legal d ≡ true) (bb : 
             ∙ ap (λ (x : ℕ). look (called d a).book (sender_of x a) c) (sym own);
       }
 
-  pub published_same : (c : ℕ) (v : Decl) → look b (own_of b) c ≡ look d (own_of b) c → Alike (published b c v) (published d c v) (own_of b) c
+  pub published_same : (c : ℕ) (v : Decl) → look b (own_of b) c ≡ look d (own_of b) c
+      → Alike (published b c v) (published d c v) (own_of b) c
   unfolding published
   published_same c v e = rw (hb, hd) (called_same (publishing c v) e)
 

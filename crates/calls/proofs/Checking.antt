@@ -62,7 +62,8 @@ module _ (b : List ℕ) (j c p : ℕ) (k : Kind) (v : Decl) where
   missing x = sym (ordered.missing x)
 
   -- 4
-  pub missing_refused : (n_of b ≤ j) ⊎ ((numbers_of b ≤ c) ⊎ (n_of b ≤ p)) → (r : Outcome) → r ≡ handed 4 none none → result_of r b ≡ called_in b a
+  pub missing_refused : (n_of b ≤ j) ⊎ ((numbers_of b ≤ c) ⊎ (n_of b ≤ p)) → (r : Outcome) → r ≡ handed 4 none none
+      → result_of r b ≡ called_in b a
   missing_refused x r q = refused_in b a 4 r (missing x) (λ z. omega arith) q
 
   module _ (has : Has b j c) (hp : p < n_of b) where

@@ -11,7 +11,8 @@ use borrow.Author.Tests.{eqb-true, ltb-true}
 use Rattle.words.specs.Words.{Bytes}
 use Rattle.entry.specs.Entry.{Decl, Kind, SEND, ECHO, READY, Entry, mark, recorded, marked}
 use Rattle.entry.specs.Lists.{upd}
-use Rattle.protocol.specs.Steps.{Rules, Out, refused, settle, reached, publishes, takes_send, takes_echo, takes_ready, takes, receive_answer}
+use Rattle.protocol.specs.Steps.{Rules, Out, refused, settle, reached, publishes, takes_send, takes_echo, takes_ready, takes}
+use Rattle.protocol.specs.Steps.{receive_answer}
 use Rattle.protocol.specs.Steps.{receive, publish_answer, publish}
 use Rattle.protocol.specs.Book.{Book, Call, publishing, receiving, in_book, sender_of, number_of, on_entry, outcome}
 use Rattle.protocol.proofs.Basics.{must_zero}

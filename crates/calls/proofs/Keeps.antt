@@ -21,7 +21,8 @@ use Rattle.protocol.specs.Thresholds.{rules_of}
 use Rattle.entry.proofs.Basics.{true_of, and_l, upd_all}
 use Rattle.entry.proofs.Filled.{filled_refl}
 use Rattle.protocol.proofs.Calls.{outcome_done}
-use Rattle.meaning.specs.Book.{Help, helped_of, header_of, help_of, more_help, with_help, count_help, Meaning, n_of, numbers_of, own_of, season_of}
+use Rattle.meaning.specs.Book.{Help, helped_of, header_of, help_of, more_help, with_help, count_help, Meaning, n_of, numbers_of, own_of}
+use Rattle.meaning.specs.Book.{season_of}
 use Rattle.meaning.specs.Book.{sheet_of, look, meant}
 use Rattle.meaning.specs.Legal.{legal, IsDecl, IsEntry, IsBook}
 use Rattle.meaning.proofs.Entries.{same_entry_lem}

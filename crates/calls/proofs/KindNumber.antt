@@ -52,7 +52,8 @@ kind_known n h = go (ℕ_discrete n 1) (ℕ_discrete n 2)
 pub kind_unknown : (n : ℕ) → is_kind n ≡ false → kind_of n ≡ none
 unfolding is_kind
 kind_unknown n h =
-    no_kind n (λ e. true≢false (sym (ap is_kind e) ∙ h)) (λ e. true≢false (sym (ap is_kind e) ∙ h)) (λ e. true≢false (sym (ap is_kind e) ∙ h))
+    no_kind n (λ e. true≢false (sym (ap is_kind e) ∙ h)) (λ e. true≢false (sym (ap is_kind e) ∙ h))
+    (λ e. true≢false (sym (ap is_kind e) ∙ h))
 
 -- and the other way round
 pub number_of_kind : (n : ℕ) (k : Kind) → kind_of n ≡ some k → n ≡ kind_number k

@@ -36,7 +36,8 @@ pub read_cases : (s : List ℕ) → ((m : Five) × (read_of s ≡ read_as m)) �
 unfolding read_of
 read_cases s = go (well_formed s)
   where
-    go : (t : Bool) → ((m : Five) × (cond t (read_as (five_at s)) malformed ≡ read_as m)) ⊎ (cond t (read_as (five_at s)) malformed ≡ malformed)
+    go : (t : Bool)
+        → ((m : Five) × (cond t (read_as (five_at s)) malformed ≡ read_as m)) ⊎ (cond t (read_as (five_at s)) malformed ≡ malformed)
     go true = inl (five_at s, refl)
     go false = inr refl
 

@@ -137,7 +137,8 @@ module _ (b : List ℕ) where
           go true e = sym (eqb-true (request_answer b p season) 0 e)
           go false e = refl
 
-      request_season : (season : ℕ) → request_of message ≡ some season → (season ≡ season_of b → ⊥) → (received b p message).given.answer ≡ 3
+      request_season : (season : ℕ) → request_of message ≡ some season → (season ≡ season_of b → ⊥)
+          → (received b p message).given.answer ≡ 3
       request_season season q f = request_answer_lem season q ∙ sym (requests.other_season b p season f)
 
       module _ (q : request_of message ≡ some (season_of b)) where

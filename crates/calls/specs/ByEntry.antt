@@ -73,7 +73,8 @@ pub record Stepped (b : List ℕ) (j c : ℕ) (o : Out) (r : Result) : Type 0 wh
 pub record Answers (b : List ℕ) (p : ℕ) (message : List ℕ) : Type 0 where
   pub no_head : head_legal b ≡ false → (received_entry b p message).given.answer ≡ 1
   pub asking : head_legal b ≡ true → (season : ℕ) → request_of message ≡ some season → received_entry b p message ≡ requested b p season
-  pub malformed : head_legal b ≡ true → request_of message ≡ none → read_of message ≡ malformed → (received_entry b p message).given.answer ≡ 2
+  pub malformed : head_legal b ≡ true → request_of message ≡ none → read_of message ≡ malformed
+      → (received_entry b p message).given.answer ≡ 2
   pub other_season : head_legal b ≡ true → (m : Five) → read_of message ≡ read_as m → (m.season ≡ season_of b → ⊥)
       → (received_entry b p message).given.answer ≡ 3
   pub no_entry : head_legal b ≡ true → (m : Five) → read_of message ≡ read_as m → m.season ≡ season_of b

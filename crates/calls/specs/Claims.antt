@@ -39,7 +39,8 @@ pub record Claims : Type 0 where
   -- A call on an entry is one step of the protocol on what the book means: it gives what the step gives, a message being the writer's
   -- bytes with the book's season and that entry's sender and number, and its bytes mean the book with the entry as the step leaves it.
   pub called_given : (b : List ℕ) → Lent b → (a : Call) → (called b a).given
-      ≡ handed (step_of b a).answer (letters (season_of b) (sender_of (own_of b) a) (number_of a) (step_of b a).message) (step_of b a).delivery
+      ≡ handed (step_of b a).answer (letters (season_of b) (sender_of (own_of b) a) (number_of a) (step_of b a).message)
+      (step_of b a).delivery
   pub called_meant : (b : List ℕ) → Lent b → (a : Call)
       → meant (called b a).book ≡ with_entry (meant b) (sender_of (own_of b) a) (number_of a) (step_of b a).entry
   -- What it compares with, and the message that it gives.

@@ -55,8 +55,8 @@ pub fn is_houses(n: u32) -> bool
     1 <= n && n as usize <= LARGEST
 }
 
-// The card's column for n houses. The card is borrowed, so that it stays among the constants: as a value it is laid on the stack first. It is
-// gone through from its first column on.
+// The card's column for n houses. The card is borrowed, so that it stays among the constants: as a value it is laid on the stack first. It
+// is gone through from its first column on.
 fn column_of(n: usize) -> Column
     requires { houses_ok n ≡ true }
     ensures { result ≡ column_of n }

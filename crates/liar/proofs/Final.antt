@@ -15,7 +15,8 @@ use Rattle.message.specs.Message.{read_of}
 use Rattle.protocol.specs.Book.{noted}
 use Rattle.calls.specs.Entered.{Result}
 use Rattle.calls.specs.Call.{published, received}
-use Rattle.season.specs.Run.{Houses, is_honest, is_up, under_wrong, Copy, State, Noted, Step, publish, consume, wrong, crash, comeback, help}
+use Rattle.season.specs.Run.{Houses, is_honest, is_up, under_wrong, Copy, State, Noted, Step, publish, consume, wrong, crash, comeback}
+use Rattle.season.specs.Run.{help}
 use Rattle.season.specs.Run.{Named, nothing, entry, named_by, noting, posted, sends, message_of, delivery_of, publication_of, consume_at}
 use Rattle.season.specs.Run.{request_taken, ended, publishes, receives, consumes, arrives, comes, asks, start, step, run}
 use Rattle.season.proofs.Season.{run_append, claims}

@@ -226,7 +226,8 @@ legal_exactly b bytes =
     (λ h. (meant b, meant_is_book b h bytes, sym (written b h bytes)), λ m. rw m.2 (written_legal m.0 m.1))
 
 -- a legal book's slots are those of its meaning
-pub slot_is : (b : List ℕ) → legal b ≡ true → Bytes b → (k : ℕ) → k < slot_count (n_of b) (numbers_of b) → slot_of b k ≡ slots_of (meant b) k
+pub slot_is : (b : List ℕ) → legal b ≡ true → Bytes b → (k : ℕ) → k < slot_count (n_of b) (numbers_of b)
+    → slot_of b k ≡ slots_of (meant b) k
 unfolding meant
 slot_is b h bytes k l =
     ap (λ (x : List ℕ). slot_of x k) (sym (written b h bytes)) ∙ slot_meant (meant b) (meant_is_book b h bytes) k l

@@ -61,7 +61,8 @@ place i = slot_place 1 (entry_slot 1 1 0 0 i)
 -- published, SEND, ECHO and READY from house 0, READY sent, delivered
 abbrev places : List ℕ
 places =
-    slot_place 1 0 ∷ place send_slot ∷ place (echo_slot 0) ∷ place (ready_slot 1 0) ∷ place (ready_sent_slot 1) ∷ place (delivered_slot 1) ∷ []
+    slot_place 1 0 ∷ place send_slot ∷ place (echo_slot 0) ∷ place (ready_slot 1 0) ∷ place (ready_sent_slot 1)
+    ∷ place (delivered_slot 1) ∷ []
 
 places_here : places ≡ 32 ∷ 53 ∷ 74 ∷ 95 ∷ 116 ∷ 137 ∷ []
 unfolding slot_place entry_slot

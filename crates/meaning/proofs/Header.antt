@@ -82,7 +82,8 @@ module _ (b : List ℕ) (all : head_length (n_of b) ≤ length b) where
 
   sheet_listed : listed sheet_length (λ i. get_or b (sheet_place + i) 0) ≡ kept
   sheet_listed =
-      listed_same sheet_length (λ i. get_or b (sheet_place + i) 0) (λ i. get_or kept i 0) (λ i l. sym (get_d_part b sheet_place sheet_length i l))
+      listed_same sheet_length (λ i. get_or b (sheet_place + i) 0) (λ i. get_or kept i 0)
+      (λ i l. sym (get_d_part b sheet_place sheet_length i l))
       ∙ sym (listed_is kept sheet_length kept_long)
 
   sheet_part : sheet_of b ≡ sheet_at kept 0

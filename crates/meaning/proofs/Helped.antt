@@ -31,7 +31,8 @@ part_set b i x at m l =
     (length-drop at (set b i x) ∙ omega (arith, length-set b i x, length-drop at b))
     (λ k h. get_or-drop at (set b i x) k 0 ∙ get_or-set_other b i (at + k) x 0 (λ e. omega arith) ∙ sym (get_or-drop at b k 0)))
 
-module _ (b : List ℕ) (h : head_legal b ≡ true) (bytes : Bytes b) (p : ℕ) (lp : p < n_of b) (low : get_or b (helped_place p) 0 < limit_of b) where
+module _ (b : List ℕ) (h : head_legal b ≡ true) (bytes : Bytes b) (p : ℕ) (lp : p < n_of b)
+    (low : get_or b (helped_place p) 0 < limit_of b) where
   facts : Head b
   facts = head_facts b h
 
@@ -77,7 +78,8 @@ module _ (b : List ℕ) (h : head_legal b ≡ true) (bytes : Bytes b) (p : ℕ) 
   unfolding slot_of
   slots_kept =
       fun_ext (λ k. ap (λ (x : ℕ). slot_at after (slot_place x k)) n_kept
-      ∙ slot_part after (slot_place (n_of b) k) ∙ ap (λ (l : List ℕ). slot_at l 0) (part_kept k) ∙ sym (slot_part b (slot_place (n_of b) k)))
+      ∙ slot_part after (slot_place (n_of b) k) ∙ ap (λ (l : List ℕ). slot_at l 0) (part_kept k)
+      ∙ sym (slot_part b (slot_place (n_of b) k)))
 
   ok_kept : (k : ℕ) → slot_ok after (slot_place (n_of b) k) ≡ slot_ok b (slot_place (n_of b) k)
   ok_kept k =

@@ -13,7 +13,8 @@ use Rattle.words.proofs.Laws.{word_at_small}
 use Rattle.sheet.specs.Kept.{kept_at, sheet_at}
 use Rattle.sheet.proofs.OneForm.{gate_fits}
 use Rattle.entry.specs.Entry.{Decl, fresh}
-use Rattle.meaning.specs.Layout.{helped_place, per_entry, slot_count, slot_place, entry_slot, send_slot, echo_slot, ready_slot, ready_sent_slot}
+use Rattle.meaning.specs.Layout.{helped_place, per_entry, slot_count, slot_place, entry_slot, send_slot, echo_slot, ready_slot}
+use Rattle.meaning.specs.Layout.{ready_sent_slot}
 use Rattle.meaning.specs.Layout.{delivered_slot, season_place, sheet_place}
 use Rattle.meaning.specs.Book.{n_of, numbers_of, own_of, limit_of, helped_of, header_of, help_of, slot_of, for_houses, look, meant}
 use Rattle.meaning.specs.Legal.{legal, IsSlot, IsEntry, IsHeader, IsHelp, AreEntries, IsBook}

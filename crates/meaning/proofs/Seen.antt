@@ -50,5 +50,6 @@ module _ (b : List ℕ) (j c : ℕ) (has : Has b j c) where
   echoes_seen = votes_in ECHO (λ p. omega arith)
 
   pub readies_seen : (v : Decl)
-      → count (λ p. holds (slot_at b (place_from (place_in b j c (ready_slot (n_of b) 0)) p)) v) (n_of b) ≡ votes (look b j c).ready v (n_of b)
+      → count (λ p. holds (slot_at b (place_from (place_in b j c (ready_slot (n_of b) 0)) p)) v) (n_of b)
+      ≡ votes (look b j c).ready v (n_of b)
   readies_seen = votes_in READY (λ p. omega arith)

@@ -141,7 +141,8 @@ module _ (b : List ℕ) (at : ℕ) (v : Decl) (fits : at + slot_length ≤ lengt
 
     module _ (w : (k + slot_length ≤ at) ⊎ (at + slot_length ≤ k)) where
       pub slot_elsewhere : slot_at (put_slot b at v) k ≡ slot_at b k
-      slot_elsewhere = slot_part (put_slot b at v) k ∙ ap (λ (p : List ℕ). slot_at p 0) (part_elsewhere k slot_length w) ∙ sym (slot_part b k)
+      slot_elsewhere = slot_part (put_slot b at v) k ∙ ap (λ (p : List ℕ). slot_at p 0) (part_elsewhere k slot_length w)
+          ∙ sym (slot_part b k)
 
       pub ok_elsewhere : slot_ok (put_slot b at v) k ≡ slot_ok b k
       ok_elsewhere = ok_part (put_slot b at v) k ∙ ap (λ (p : List ℕ). slot_ok p 0) (part_elsewhere k slot_length w) ∙ sym (ok_part b k)

@@ -229,7 +229,8 @@ module _ (from to : ℕ) (b : List ℕ) (sound : Sound from to b) (v : Decl) (d 
 
     -- what the slots mean decides what the book means
     stored_slot : (j c : ℕ) (e : Entry)
-        → entries_in (n_of b) (numbers_of b) (own_of b) (upd (slot_of b) k (some v)) ≡ put_at (look b) j c e → StoredIn from to b after j c e
+        → entries_in (n_of b) (numbers_of b) (own_of b) (upd (slot_of b) k (some v)) ≡ put_at (look b) j c e
+        → StoredIn from to b after j c e
     stored_slot j c e q =
         record {
           sound = sound_after;
@@ -253,7 +254,8 @@ module _ (from to : ℕ) (b : List ℕ) (sound : Sound from to b) (v : Decl) (d 
       stored_slot (entry_slot n s c j i) (entry_slot_below n s c j i hc hj hi) j c (f (look b j c))
       (entries_put n s (own_of b) (slot_of b) j c hj hc (some v) i hi
       ∙ ap (put_at (look b) j c)
-      (g (row_in n s (slot_of b) j c) (published_in (own_of b) (slot_of b) j c) ∙ ap f (sym (entries_in_lem n s (own_of b) (slot_of b) j c hj hc))))
+      (g (row_in n s (slot_of b) j c) (published_in (own_of b) (slot_of b) j c)
+      ∙ ap f (sym (entries_in_lem n s (own_of b) (slot_of b) j c hj hc))))
 
   -- the slot of the own number c filled
   abbrev InPublished : (n s : ℕ) → Type 0
@@ -292,7 +294,8 @@ module _ (from to : ℕ) (b : List ℕ) (sound : Sound from to b) (v : Decl) (d 
       stored_ready_sent : (r : Bool)
           → StoredIn from to b (cond r (put_slot b (slot_place n (entry_slot n s c j (ready_sent_slot n))) v) b) j c
           (marked r false v (look b j c))
-      stored_ready_sent true = stored_in (ready_sent_slot n) (marked true false v) (ready_sent_below n) (λ row o. ready_sent_filled n row o v)
+      stored_ready_sent true = stored_in (ready_sent_slot n) (marked true false v) (ready_sent_below n)
+          (λ row o. ready_sent_filled n row o v)
       stored_ready_sent false = stored_nothing b j c from to sound
 
       stored_delivered : (r : Bool)

@@ -7,7 +7,8 @@ use Rattle.sheet.specs.Sheet.{GateFits, sheet_legal}
 use Rattle.sheet.specs.Kept.{sheet_legal_at}
 use Rattle.entry.specs.Entry.{Decl, Entry, fresh, PerEntry}
 use Rattle.meaning.specs.Slot.{slot_ok}
-use Rattle.meaning.specs.Layout.{numbers_ok, most_limit, sheet_place, helped_place, slot_count, length_of, slot_place, per_entry, place_from}
+use Rattle.meaning.specs.Layout.{numbers_ok, most_limit, sheet_place, helped_place, slot_count, length_of, slot_place, per_entry}
+use Rattle.meaning.specs.Layout.{place_from}
 use Rattle.meaning.specs.Opening.{allowed}
 use Rattle.meaning.specs.Book.{Header, Help, Meaning, n_of, numbers_of, own_of, down_of, limit_of, place_in}
 

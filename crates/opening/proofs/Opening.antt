@@ -53,3 +53,6 @@ module _ (b : List ℕ) (n s own f d season : ℕ) (sheet : List ℕ) where
         opens_0 a y h w =
             let z = w ∙ blank_fresh (allowed_facts n s own f d (sym e ∙ t)).2 y (sym q ∙ u) (h ∙ k) in
             rw (← e, t, ← q, u, eq-eqb _ _ (h ∙ k)) (λ i. record { answer = 0; book = z i })
+
+-- the answers of `open_book`, for its search
+pub ruleset opens = (opens_9, opens_10, opens_11, opens_0)

@@ -39,7 +39,7 @@ fn lay_blank(b: &mut [u8], n: u8, numbers: u8, own: u8, f: u8, d: u8, season: u3
 }
 
 // Opening: 9, 10, 11; else it writes the whole buffer.
-#[tactic(auto, using(crate::proofs::Opening::opens_9, crate::proofs::Opening::opens_10, crate::proofs::Opening::opens_11, crate::proofs::Opening::opens_0), unfolding(meaning::specs::Layout::length_of, meaning::specs::Layout::head_length))]
+#[tactic(auto, using(crate::proofs::Opening::opens), unfolding(meaning::specs::Layout::length_of, meaning::specs::Layout::head_length))]
 pub fn open_book(
     book: &mut [u8],
     n: u32,

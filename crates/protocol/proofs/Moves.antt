@@ -7,7 +7,8 @@ use mathlib.Core.List.{List, [], ◌∷◌}
 use Prim.Native.Nat.{ℕ, ◌≤◌}
 use native.Mathlib.Omega.{arith}
 use lib.Dec.{T, leb→le}
-use Rattle.entry.specs.Entry.{Decl, Kind, SEND, ECHO, READY, Entry, heard, outgoing, same_kind, is_none, votes, mark, recorded, marked, Stays}
+use Rattle.entry.specs.Entry.{Decl, Kind, SEND, ECHO, READY, Entry, heard, outgoing, same_kind, is_none, votes, mark, recorded, marked}
+use Rattle.entry.specs.Entry.{Stays}
 use Rattle.entry.specs.Entry.{Filled}
 use Rattle.entry.specs.Lists.{upd, push}
 use Rattle.protocol.specs.Steps.{Rules, Say, say, Out, refused, only_if, reached, may, takes_send, takes_echo, takes_ready, takes}

@@ -11,8 +11,8 @@ use Rattle.protocol.specs.Example.{consume_from}
 use Rattle.protocol.specs.Needed.{three, late, gone, Needed}
 
 pub needed : Needed
-unfolding wall_of rules_of quorum amplify deliver three consume_from late gone run step arrives consumes comes help_answer helps asked called
-    after outcome publish receive recording publishes takes_send takes_echo takes_ready same
+unfolding wall_of rules_of quorum amplify deliver three consume_from late gone run step arrives consumes comes help_answer helps asked
+    called after outcome publish receive recording publishes takes_send takes_echo takes_ready same
 needed =
     record {
       late_few = lit≤ tt;

@@ -157,7 +157,8 @@ weighs_none x [] h = refl
 weighs_none x (l ∷ ls) h =
     rw (or_left (eqb l.lot x) (has x ls) h) (weighs_none x ls (or_right (eqb l.lot x) (has x ls) h))
 
-pub weighs_strikes : (x lot k : ℕ) (ls : List Line) → ordered_from k ls ≡ true → weighs x (strikes lot ls) ≡ cond (eqb lot x) 0 (weighs x ls)
+pub weighs_strikes : (x lot k : ℕ) (ls : List Line) → ordered_from k ls ≡ true
+    → weighs x (strikes lot ls) ≡ cond (eqb lot x) 0 (weighs x ls)
 weighs_strikes x lot k [] o = bcase (eqb lot x) (λ t. rw t) (λ f. rw f)
 weighs_strikes x lot k (m ∷ ms) o =
     bcase (eqb m.lot lot)

@@ -11,7 +11,8 @@ use borrow.Author.Tests.{eqb-true, eq-eqb, ne_eqb, lt-ltb}
 use Rattle.card.specs.Card.{fitting}
 use Rattle.words.specs.Words.{Bytes}
 use Rattle.sheet.specs.Kept.{sheet_at}
-use Rattle.meaning.specs.Book.{Header, Help, Meaning, n_of, numbers_of, own_of, season_of, limit_of, helped_of, header_of, help_of, count_help, look}
+use Rattle.meaning.specs.Book.{Header, Help, Meaning, n_of, numbers_of, own_of, season_of, limit_of, helped_of, header_of, help_of}
+use Rattle.meaning.specs.Book.{count_help, look}
 use Rattle.meaning.specs.Book.{meant}
 use Rattle.meaning.specs.Opening.{headed}
 use Rattle.meaning.specs.Legal.{legal, IsDecl, IsSlot, IsEntry}

@@ -53,7 +53,8 @@ use Rattle.season.proofs.Steps.{steps_of, up_is, consumption_means, season_means
 judged_zero : (sheet v : List ℕ) → is_sheet sheet ≡ true → T (ok_by (sheet_at sheet 0) v) → judged sheet v ≡ 0
 unfolding judged ok_by
 judged_zero sheet v e t =
-    rw (e, true_of (plausible (sheet_at sheet 0) (declaration_at v 0)) (and_r (is_decl v) (plausible (sheet_at sheet 0) (declaration_at v 0)) t))
+    let judged = plausible (sheet_at sheet 0) (declaration_at v 0) in
+    rw (e, true_of judged (and_r (is_decl v) judged t))
 
 -- and the other way round, of 20 bytes
 judged_ok : (sheet v : List ℕ) → is_sheet sheet ≡ true → IsDecl v → judged sheet v ≡ 0 → ok_by (sheet_at sheet 0) v ≡ true

@@ -21,7 +21,8 @@ use Rattle.sheet.specs.declared.Kept.{Kept}
 use Rattle.lot.specs.declared.Declaration.{Declaration}
 use Rattle.lot.specs.Declaration.{bytes_of, declaration_at}
 use Rattle.sheet.specs.Sheet.{GateFits, gate_legal, sheet_legal, plausible, Plausible, judged_by}
-use Rattle.sheet.specs.Kept.{kept_of, kept_bytes, laid, sheet_bytes, gate_of, kept_form, kept_legal, kept_at, sheet_at, sheet_legal_at, is_sheet}
+use Rattle.sheet.specs.Kept.{kept_of, kept_bytes, laid, sheet_bytes, gate_of, kept_form, kept_legal, kept_at, sheet_at, sheet_legal_at}
+use Rattle.sheet.specs.Kept.{is_sheet}
 use Rattle.sheet.specs.Kept.{judged, sheet_length}
 use Rattle.lot.proofs.Declared.{numbers_of_bytes}
 use Rattle.sheet.proofs.Exactly.{plausible_exactly}

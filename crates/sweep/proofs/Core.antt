@@ -336,7 +336,8 @@ module _ (ls : List Line) (t : Totals) (q : Ask) where
                 entered_lines u =
                     ap (λ (x : List Line). (carried (up_plan u (m - p + 1)) x).lines)
                     (cut ∙ ap (λ (x : List Line). take p used ++ (drop p used ++ x)) free_is)
-                    ∙ ap (λ (k : ℕ). (carried (up_plan u k) (take p used ++ (drop p used ++ (get_or ls m zero_line ∷ drop (suc m) ls)))).lines)
+                    ∙ ap (λ (k : ℕ).
+                    (carried (up_plan u k) (take p used ++ (drop p used ++ (get_or ls m zero_line ∷ drop (suc m) ls)))).lines)
                     turns
                     ∙ ap (λ (c : Carried). c.lines)
                     (up 0 u (drop p used) (take p used) (drop (suc m) ls) (get_or ls m zero_line) l p (suc (length (drop p used))) pre_long)
