@@ -1,2 +1,3 @@
+pub mod Finite
 pub mod Scan
 pub mod Tops

@@ -52,6 +52,7 @@ pub fn wide(x: u32) -> u64
 }
 
 // Neither reading is NaN or infinite, by the bits without the sign.
+#[tactic(auto, using(crate::proofs::Finite::moisture_finite, crate::proofs::Finite::moisture_not_finite))]
 pub fn is_finite_line(l: Line) -> bool
     ensures { result ≡ finite_readings l }
 {
