@@ -1,7 +1,7 @@
 #!/usr/bin/env python3
 """Brings the repository's own definitions and lemmas to today's spelling: words in snake case, types in camel case.
 
-usage: python3 tools/spelling.py ROOT [KIT]      rewrites ROOT/crates/*/{src,specs,proofs}; KIT is the toolchain's folder, /opt/rattle if not given
+usage: python3 tools/spelling.py ROOT [KIT]      rewrites ROOT/crates/*/{src,specs,proofs}; KIT is the kit's folder, else that of rt doc
 
 It was run once, right after port.py, and is kept so that the port can be made again from the commit that it began with (docs/PORT.md).
 A lemma whose name would then be that of a definition ends in _lem. The definition that was named `result` is `result_of`, since that word is the
@@ -11,6 +11,7 @@ returned value's in a clause; so the clauses that name it lose their λ here. A 
 import collections
 import os
 import re
+import subprocess
 import sys
 
 WORD = re.compile(r"[^\s(){}\[\].,;:\"`@→×λ≡∷⊥⟨⟩⌜⌝=|!?&<>*+/^%#↦]+")
@@ -87,7 +88,8 @@ def brought(text):
 
 def main(argv):
     root = argv[0]
-    kit = argv[1] if len(argv) > 1 else "/opt/rattle"
+    told = subprocess.run(["rt", "doc"], capture_output=True, text=True).stdout.strip()
+    kit = argv[1] if len(argv) > 1 else os.path.dirname(told)
     own = own_names(root)
     library = library_names(kit)
     together = []
