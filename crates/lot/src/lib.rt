@@ -2,7 +2,7 @@
 #![tactic(auto)]
 
 // A declaration's five numbers; the readings as their bits.
-#[derive(Clone, Copy)]
+#[derive(Clone, Copy, PartialEq, Eq, Debug)]
 pub struct Declaration {
     pub lot: u32,
     pub colonies: u32,

@@ -1,20 +1,45 @@
--- The numbers and values of the reader's cases settle the case.
+-- The answer and the five things settle what the reader found.
+use Prim.Native.Nat.{ℕ, zero, suc}
 use mathlib.Core.Path.{◌≡◌, refl, sym, ◌∙◌}
-use mathlib.Core.Option.{Option, none, some}
-use Rattle.message.specs.declared.Reading.{Reading}
-use Rattle.message.specs.declared.Reading.TheVariants.{Message, Malformed}
-use Rattle.message.specs.Message.{Five, told}
+use mathlib.Core.Option.{none, some}
+use mathlib.Core.Option as maybe
+use Rattle.std.specs.Prelude.{Option, Some, None}
+use Rattle.message.specs.declared.Kind.{Kind}
+use Rattle.message.specs.declared.Kind.TheVariants.{Send, Echo, Ready}
+use Rattle.message.specs.declared.Message.{Message}
+use Rattle.message.specs.Message.{Five, number_of, told}
 
--- the case that has these values
-abbrev case_of : Option Five → Reading
-case_of (some m) =
-    let d = m.declaration in
-    Message m.kind m.season m.sender m.number d.lot d.colonies d.kilograms d.moisture d.conductivity
-case_of none = Malformed
+-- the kind that has this number
+abbrev kind_of : ℕ → Kind
+kind_of zero = Ready
+kind_of (suc zero) = Send
+kind_of (suc (suc zero)) = Echo
+kind_of (suc (suc (suc n))) = Ready
 
-case_of_told : (r : Reading) → case_of (told r).five ≡ r
-case_of_told (Message kind season sender number lot colonies kilograms moisture conductivity) = refl
-case_of_told Malformed = refl
+kind_of_number : (k : Kind) → kind_of (number_of k) ≡ k
+kind_of_number Send = refl
+kind_of_number Echo = refl
+kind_of_number Ready = refl
 
-pub told_injective : (a b : Reading) → told a ≡ told b → a ≡ b
-told_injective a b h = sym (case_of_told a) ∙ (λ i. case_of (h i).five) ∙ case_of_told b
+-- what was found where the five things are these
+abbrev found : maybe.Option Five → Option Message
+found (some m) =
+    Some
+    (record { kind = kind_of m.kind; season = m.season; sender = m.sender; number = m.number; declaration = m.declaration })
+found none = None
+
+found_told : (r : Option Message) → found (told r).five ≡ r
+found_told (Some m) =
+    λ i.
+    Some
+    (record {
+      kind = kind_of_number m.kind i;
+      season = m.season;
+      sender = m.sender;
+      number = m.number;
+      declaration = m.declaration;
+    })
+found_told None = refl
+
+pub told_injective : (a b : Option Message) → told a ≡ told b → a ≡ b
+told_injective a b h = sym (found_told a) ∙ (λ i. found (h i).five) ∙ found_told b

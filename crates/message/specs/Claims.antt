@@ -1,16 +1,16 @@
 -- What this crate promises, in document 01's order.
-use Rattle.std.specs.Prelude.{ℕ, ◌≡◌, true, List, ◌↔◌}
+use Rattle.std.specs.Prelude.{ℕ, ◌≡◌, true, List, ◌↔◌, Option}
 use Rattle.std.proofs.Math.Option.{some}
 use Rattle.words.specs.Words.{Bytes, word_at}
 use Rattle.words.specs.Settled.{Settled}
 use Rattle.lot.specs.declared.Declaration.{Declaration}
-use Rattle.message.specs.declared.Reading.{Reading}
+use Rattle.message.specs.declared.Message.{Message}
 use Rattle.message.specs.declared.Written.{Written}
 use Rattle.message.specs.Message.{Five, is_kind, wire, read_as, malformed, read_of, told, written_of, request_wire, is_request, request_of}
 
 -- Two outcomes that meet the contract of the reader, or of the writer, are equal.
 pub record Settles : Type 0 where
-  pub read_settled : (bytes : List ℕ) → Settled (λ (r : Reading). told r ≡ read_of bytes)
+  pub read_settled : (bytes : List ℕ) → Settled (λ (r : Option Message). told r ≡ read_of bytes)
   pub write_settled : (kind season sender number : ℕ) (d : Declaration)
       → Settled (λ (r : Written). r ≡ written_of kind season sender number d)
 
@@ -29,7 +29,7 @@ pub record Claims : Type 0 where
   pub request_of_wire : (season : ℕ) → request_of (request_wire season) ≡ some season
   pub wire_of_request : (bytes : List ℕ) → is_request bytes ≡ true → Bytes bytes → bytes ≡ request_wire (word_at bytes 7)
   pub request_alone : (bytes : List ℕ) → is_request bytes ≡ true → read_of bytes ≡ malformed
-  -- The number and values of the reader's cases settle the case.
-  pub told_injective : (a b : Reading) → told a ≡ told b → a ≡ b
+  -- The answer and the five things settle what the reader found.
+  pub told_injective : (a b : Option Message) → told a ≡ told b → a ≡ b
   -- The reader's contract and the writer's settle their outcome.
   pub settled : Settles

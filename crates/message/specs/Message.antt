@@ -1,11 +1,15 @@
 -- One message, 36 bytes: how it is written, and what reading bytes gives.
-use Rattle.std.specs.Prelude.{ℕ, ◌+◌, ◌*◌, ◌/◌, ◌%◌, Bool, cond, ◌&&◌, List, [], ◌∷◌, ◌++◌, leb, eqb, length, get_or, replicate}
+use Rattle.std.specs.Prelude.{ℕ, ◌≡◌, ◌+◌, ◌*◌, ◌/◌, ◌%◌, Bool, false, cond, ◌&&◌, Result, MatchResult, Some, None, List, [], ◌∷◌, ◌++◌, leb, eqb, length, get_or, replicate}
+use Rattle.std.specs.Prelude as std
 use Rattle.std.proofs.Math.Option.{Option, none, some}
+use Rattle.refusal.specs.declared.Refusal.{Refusal}
+use Rattle.refusal.specs.declared.Refusal.TheVariants.{Malformed}
 use Rattle.words.specs.Words.{be32, word_at}
 use Rattle.lot.specs.declared.Declaration.{Declaration}
 use Rattle.lot.specs.Declaration.{declaration_at, bytes_of}
-use Rattle.message.specs.declared.Reading.{Reading}
-use Rattle.message.specs.declared.Reading.TheVariants.{Message, Malformed}
+use Rattle.message.specs.declared.Kind.{Kind}
+use Rattle.message.specs.declared.Kind.TheVariants.{Send, Echo, Ready}
+use Rattle.message.specs.declared.Message.{Message}
 use Rattle.message.specs.declared.Written.{Written}
 
 -- the five things of a message
@@ -19,6 +23,15 @@ pub record Five : Type 0 where
 -- kind, 1 SEND, 2 ECHO, 3 READY
 unfoldable pub is_kind : ℕ → Bool
 is_kind k = leb 1 k && leb k 3
+
+abbrev pub number_of : Kind → ℕ
+number_of Send = 1
+number_of Echo = 2
+number_of Ready = 3
+
+-- the kind with this number, or the refusal of a number that no kind has
+abbrev pub IsKindOf : ℕ → Result Kind Refusal → Type 0
+IsKindOf k r = MatchResult r (λ kind. number_of kind ≡ k) (λ e. (is_kind k ≡ false) × (e ≡ Malformed))
 
 -- a tagged field: one-byte tag, two-byte big-endian length, content
 abbrev pub field : ℕ → List ℕ → List ℕ
@@ -71,19 +84,21 @@ unfoldable pub read_of : List ℕ → Told
 unfolding well_formed five_at
 read_of bytes = cond (well_formed bytes) (read_as (five_at bytes)) malformed
 
--- the number and values of each of the reader's cases
-abbrev pub told : Reading → Told
-told (Message kind season sender number lot colonies kilograms moisture conductivity) =
-    read_as
-    (record {
-      kind = kind;
-      season = season;
-      sender = sender;
-      number = number;
-      declaration =
-          record { lot = lot; colonies = colonies; kilograms = kilograms; moisture = moisture; conductivity = conductivity };
-    })
-told Malformed = malformed
+-- the five things of a message that was read
+abbrev pub five_of : Message → Five
+five_of m =
+    record {
+      kind = number_of m.kind;
+      season = m.season;
+      sender = m.sender;
+      number = m.number;
+      declaration = m.declaration;
+    }
+
+-- the answer and the five things of what the reader found, if anything
+abbrev pub told : std.Option Message → Told
+told (Some m) = read_as (five_of m)
+told None = malformed
 
 -- the writer hands back the 36 bytes; for another kind it answers 2 and hands back no message, which is zeros
 unfoldable pub written_of : ℕ → ℕ → ℕ → ℕ → Declaration → Written

@@ -6,7 +6,7 @@ ghost use Rattle.message.specs.Message.{read_of, told, request_of};
 ghost use Rattle.message.specs.Read.{read_answer};
 
 use fields::MALFORMED;
-use message::{ReadAnswer, Reading};
+use message::{Kind, Message, ReadAnswer};
 
 // Where the kind, the season, the sender, the number and the declaration stand.
 const KIND: usize = 3;
@@ -19,24 +19,22 @@ const NUMBER: usize = 12;
 
 const LOT: usize = 16;
 
-pub fn read_message(bytes: &[u8]) -> Reading
+// The message that the bytes are, if they are one.
+#[tactic(auto, using(message::proofs::Form::sized, message::proofs::Form::known_kind), unfolding(message::specs::Message::read_of, message::specs::Message::five_at))]
+pub fn read_message(bytes: &[u8]) -> Option<Message>
     ensures { told result ≡ read_of bytes.now }
 {
-    if fields::is_well_formed(bytes) {
-        let d = octets::declaration_at(bytes, LOT);
-        return Reading::Message {
-            kind: bytes[KIND],
-            season: octets::word_at(bytes, SEASON),
-            sender: bytes[SENDER],
-            number: bytes[NUMBER],
-            lot: d.lot,
-            colonies: d.colonies,
-            kilograms: d.kilograms,
-            moisture: d.moisture,
-            conductivity: d.conductivity,
-        };
+    if !fields::is_well_formed(bytes) {
+        return None;
     }
-    Reading::Malformed
+    let kind = Kind::try_from(bytes[KIND]).ok()?;
+    Some(Message {
+        kind,
+        season: octets::word_at(bytes, SEASON),
+        sender: bytes[SENDER],
+        number: bytes[NUMBER],
+        declaration: octets::declaration_at(bytes, LOT),
+    })
 }
 
 // What reading gives, as numbers and bytes, for who reads and does not receive.

@@ -15,7 +15,6 @@ ghost use Rattle.reply.specs.Handed.{sender_in, number_in, outcome_of};
 
 use calls::Outcome;
 use lot::Declaration;
-use message::Reading;
 use reply::Step;
 
 // Where the season stands in a message and in a request.
@@ -65,28 +64,21 @@ fn answer(book: &mut [u8], house: u32, whole: bool, message: &[u8]) -> Outcome
     if fields::is_request(message) {
         return ask(book, house, octets::word_at(message, SEASON));
     }
-    let Reading::Message {
-        kind,
-        season,
-        sender,
-        number,
-        lot,
-        colonies,
-        kilograms,
-        moisture,
-        conductivity,
-    } = reader::read_message(message)
-    else {
+    let Some(m) = reader::read_message(message) else {
         return reply::refuse(2);
     };
-    let d = Declaration {
-        lot,
-        colonies,
-        kilograms,
-        moisture,
-        conductivity,
-    };
-    let step = hear(book, house, whole, season, kind, sender, number, d, message);
+    let kind = u8::from(m.kind);
+    let step = hear(
+        book,
+        house,
+        whole,
+        m.season,
+        kind,
+        m.sender,
+        m.number,
+        m.declaration,
+        message,
+    );
     reply::hand(step, message)
 }
 

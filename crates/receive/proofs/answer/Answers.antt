@@ -1,5 +1,5 @@
 -- A request, bytes that are malformed, and a message that is well formed, whose five things are those that were read.
-use Rattle.std.proofs.Common.{arith}
+use Rattle.std.proofs.Common.{arith, ◌∙◌}
 use Rattle.receive.proofs.Heard.{read_formed, asks_long, formed_long, asked_any, malformed_any, message_any}
 use Rattle.receive.proofs.answer.Goals as goal
 
@@ -18,25 +18,25 @@ returns-in_default c =
 
 pub hear-step-requires : goal.hear-step-requires
 hear-step-requires c =
-    let F = read_formed c.args.message.now _ c.in-Message.ensures in (
+    let F = read_formed c.args.message.now _ c.in-Some.ensures in (
       c.requires.0,
       c.requires.1,
       F.formed,
       λ i. omega (arith, c.type_inv.message i),
       F.season,
-      F.kind,
+      c.from-kind.ensures ∙ F.kind,
       F.sender,
       F.number,
       F.declaration,
     )
 
 pub hand-requires : goal.hand-requires
-hand-requires c = formed_long c.args.message.now _ (read_formed c.args.message.now _ c.in-Message.ensures)
+hand-requires c = formed_long c.args.message.now _ (read_formed c.args.message.now _ c.in-Some.ensures)
 
 pub returns : goal.returns
 returns c =
     let a = c.args in
     let m = a.message.now in
-    let F = read_formed m _ c.in-Message.ensures in
+    let F = read_formed m _ c.in-Some.ensures in
     message_any m a.book.now a.house _ c.is_request.ensures c.if-is_request.false _ F c.hear-step.result _ c.hear-step.ensures _
     c.hand.ensures
