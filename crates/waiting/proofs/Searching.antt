@@ -1,7 +1,7 @@
 -- The turns of the waiting search: what each shows of the entries passed, and of the one it stops at.
 use Prim.Native.Nat.{ℕ, ◌+◌, ◌<◌, ◌≤◌}
 use mathlib.Core.Path.{◌≡◌, refl, sym, ap, ◌∙◌}
-use mathlib.Core.Bool.{Bool, true, false, cond, not, true≢false}
+use mathlib.Core.Bool.{Bool, true, false, cond, not}
 use mathlib.Core.List.{List}
 use mathlib.Core.Option.{Option, none, some}
 use native.Mathlib.Numerals.{add-one}
@@ -11,16 +11,15 @@ use Rattle.meaning.specs.Slot.{slot_at}
 use Rattle.meaning.specs.Layout.{place_from, send_slot, delivered_slot}
 use Rattle.meaning.specs.Book.{n_of, numbers_of, look}
 use Rattle.meaning.specs.Legal.{legal, Has}
-use Rattle.meaning.proofs.Legality.{legal_facts}
-use Rattle.card.proofs.Wall.{houses_byte}
 use Rattle.calls.specs.declared.Waiting.{Waiting}
-use Rattle.waiting.specs.declared.Found.{Found}
-use Rattle.waiting.specs.declared.Found.TheVariants.{At, Nothing}
+use Rattle.std.specs.Prelude as std
+use Rattle.std.specs.Prelude.{Some, None}
+use Rattle.waiting.specs.declared.Place.{Place}
 use Rattle.layout.specs.Places.{Begins}
-use Rattle.calls.specs.Search.{waits, Place, first_below, waiting_at, earliest, found, waiting, Earliest}
+use Rattle.calls.specs.Search as search
+use Rattle.calls.specs.Search.{waits, first_below, waiting_at, earliest, found, waiting}
 use Rattle.waiting.specs.Found.{told}
-use Rattle.calls.proofs.Earliest.{first_at, waiting_some, waiting_none, earliest_exactly}
-use Rattle.meaning.proofs.Room.{numbers_small}
+use Rattle.calls.proofs.Earliest.{first_at, waiting_some, waiting_none}
 use Rattle.meaning.proofs.Seen.{from_base, heard_seen, delivered_seen}
 
 not_some : (o : Option Decl) → not (is_some o) ≡ is_none o
@@ -44,19 +43,19 @@ module _ (b : List ℕ) (j c : ℕ) (has : Has b j c) (base : ℕ) (at : Begins 
       let done = eq ∙ ap (λ (x : ℕ). is_some (slot_at b x)) place ∙ ap is_some (sym (delivered_seen b j c has)) in
       rw (← heard, t) (ap not done ∙ not_some (look b j c).delivered)
 
-  pub waits_unheard : r ≡ false → false ≡ waits b j c
+  pub waits_unheard : r ≡ false → r ≡ waits b j c
   unfolding waits
   waits_unheard t = rw (← heard, t)
 
 -- what stands below a place of the search
-abbrev pub row : List ℕ → ℕ → ℕ → Option Place
+abbrev pub row : List ℕ → ℕ → ℕ → Option search.Place
 row b n c = first_below (waiting_at b c) n
 
-pub none_yet : (f : ℕ → Option Place) → first_below f 0 ≡ none
+pub none_yet : (f : ℕ → Option search.Place) → first_below f 0 ≡ none
 unfolding first_below
 none_yet f = refl
 
-none_more : (f : ℕ → Option Place) (k : ℕ) → first_below f k ≡ none → f k ≡ none → first_below f (k + 1) ≡ none
+none_more : (f : ℕ → Option search.Place) (k : ℕ) → first_below f k ≡ none → f k ≡ none → first_below f (k + 1) ≡ none
 unfolding first_below
 none_more f k h e = rw (add-one k, h) e
 
@@ -72,14 +71,14 @@ module _ (b : List ℕ) (n c : ℕ) where
 
   -- the first that waits
   pub stops_at : (j s : ℕ) (r : Bool) → n ≡ n_of b → s ≡ numbers_of b → r ≡ waits b j c → r ≡ true → first_below (waiting_at b c) j ≡ none
-      → first_below (row b n) c ≡ none → j < n → c < s → told (At c j) ≡ found (earliest b)
+      → first_below (row b n) c ≡ none → j < n → c < s → told (Some (record { number = c; sender = j })) ≡ found (earliest b)
   unfolding earliest
   stops_at j s r en es er t h g lj lc =
       let here = first_at (waiting_at b c) n j (record { number = c; sender = j }) lj (waiting_some b c j (sym er ∙ t)) h in
       let all = first_at (row b n) s c (record { number = c; sender = j }) lc here g in
       ap found (sym all ∙ (λ i. first_below (row b (en i)) (es i)))
 
-  pub stops_nowhere : (s : ℕ) (x : Found) → n ≡ n_of b → s ≡ numbers_of b → x ≡ Nothing → c ≤ s → s ≤ c
+  pub stops_nowhere : (s : ℕ) (x : std.Option Place) → n ≡ n_of b → s ≡ numbers_of b → x ≡ None → c ≤ s → s ≤ c
       → first_below (row b n) c ≡ none → told x ≡ found (earliest b)
   unfolding earliest
   stops_nowhere s x en es e l m h =
@@ -89,34 +88,22 @@ module _ (b : List ℕ) (n c : ℕ) where
 -- ---- the answer
 
 -- the number and values of the search's cases settle the case
-abbrev case_of : Waiting → Found
-case_of w = cond w.waits (At w.number w.sender) Nothing
+abbrev pub case_of : Waiting → std.Option Place
+case_of w = cond w.waits (Some (record { number = w.number; sender = w.sender })) None
 
-case_of_told : (x : Found) → case_of (told x) ≡ x
-case_of_told (At number sender) = refl
-case_of_told Nothing = refl
+case_of_told : (x : std.Option Place) → case_of (told x) ≡ x
+case_of_told (Some p) = refl
+case_of_told None = refl
 
-pub told_injective : (x y : Found) → told x ≡ told y → x ≡ y
+pub told_injective : (x y : std.Option Place) → told x ≡ told y → x ≡ y
 told_injective x y h = sym (case_of_told x) ∙ ap case_of h ∙ case_of_told y
 
 module _ (b : List ℕ) where
-  pub found_small : legal b ≡ true → (number sender : ℕ) → told (At number sender) ≡ found (earliest b) → (number < 256) × (sender < 256)
-  found_small h number sender e = go (earliest b) refl (λ x q. (earliest_exactly b x).0 q)
-    where
-      go : (o : Option Place) → earliest b ≡ o → ((x : Place) → o ≡ some x → Earliest b x) → (number < 256) × (sender < 256)
-      go none q f = absurd (true≢false (ap (λ (w : Waiting). w.waits) (e ∙ ap found q)))
-      go (some x) q f =
-          let p = f x refl in
-          let w = e ∙ ap found q in
-          let n = houses_byte (n_of b) (legal_facts b h).n in
-          let c : number ≡ x.number = ap (λ (w : Waiting). w.number) w in
-          let j : sender ≡ x.sender = ap (λ (w : Waiting). w.sender) w in
-          (omega (arith, p.in_numbers, numbers_small b h, c), omega (arith, p.in_senders, n, j))
-
   pub waiting_found : legal b ≡ true → (w : Waiting) → w ≡ found (earliest b) → w ≡ waiting b
   unfolding waiting
   waiting_found h w e = rw h e
 
-  pub waiting_no_book : legal b ≡ false → record { answer = 1; waits = false; number = 0; sender = 0 } ≡ waiting b
+  pub waiting_no_book : legal b ≡ false → (answer : ℕ) → answer ≡ 1
+      → record { answer = answer; waits = false; number = 0; sender = 0 } ≡ waiting b
   unfolding waiting
-  waiting_no_book h = rw h
+  waiting_no_book h answer e = rw (h, e)

@@ -1,30 +1,24 @@
--- A legal book's answer is what the search finds, which bytes hold; no book's is 1.
+-- A legal book's answer is what the search finds; no book's is 1.
 use Rattle.std.proofs.Common.{sym, ◌∙◌, arith}
 use Rattle.meaning.proofs.Room.{header_room}
-use Rattle.waiting.proofs.Searching.{found_small, waiting_found, waiting_no_book}
+use Rattle.meaning.proofs.Legality.{legal_head}
+use Rattle.waiting.proofs.Searching.{waiting_found, waiting_no_book}
 use Rattle.waiting.proofs.earliest_waiting.Goals as goal
 
 pub n_of-requires : goal.n_of-requires
-n_of-requires c = let h = header_room _ (sym c.is_legal.ensures ∙ c.if-is_legal.true) in omega arith
+n_of-requires c = let h = header_room _ (sym c.is_legal.ensures ∙ c.if-not-is_legal.false) in omega arith
 
 pub numbers_of-requires : goal.numbers_of-requires
-numbers_of-requires c = let h = header_room _ (sym c.is_legal.ensures ∙ c.if-is_legal.true) in omega arith
+numbers_of-requires c = let h = header_room _ (sym c.is_legal.ensures ∙ c.if-not-is_legal.false) in omega arith
 
-pub returns-in_default : goal.returns-in_default
-returns-in_default c = waiting_found _ (sym c.is_legal.ensures ∙ c.if-is_legal.true) _ c.in_default.ensures
+pub search-requires : goal.search-requires
+search-requires c = (legal_head _ (sym c.is_legal.ensures ∙ c.if-not-is_legal.false), c.n_of.ensures.0, c.numbers_of.ensures.0)
 
-pub overflow_cast-result : goal.overflow_cast-result
-overflow_cast-result c =
-    let small = found_small _ (sym c.is_legal.ensures ∙ c.if-is_legal.true) _ _ c.in-At.ensures in
-    omega (arith, small.0)
+pub returns-in-Some : goal.returns-in-Some
+returns-in-Some c = waiting_found _ (sym c.is_legal.ensures ∙ c.if-not-is_legal.false) _ c.in-Some.ensures
 
-pub overflow_cast-result-then-is_legal : goal.overflow_cast-result-then-is_legal
-overflow_cast-result-then-is_legal c =
-    let small = found_small _ (sym c.is_legal.ensures ∙ c.if-is_legal.true) _ _ c.in-At.ensures in
-    omega (arith, small.1)
+pub returns-in-None : goal.returns-in-None
+returns-in-None c = waiting_found _ (sym c.is_legal.ensures ∙ c.if-not-is_legal.false) _ c.in-None.ensures
 
-pub returns-then-is_legal : goal.returns-then-is_legal
-returns-then-is_legal c = waiting_found _ (sym c.is_legal.ensures ∙ c.if-is_legal.true) _ c.in-At.ensures
-
-pub returns : goal.returns
-returns c = waiting_no_book _ (sym c.is_legal.ensures ∙ c.if-is_legal.false)
+pub returns-then-not-is_legal : goal.returns-then-not-is_legal
+returns-then-not-is_legal c = waiting_no_book _ (sym c.is_legal.ensures ∙ c.if-not-is_legal.true) _ c.into.ensures

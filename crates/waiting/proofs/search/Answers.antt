@@ -1,6 +1,5 @@
 -- A sender and a number passed; the first entry that waits, or none.
 use Rattle.std.proofs.Common.{rules, arith, refl}
-use Rattle.meaning.proofs.Legality.{legal_head}
 use Rattle.waiting.proofs.Searching.{none_yet, sender_passed, number_passed, stops_at, stops_nowhere}
 use Rattle.waiting.proofs.search.Goals as goal
 
@@ -13,7 +12,7 @@ loop-sender-init c = (search rules, search rules, none_yet _)
 pub waits_at-requires : goal.waits_at-requires
 waits_at-requires c =
     record {
-      head = legal_head _ c.requires.0;
+      head = c.requires.0;
       sender = omega (arith, c.requires.1, c.loop-sender-test.true);
       number = omega (arith, c.requires.2, c.search-test.true);
     }
