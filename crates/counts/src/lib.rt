@@ -55,21 +55,13 @@ pub fn is_houses(n: u32) -> bool
     1 <= n && n as usize <= LARGEST
 }
 
-// The card's column for n houses. The card is borrowed, so that it stays among the constants: as a value it is laid on the stack first. It
-// is gone through from its first column on.
+// The card's column for n houses. The card is borrowed, so that it stays among the constants: as a value it is laid on the stack first.
 fn column_of(n: usize) -> Column
     requires { houses_ok n ≡ true }
     ensures { result ≡ column_of n }
 {
     let card = &CARD;
-    let mut column = card[0];
-    for i in 1..LARGEST {
-        if i == n {
-            return column;
-        }
-        column = card[i];
-    }
-    column
+    card[n - 1]
 }
 
 // Whether f houses of n may be down: 0 to 4, and some t fits.
@@ -77,10 +69,7 @@ fn column_of(n: usize) -> Column
 pub fn is_down(n: u32, f: u32) -> bool
     ensures { result ≡ down_ok n f }
 {
-    if f <= MOST_DOWN {
-        return 2 * f < n;
-    }
-    false
+    f <= MOST_DOWN && 2 * f < n
 }
 
 // The counts for n houses of which f may be down: the card's column for n - 2f, and f more to the quorum and to deliver.

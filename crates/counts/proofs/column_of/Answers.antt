@@ -1,25 +1,23 @@
--- The card's column at i - 1 is the column of the formulas for i houses.
-use Rattle.std.proofs.Common.{refl, ap, ◌∙◌, arith}
+-- The card's column at n - 1 is the column of the formulas for n houses.
+use Rattle.std.proofs.Common.{◌≡◌, ◌+◌, ◌-◌, ap, ◌∙◌, arith}
 use Rattle.card.specs.Card.{largest, column_of}
 use Rattle.card.proofs.Wall.{houses_between, card_is}
 use Rattle.counts.proofs.column_of.Goals as goal
 
-pub loop-i-init : goal.loop-i-init
-unfolding column_of largest
-loop-i-init c = let b = houses_between _ c.requires in (omega arith, (b.0, refl))
+pub overflow_sub-result : goal.overflow_sub-result
+overflow_sub-result c = (houses_between _ c.requires).0
 
-pub returns-then-i-n : goal.returns-then-i-n
-returns-then-i-n c = let v = c.loop-i.invariant in v.1.1 ∙ ap column_of c.if-i-n.true
+pub offset_bounds-card-n : goal.offset_bounds-card-n
+unfolding largest
+offset_bounds-card-n c = let b = houses_between _ c.requires in record { fits = omega arith }
 
-pub loop-i-preserved : goal.loop-i-preserved
-unfolding column_of largest
-loop-i-preserved c =
-    let v = c.loop-i.invariant in
-    (omega arith, (omega (arith, c.if-i-n.false), card_is _ _ (omega arith)))
+pub bounds-card-n : goal.bounds-card-n
+unfolding largest
+bounds-card-n c = let b = houses_between _ c.requires in omega arith
 
 pub returns : goal.returns
-unfolding largest
+unfolding largest column_of
 returns c =
     let b = houses_between _ c.requires in
-    let v = c.loop-i.invariant in
-    v.1.1 ∙ ap column_of (omega arith)
+    let e : c.args.n - 1 + 1 ≡ c.args.n = omega arith in
+    card_is _ (c.args.n - 1) (omega arith) ∙ ap column_of e
