@@ -7,14 +7,14 @@ ghost use Rattle.std.specs.Prelude.{◌<◌};
 use calls::Waiting;
 use hand::{Came, answered, nothing};
 use octets::wide;
-use post::{APART, BOOKS, COPIES, bit, byte, copy, has};
-use script::{BYTES, CALL, FROM, GIVES, HONEST, HOUSES, KIND, NUMBER, Numbers, OWN, SENDER, WRONG};
+use post::{APART, BOOKS, List, byte, copy, has};
+use script::{BYTES, CALL, FROM, GIVES, HONEST, HOUSES, KIND, NUMBER, Numbers, OWN, SENDER};
 use std::io;
 use std::io::Write;
 use std::num::wrapping_add_u32;
-use telling::{say_line, told};
+use telling::Teller;
 
-const WAITS: usize = 101; // e
+const WAITS: u8 = b'e';
 
 // The calls, by their numbers in the script.
 const SENT: u32 = 13;
@@ -42,10 +42,10 @@ fn come_back(book: &[u8], r: Numbers) -> Came {
 }
 
 fn sent(book: &[u8], r: Numbers) -> Came {
-    let sent = again::sent_on(book, byte(r[KIND]), r[SENDER], r[NUMBER]);
+    let sent = again::sent_on(book, byte(r.get(KIND)), r.get(SENDER), r.get(NUMBER));
     let message = sent.message;
     let mut r = answered(r, sent.answer);
-    r[GIVES] = hand::given(sent.answer, sent.gives, false);
+    r.set(GIVES, hand::given(sent.answer, sent.gives, false));
     Came { r, message }
 }
 
@@ -54,20 +54,20 @@ fn waiting_of(w: Waiting) -> u32 {
     if w.answer != 0 {
         return 2;
     }
-    bit(w.waits)
+    u32::from(w.waits)
 }
 
 fn waiting(book: &[u8], r: Numbers) -> Came {
     let w = waiting::earliest_waiting(book);
     let mut r = answered(r, w.answer);
-    r[WAITS] = waiting_of(w);
-    r[NUMBER] = wide(w.number);
-    r[SENDER] = wide(w.sender);
+    r.set(WAITS, waiting_of(w));
+    r.set(NUMBER, wide(w.number));
+    r.set(SENDER, wide(w.sender));
     nothing(r)
 }
 
 fn on_book(book: &[u8], r: Numbers) -> Came {
-    match r[CALL] {
+    match r.get(CALL) {
         SENT => sent(book, r),
         WAITING => waiting(book, r),
         _ => come_back(book, r),
@@ -82,21 +82,20 @@ fn on_place(desk: &[u8], r: Numbers, own: u32, bytes: u32) -> Came {
         return on_book(&desk[first..end], r);
     }
     let mut r = r;
-    r[WRONG] = 1;
+    r.refuse();
     nothing(r)
 }
 
 fn look_up(desk: &[u8], r: Numbers) -> Came {
     let r = outset::with_length(r);
-    on_place(desk, r, r[OWN], r[BYTES])
+    on_place(desk, r, r.get(OWN), r.get(BYTES))
 }
 
 // ---- what is sent again
 
 // What a house sent of a kind, to the houses from `first` to before `end`.
 fn send_kind<W: Write>(
-    out: &mut W,
-    s: &[u8],
+    t: &mut Teller<'_, W>,
     desk: &mut [u8],
     r: Numbers,
     kind: u32,
@@ -104,32 +103,31 @@ fn send_kind<W: Write>(
     end: u32,
 ) -> io::Result<()> {
     let mut r = r;
-    r[CALL] = SENT;
-    r[KIND] = kind;
+    r.set(CALL, SENT);
+    r.set(KIND, kind);
     let came = look_up(desk, r);
     let r = came.r;
     let message = came.message;
-    if r[GIVES] == 1 {
-        return stage::send_again(out, s, desk, hand::read(r, &message), message, first, end);
+    if r.get(GIVES) == 1 {
+        return stage::send_again(t, desk, hand::read(r, &message), message, first, end);
     }
     Ok(())
 }
 
 // All that a house sent on the entry of house 0, which alone publishes in these seasons.
 fn send_all<W: Write>(
-    out: &mut W,
-    s: &[u8],
+    t: &mut Teller<'_, W>,
     desk: &mut [u8],
     r: Numbers,
     first: u32,
     end: u32,
 ) -> io::Result<()> {
-    let before = has(desk, COPIES, 0);
-    send_kind(out, s, desk, r, 1, first, end)?;
-    send_kind(out, s, desk, r, 2, first, end)?;
-    send_kind(out, s, desk, r, 3, first, end)?;
-    if has(desk, COPIES, 0) == before {
-        return say_line(out, s, NOTHING, r);
+    let before = has(desk, List::Copies.place(), 0);
+    send_kind(t, desk, r, 1, first, end)?;
+    send_kind(t, desk, r, 2, first, end)?;
+    send_kind(t, desk, r, 3, first, end)?;
+    if has(desk, List::Copies.place(), 0) == before {
+        return t.say_line(NOTHING, &r);
     }
     Ok(())
 }
@@ -137,54 +135,53 @@ fn send_all<W: Write>(
 // ---- what follows a call
 
 // A helper sends to the asker alone.
-fn help<W: Write>(out: &mut W, s: &[u8], desk: &mut [u8], r: Numbers) -> io::Result<()> {
-    let asker = r[FROM];
-    send_all(out, s, desk, r, asker, wrapping_add_u32(asker, 1))
+fn help<W: Write>(t: &mut Teller<'_, W>, desk: &mut [u8], r: Numbers) -> io::Result<()> {
+    let asker = r.get(FROM);
+    send_all(t, desk, r, asker, wrapping_add_u32(asker, 1))
 }
 
 // What came of a call is told; in a season a message given is posted, and who asked is helped.
 pub fn follow<W: Write>(
-    out: &mut W,
-    s: &[u8],
+    t: &mut Teller<'_, W>,
     desk: &mut [u8],
     r: Numbers,
     message: [u8; 36],
 ) -> io::Result<()> {
-    told(out, s, r)?;
-    if r[HONEST] != 0 {
+    t.told(&r)?;
+    if r.get(HONEST) != 0 {
         stage::give(desk, r, message);
-        if r[GIVES] == 2 {
-            return help(out, s, desk, r);
+        if r.get(GIVES) == 2 {
+            return help(t, desk, r);
         }
     }
     Ok(())
 }
 
-fn look<W: Write>(out: &mut W, s: &[u8], desk: &mut [u8], r: Numbers) -> io::Result<()> {
+fn look<W: Write>(t: &mut Teller<'_, W>, desk: &mut [u8], r: Numbers) -> io::Result<()> {
     let came = look_up(desk, r);
     let r = came.r;
     let message = came.message;
-    follow(out, s, desk, r, message)
+    follow(t, desk, r, message)
 }
 
 // On return a house sends again to all what it has sent and asks all for help.
-fn start_again<W: Write>(out: &mut W, s: &[u8], desk: &mut [u8], r: Numbers) -> io::Result<()> {
-    stage::go_up(desk, r[OWN]);
+fn start_again<W: Write>(t: &mut Teller<'_, W>, desk: &mut [u8], r: Numbers) -> io::Result<()> {
+    stage::go_up(desk, r.get(OWN));
     let came = look_up(desk, r);
     let r = came.r;
     let request = came.message;
-    told(out, s, r)?;
-    send_all(out, s, desk, r, 0, r[HOUSES])?;
-    stage::ask_all(out, s, desk, r, request)
+    t.told(&r)?;
+    send_all(t, desk, r, 0, r.get(HOUSES))?;
+    stage::ask_all(t, desk, r, request)
 }
 
 // A call or a step that changes no book.
-pub fn take_step<W: Write>(out: &mut W, s: &[u8], desk: &mut [u8], r: Numbers) -> io::Result<()> {
-    match r[CALL] {
-        2..=4 => told(out, s, outset::on_nothing(r)),
-        11..=14 => look(out, s, desk, r),
-        SHOW => hand::show(out, s, r),
-        BACK => start_again(out, s, desk, r),
-        _ => stage::take_step(out, s, desk, r),
+pub fn take_step<W: Write>(t: &mut Teller<'_, W>, desk: &mut [u8], r: Numbers) -> io::Result<()> {
+    match r.get(CALL) {
+        2..=4 => t.told(&outset::on_nothing(r)),
+        11..=14 => look(t, desk, r),
+        SHOW => hand::show(t, r),
+        BACK => start_again(t, desk, r),
+        _ => stage::take_step(t, desk, r),
     }
 }

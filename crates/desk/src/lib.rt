@@ -6,15 +6,15 @@ ghost use Rattle.std.specs.Prelude.{◌<◌};
 
 use calls::Outcome;
 use hand::{Came, MOISTURE, answered, declaration_of, given, nothing, read, reading_of};
-use post::{APART, BOOKS, bit};
-use script::{BYTES, CALL, DELIVERS, FROM, GIVES, KIND, LENGTH, NUMBER, Numbers, OWN, WRONG};
+use post::{APART, BOOKS};
+use script::{BYTES, CALL, DELIVERS, FROM, GIVES, KIND, LENGTH, NUMBER, Numbers, OWN};
 
 // What came of a call, by the letters of its numbers.
-const GIVEN_KIND: usize = 75; // K
+const GIVEN_KIND: u8 = b'K';
 
-const GIVEN_MOISTURE: usize = 77; // M
+const GIVEN_MOISTURE: u8 = b'M';
 
-const DELIVERED_MOISTURE: usize = 68; // D
+const DELIVERED_MOISTURE: u8 = b'D';
 
 // The calls, by their numbers in the script.
 const OPEN: u32 = 5;
@@ -34,11 +34,11 @@ fn note(r: Numbers, o: Outcome) -> Came {
     let declaration = o.declaration;
     let g = read(r, &message);
     let mut r = answered(r, o.answer);
-    r[GIVES] = given(o.answer, o.gives, o.helps);
-    r[GIVEN_KIND] = g[KIND];
-    r[GIVEN_MOISTURE] = g[MOISTURE];
-    r[DELIVERS] = bit(o.delivers);
-    r[DELIVERED_MOISTURE] = moisture_of(declaration);
+    r.set(GIVES, given(o.answer, o.gives, o.helps));
+    r.set(GIVEN_KIND, g.get(KIND));
+    r.set(GIVEN_MOISTURE, g.get(MOISTURE));
+    r.set(DELIVERS, u32::from(o.delivers));
+    r.set(DELIVERED_MOISTURE, moisture_of(declaration));
     Came { r, message }
 }
 
@@ -46,22 +46,22 @@ fn note(r: Numbers, o: Outcome) -> Came {
 
 fn publish(book: &mut [u8], r: Numbers) -> Came {
     let declaration = octets::bytes_of(declaration_of(r));
-    let o = publish::publish(book, r[NUMBER], &declaration);
+    let o = publish::publish(book, r.get(NUMBER), &declaration);
     note(r, o)
 }
 
 fn receive(book: &mut [u8], r: Numbers, hand: [u8; 40]) -> Came {
     let first = 0;
-    let end = r[LENGTH] as usize;
+    let end = r.get(LENGTH) as usize;
     if end <= 40 {
-        let o = receive::receive(book, r[FROM], &hand[first..end]);
+        let o = receive::receive(book, r.get(FROM), &hand[first..end]);
         return note(r, o);
     }
     nothing(r)
 }
 
 fn on_book(book: &mut [u8], r: Numbers, hand: [u8; 40]) -> Came {
-    match r[CALL] {
+    match r.get(CALL) {
         OPEN | OPEN_WITH => outset::open(book, r),
         PUBLISH => publish(book, r),
         _ => receive(book, r, hand),
@@ -76,11 +76,11 @@ fn on_place(desk: &mut [u8], r: Numbers, hand: [u8; 40], own: u32, bytes: u32) -
         return on_book(&mut desk[first..end], r, hand);
     }
     let mut r = r;
-    r[WRONG] = 1;
+    r.refuse();
     nothing(r)
 }
 
 pub fn on_desk(desk: &mut [u8], r: Numbers, hand: [u8; 40]) -> Came {
     let r = outset::with_length(r);
-    on_place(desk, r, hand, r[OWN], r[BYTES])
+    on_place(desk, r, hand, r.get(OWN), r.get(BYTES))
 }

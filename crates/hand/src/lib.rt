@@ -8,30 +8,30 @@ use lot::Declaration;
 use message::Written;
 use octets::wide;
 use post::{byte, copy, put};
-use script::{FREE, KIND, LENGTH, NUMBER, Numbers, SEASON, SENDER, TEXT, WRONG};
+use script::{FREE, KIND, LENGTH, NUMBER, Numbers, SEASON, SENDER, TEXT};
 use std::io;
 use std::io::Write;
-use telling::{end_line, say_bytes, tell};
+use telling::Teller;
 
 // ---- the numbers, by their letters
 
-const LOT: usize = 76; // L
+const LOT: u8 = b'L';
 
-const COLONIES: usize = 66; // B
+const COLONIES: u8 = b'B';
 
-const KILOGRAMS: usize = 119; // w
+const KILOGRAMS: u8 = b'w';
 
-pub const MOISTURE: usize = 109; // m
+pub const MOISTURE: u8 = b'm';
 
-const CONDUCTIVITY: usize = 81; // Q
+const CONDUCTIVITY: u8 = b'Q';
 
-const ANSWER: usize = 97; // a
+const ANSWER: u8 = b'a';
 
-const READS: usize = 117; // u
+const READS: u8 = b'u';
 
-const READER: usize = 82; // R
+const READER: u8 = b'R';
 
-const WRITER: usize = 87; // W
+const WRITER: u8 = b'W';
 
 // ---- readings, declarations
 
@@ -74,11 +74,11 @@ pub fn reading_of(bits: u32) -> u32 {
 
 pub fn declaration_of(r: Numbers) -> Declaration {
     Declaration {
-        lot: r[LOT],
-        colonies: r[COLONIES],
-        kilograms: r[KILOGRAMS],
-        moisture: bits_of(r[MOISTURE]),
-        conductivity: bits_of(r[CONDUCTIVITY]),
+        lot: r.get(LOT),
+        colonies: r.get(COLONIES),
+        kilograms: r.get(KILOGRAMS),
+        moisture: bits_of(r.get(MOISTURE)),
+        conductivity: bits_of(r.get(CONDUCTIVITY)),
     }
 }
 
@@ -87,16 +87,16 @@ pub fn declaration_of(r: Numbers) -> Declaration {
 fn written(r: Numbers, kind: u32) -> Written {
     writer::write_message(
         byte(kind),
-        r[SEASON],
-        byte(r[SENDER]),
-        byte(r[NUMBER]),
+        r.get(SEASON),
+        byte(r.get(SENDER)),
+        byte(r.get(NUMBER)),
         declaration_of(r),
     )
 }
 
 // A message as it is written; with a kind that is none, a SEND.
 fn message_of(r: Numbers) -> [u8; 36] {
-    let w = written(r, r[KIND]);
+    let w = written(r, r.get(KIND));
     if w.answer == 0 {
         return w.message;
     }
@@ -107,24 +107,24 @@ fn message_of(r: Numbers) -> [u8; 36] {
 // The bytes of a message, or of a request where there are to be fewer than 13, with this kind, and zeros after them.
 pub fn lay(r: Numbers) -> [u8; 40] {
     let mut hand: [u8; 40] = [0; 40];
-    if r[LENGTH] < 13 {
-        copy(&mut hand, 0, &writer::write_request(r[SEASON]), 0);
-        put(&mut hand, 3, 0, r[KIND]);
+    if r.get(LENGTH) < 13 {
+        copy(&mut hand, 0, &writer::write_request(r.get(SEASON)), 0);
+        put(&mut hand, 3, 0, r.get(KIND));
         return hand;
     }
     copy(&mut hand, 0, &message_of(r), 0);
-    put(&mut hand, 3, 0, r[KIND]);
+    put(&mut hand, 3, 0, r.get(KIND));
     hand
 }
 
 fn read_lot(r: Numbers, declaration: [u8; 20]) -> Numbers {
     let mut r = r;
     let d = octets::declaration_at(&declaration, 0);
-    r[LOT] = d.lot;
-    r[COLONIES] = d.colonies;
-    r[KILOGRAMS] = d.kilograms;
-    r[MOISTURE] = reading_of(d.moisture);
-    r[CONDUCTIVITY] = reading_of(d.conductivity);
+    r.set(LOT, d.lot);
+    r.set(COLONIES, d.colonies);
+    r.set(KILOGRAMS, d.kilograms);
+    r.set(MOISTURE, reading_of(d.moisture));
+    r.set(CONDUCTIVITY, reading_of(d.conductivity));
     r
 }
 
@@ -132,16 +132,16 @@ fn read_lot(r: Numbers, declaration: [u8; 20]) -> Numbers {
 pub fn read(r: Numbers, bytes: &[u8]) -> Numbers {
     let mut r = r;
     let m = reader::parts_of(bytes);
-    r[READER] = wide(m.answer);
-    r[READS] = 2;
+    r.set(READER, wide(m.answer));
+    r.set(READS, 2);
     if m.answer == 0 {
-        r[SEASON] = m.season;
-        r[READS] = 0;
+        r.set(SEASON, m.season);
+        r.set(READS, 0);
         if m.kind != 9 {
-            r[READS] = 1;
-            r[KIND] = wide(m.kind);
-            r[SENDER] = wide(m.sender);
-            r[NUMBER] = wide(m.number);
+            r.set(READS, 1);
+            r.set(KIND, wide(m.kind));
+            r.set(SENDER, wide(m.sender));
+            r.set(NUMBER, wide(m.number));
             let declaration = m.declaration;
             return read_lot(r, declaration);
         }
@@ -152,14 +152,14 @@ pub fn read(r: Numbers, bytes: &[u8]) -> Numbers {
 // The same of what is handed in, and what the writer answers for its kind.
 pub fn read_hand(r: Numbers, hand: [u8; 40]) -> Numbers {
     let first = 0;
-    let end = r[LENGTH] as usize;
-    let w = written(r, r[KIND]);
+    let end = r.get(LENGTH) as usize;
+    let w = written(r, r.get(KIND));
     let mut r = r;
-    r[WRITER] = wide(w.answer);
+    r.set(WRITER, wide(w.answer));
     if end <= 40 {
         return read(r, &hand[first..end]);
     }
-    r[WRONG] = 1;
+    r.refuse();
     r
 }
 
@@ -174,7 +174,7 @@ pub struct Came {
 
 pub fn answered(r: Numbers, answer: u8) -> Numbers {
     let mut r = r;
-    r[ANSWER] = wide(answer);
+    r.set(ANSWER, wide(answer));
     r
 }
 
@@ -200,10 +200,10 @@ pub fn given(answer: u8, gives: bool, helps: bool) -> u32 {
 }
 
 // Bytes laid as the numbers say: what they read as, in the line's own words, and the bytes from number x on.
-pub fn show<W: Write>(out: &mut W, s: &[u8], r: Numbers) -> io::Result<()> {
+pub fn show<W: Write>(t: &mut Teller<'_, W>, r: Numbers) -> io::Result<()> {
     let hand = lay(r);
     let r = read_hand(r, hand);
-    tell(out, s, r[TEXT], r)?;
-    say_bytes(out, &hand, r[FREE], r[LENGTH])?;
-    end_line(out)
+    t.tell(t.script.text_at(r.get(TEXT)), &r)?;
+    t.say_bytes(&hand, r.get(FREE), r.get(LENGTH))?;
+    t.end_line()
 }

@@ -6,27 +6,26 @@ ghost use Rattle.std.specs.Prelude.{◌<◌};
 
 use card::Counts;
 use hand::{Came, answered, declaration_of, nothing};
-use post::bit;
-use script::{BYTES, CALL, HELP_LIMIT, HOUSES, Numbers, OWN, SEASON, TAIL, WRONG};
+use script::{BYTES, CALL, HELP_LIMIT, HOUSES, Numbers, OWN, SEASON, TAIL};
 use sheet::Kept;
 
 // ---- the numbers, by their letters
 
-const NUMBERS: usize = 83; // S
+const NUMBERS: u8 = b'S';
 
-const DOWN_LIMIT: usize = 102; // f
+const DOWN_LIMIT: u8 = b'f';
 
-const CAP: usize = 67; // C
+const CAP: u8 = b'C';
 
-const GATE: usize = 113; // q
+const GATE: u8 = b'q';
 
-const T: usize = 116; // t
+const T: u8 = b't';
 
-const QUORUM: usize = 69; // E
+const QUORUM: u8 = b'E';
 
-const AMPLIFY: usize = 65; // A
+const AMPLIFY: u8 = b'A';
 
-const DELIVER: usize = 86; // V
+const DELIVER: u8 = b'V';
 
 // ---- the calls, by their numbers in the script
 
@@ -58,7 +57,7 @@ fn gate_of(gate: u32) -> Kept {
 
 // The sheet, with the conductivity's gate open.
 fn sheet_of(r: Numbers) -> [u8; 22] {
-    judge::lay_sheet(r[CAP], gate_of(r[GATE]), gate_of(0))
+    judge::lay_sheet(r.get(CAP), gate_of(r.get(GATE)), gate_of(0))
 }
 
 // ---- the calls
@@ -72,18 +71,18 @@ fn narrow(x: u64) -> u32 {
 }
 
 fn length(r: Numbers) -> Numbers {
-    let found = sizes::length_of(r[HOUSES], r[NUMBERS]);
+    let found = sizes::length_of(r.get(HOUSES), r.get(NUMBERS));
     let mut r = answered(r, found.answer);
-    r[TAIL] = 2 * bit(found.answer == 0);
-    r[BYTES] = narrow(found.length);
+    r.set(TAIL, 2 * u32::from(found.answer == 0));
+    r.set(BYTES, narrow(found.length));
     r
 }
 
 // Unless the script has set it, a book has the length that is right for it.
 pub fn with_length(r: Numbers) -> Numbers {
-    if r[BYTES] == 0 {
+    if r.get(BYTES) == 0 {
         let mut r = length(r);
-        r[TAIL] = 0;
+        r.set(TAIL, 0);
         return r;
     }
     r
@@ -105,13 +104,15 @@ fn counts_of(n: u32, f: u32) -> Counts {
 }
 
 fn column(r: Numbers) -> Numbers {
-    let counts = counts_of(r[HOUSES], r[DOWN_LIMIT]);
+    let counts = counts_of(r.get(HOUSES), r.get(DOWN_LIMIT));
     let mut r = r;
-    r[T] = narrow(counts.t as u64);
-    r[QUORUM] = narrow(counts.quorum as u64);
-    r[AMPLIFY] = narrow(counts.amplify as u64);
-    r[DELIVER] = narrow(counts.deliver as u64);
-    r[WRONG] = bit(counts.deliver == 0);
+    r.set(T, narrow(counts.t as u64));
+    r.set(QUORUM, narrow(counts.quorum as u64));
+    r.set(AMPLIFY, narrow(counts.amplify as u64));
+    r.set(DELIVER, narrow(counts.deliver as u64));
+    if counts.deliver == 0 {
+        r.refuse();
+    }
     r
 }
 
@@ -121,12 +122,12 @@ fn judge(r: Numbers) -> Numbers {
     let declaration = octets::bytes_of(declaration_of(r));
     let answer = judge::judge(&sheet, &declaration);
     let mut r = answered(r, answer);
-    r[TAIL] = bit(answer == 0);
+    r.set(TAIL, u32::from(answer == 0));
     r
 }
 
 pub fn on_nothing(r: Numbers) -> Numbers {
-    match r[CALL] {
+    match r.get(CALL) {
         CARD => column(r),
         LENGTH => length(r),
         _ => judge(r),
@@ -137,12 +138,12 @@ pub fn open(book: &mut [u8], r: Numbers) -> Came {
     let sheet = sheet_of(r);
     let answer = opening::open_book(
         book,
-        r[HOUSES],
-        r[NUMBERS],
-        r[OWN],
-        r[DOWN_LIMIT],
-        r[HELP_LIMIT],
-        r[SEASON],
+        r.get(HOUSES),
+        r.get(NUMBERS),
+        r.get(OWN),
+        r.get(DOWN_LIMIT),
+        r.get(HELP_LIMIT),
+        r.get(SEASON),
         &sheet,
     );
     nothing(answered(r, answer))

@@ -1,6 +1,8 @@
 // A season's post, as bytes: how each house stands, and two lists, the copies sent and the requests for help, each with the house it is
 // from, the house it goes to, whether it came, and its bytes. They stand in one buffer, before the books. Its first bytes are for what a
 // list has no room for.
+// Kept: the buffer, its places and what lies past them, since a number past a list's end writes on into the next list, and a book into the
+// one after it, and what `transcript` then answers stands.
 #![tactic(auto)]
 
 ghost use Rattle.std.specs.Prelude.{◌+◌, ◌≤◌, ◌<◌};
@@ -11,11 +13,6 @@ pub const DOWN: u32 = 100;
 pub const RETURNS: u32 = 150;
 
 pub const DELIVERED: u32 = 200;
-
-// The lists: how many there are, how many go to honest houses, how many are READYs, and from LISTED on each.
-pub const COPIES: u32 = 250;
-
-pub const REQUESTS: u32 = 3000;
 
 // From, to, whether it came, and its bytes.
 const LISTED: u32 = 40;
@@ -30,55 +27,50 @@ const LONGEST: usize = 169406;
 
 pub const DESK: usize = BOOKS + LONGEST;
 
+// A list: how many there are, how many go to honest houses, how many are READYs, and from LISTED on each.
+#[derive(Clone, Copy, PartialEq, Eq, Debug)]
+pub enum List {
+    Copies,
+    Requests,
+}
+
+impl List {
+    // Where it begins.
+    pub fn place(self) -> u32
+        ensures { result ≤ 3000 }
+    {
+        match self {
+            List::Copies => 250,
+            List::Requests => 3000,
+        }
+    }
+}
+
 // ---- bytes
 
+// A number as a byte; one that is too large is 255.
 pub fn byte(x: u32) -> u8 {
-    if x < 256 {
-        return x as u8;
-    }
-    255
-}
-
-fn wide(x: u8) -> u32
-    ensures { result < 256 }
-{
-    x as u32
-}
-
-pub fn bit(is_so: bool) -> u32
-    ensures { result ≤ 1 }
-{
-    if is_so {
-        return 1;
-    }
-    0
+    u8::try_from(x).unwrap_or(255)
 }
 
 // Puts a number into a byte, so far from a place; and has it from there.
 pub fn put(to: &mut [u8], at: u32, off: u32, x: u32) {
-    let i = at as usize + off as usize;
-    let b = byte(x);
-    if i < to.len() {
-        to[i] = b;
+    if let Some(b) = to.get_mut(at as usize + off as usize) {
+        *b = byte(x);
     }
 }
 
 pub fn has(s: &[u8], at: u32, off: u32) -> u32
     ensures { result < 256 }
 {
-    let i = at as usize + off as usize;
-    if i < s.len() {
-        return wide(s[i]);
-    }
-    0
+    let b = s.get(at as usize + off as usize).copied().unwrap_or(0);
+    u32::from(b)
 }
 
 // Copies 36 bytes from one place to another, with zeros for what is past the end.
 pub fn copy(to: &mut [u8], at: u32, from: &[u8], first: u32) {
-    let mut i: u32 = 0;
-    while i < 36 {
+    for i in 0..36 {
         put(to, at, i, has(from, first, i));
-        i += 1;
     }
 }
 
@@ -96,18 +88,16 @@ pub fn count_if(desk: &mut [u8], at: u32, off: u32, is_one: bool) {
 }
 
 // Where number k of a list begins, counted from 1. It ends before the books.
-pub fn listed(list_at: u32, k: u32) -> u32
+pub fn listed(list: List, k: u32) -> u32
     ensures { result + 40 ≤ 6000 }
 {
     if k < 64 {
-        if list_at <= REQUESTS {
-            return list_at + k * LISTED;
-        }
+        return list.place() + k * LISTED;
     }
     0
 }
 
-fn list(desk: &mut [u8], at: u32, from: u32, to: u32, message: [u8; 36])
+fn lay(desk: &mut [u8], at: u32, from: u32, to: u32, message: [u8; 36])
     requires { at + 40 ≤ 6000 }
 {
     put(desk, at, 0, from);
@@ -117,45 +107,44 @@ fn list(desk: &mut [u8], at: u32, from: u32, to: u32, message: [u8; 36])
 }
 
 // One more on a list, to a house that is honest or not.
-fn post_one(desk: &mut [u8], list_at: u32, from: u32, to: u32, is_honest: bool, message: [u8; 36]) {
-    count(desk, list_at, 0);
-    count_if(desk, list_at, 1, is_honest);
-    count_if(desk, list_at, 2, message[3] == 3);
-    let at = listed(list_at, has(desk, list_at, 0));
-    list(desk, at, from, to, message);
+fn post_one(desk: &mut [u8], list: List, from: u32, to: u32, is_honest: bool, message: [u8; 36]) {
+    let counts = list.place();
+    count(desk, counts, 0);
+    count_if(desk, counts, 1, is_honest);
+    count_if(desk, counts, 2, message[3] == 3);
+    let at = listed(list, has(desk, counts, 0));
+    lay(desk, at, from, to, message);
 }
 
 // One to each house from `first` to before `end`, of which those below `honest` are honest.
 pub fn post_all(
     desk: &mut [u8],
-    list_at: u32,
+    list: List,
     from: u32,
     honest: u32,
     first: u32,
     end: u32,
     message: [u8; 36],
 ) {
-    let mut to = first;
-    while to < end {
-        post_one(desk, list_at, from, to, to < honest, message);
-        to += 1;
+    for to in first..end {
+        post_one(desk, list, from, to, to < honest, message);
     }
 }
 
 // Whether one is on a list that has not come.
-pub fn is_left(desk: &[u8], list_at: u32, k: u32) -> bool {
-    if k <= has(desk, list_at, 0) {
-        return has(desk, listed(list_at, k), 2) == 0;
-    }
-    false
+pub fn is_left(desk: &[u8], list: List, k: u32) -> bool {
+    k <= has(desk, list.place(), 0) && has(desk, listed(list, k), 2) == 0
 }
 
 // Nothing is posted, and no house has gone down, returned or delivered.
 pub fn begin(desk: &mut [u8]) {
-    let none: [u8; 0] = [];
-    copy(desk, DOWN, &none, 0);
-    copy(desk, RETURNS, &none, 0);
-    copy(desk, DELIVERED, &none, 0);
-    copy(desk, COPIES, &none, 0);
-    copy(desk, REQUESTS, &none, 0);
+    for at in [
+        DOWN,
+        RETURNS,
+        DELIVERED,
+        List::Copies.place(),
+        List::Requests.place(),
+    ] {
+        copy(desk, at, &[], 0);
+    }
 }

@@ -8,333 +8,255 @@
 // In what is told, <o> is the number o in decimal digits, and [k] the name of k's value, in which there may be such holes again.
 #![tactic(auto)]
 
-ghost use Rattle.std.specs.Prelude.{◌<◌};
+ghost use Rattle.std.specs.Prelude.{◌≡◌, ◌<◌, ◌≤◌, IfSome, [], length};
 
-use std::num::wrapping_add_u32;
+mod calling;
+mod lettered;
 
-// The numbers, by letter.
-pub type Numbers = [u32; 128];
+pub use calling::{Call, UnknownCall};
+pub use lettered::{
+    BYTES, CALL, DELIVERS, FREE, FROM, GIVES, HELP_LIMIT, HONEST, HOUSES, KIND, LENGTH, LINE,
+    NUMBER, Numbers, OWN, SEASON, SENDER, TAIL, TEXT,
+};
+use lettered::{DONE, WAITS};
 
-// Below the letters: the letter that waits for its number; where the text of a line begins, if it has one; whether the words of the
-// line are done; whether one of them was not understood; where the line begins.
-const WAITS: usize = 0;
+// What a script says, which is nothing in 65,536 bytes and more. A place in it is counted from its first byte, and 0 is nowhere.
+#[derive(Clone, Copy)]
+pub struct Script<'a> {
+    text: &'a [u8],
+    ghost is_short: { length text.now < 65536 },
+}
 
-pub const TEXT: usize = 1;
+// What stands after the end of a line: a call, with the place of its words, or text that is told, with its place.
+#[derive(Clone, Copy, PartialEq, Eq, Debug)]
+pub enum Line {
+    Call(u32),
+    Text(u32),
+}
 
-const DONE: usize = 2;
+// A line that names something: a letter, the two digits of its value, and the name at its place, with the rest of the script after it.
+#[derive(Clone, Copy)]
+struct Name<'a> {
+    letter: u8,
+    tens: u8,
+    ones: u8,
+    place: u32,
+    text: &'a [u8],
+}
 
-pub const WRONG: usize = 3;
+// ---- letters, digits, numbers
 
-pub const LINE: usize = 4;
+// A blank, or what stands for none, is no letter of a word.
+fn is_letter(c: u8) -> bool {
+    b' ' < c
+}
 
-// What `number_at` adds to a number, so that it is told from no number.
-const SOUND: u32 = 2000000;
-
-const NO_NUMBER: u32 = 1000000;
-
-// ---- the numbers that the crates above know, by their letters
-
-// The call; how what is told of it ends.
-pub const CALL: usize = 99; // c
-
-pub const TAIL: usize = 122; // z
-
-// The book and the season.
-pub const HOUSES: usize = 110; // n
-
-pub const OWN: usize = 111; // o
-
-pub const HELP_LIMIT: usize = 100; // d
-
-pub const SEASON: usize = 121; // y
-
-pub const BYTES: usize = 98; // b
-
-pub const HONEST: usize = 104; // h
-
-// The message.
-pub const KIND: usize = 107; // k
-
-pub const SENDER: usize = 115; // s
-
-pub const NUMBER: usize = 106; // j
-
-pub const FROM: usize = 112; // p
-
-pub const LENGTH: usize = 108; // l
-
-// What came of a call: a message or help given, a delivery.
-pub const GIVES: usize = 103; // g
-
-pub const DELIVERS: usize = 118; // v
-
-// A number that stands by itself.
-pub const FREE: usize = 120; // x
-
-// ---- bytes, letters, numbers
-
-pub fn wide(x: u8) -> u32
-    ensures { result < 256 }
+fn digit(c: u8) -> Option<u32>
+    ensures { IfSome result (λ d. d < 10) }
 {
-    x as u32
+    match c {
+        b'0'..=b'9' => Some(u32::from(c - b'0')),
+        _ => None,
+    }
 }
 
-// How long a script is, which is less than 65,536 bytes.
-pub fn size(s: &[u8]) -> u32 {
-    if s.len() < 65536 {
-        return s.len() as u32;
-    }
-    0
-}
-
-// The byte at a place, or 0 past the end.
-pub fn byte_at(s: &[u8], at: u32) -> u8 {
-    let i = at as usize;
-    if i < s.len() {
-        return s[i];
-    }
-    0
-}
-
-// The same, with 0 for what ends a word.
-fn letter_at(s: &[u8], at: u32) -> u8 {
-    let c = byte_at(s, at);
-    if 32 < c {
-        return c;
-    }
-    0
-}
-
-// The same, with 0 for what ends a line; at 0, which is nowhere, it has ended.
-pub fn text_at(s: &[u8], at: u32) -> u8 {
-    let c = byte_at(s, at);
-    if at == 0 {
-        return 0;
-    }
-    if c == b'\n' {
-        return 0;
-    }
-    c
-}
-
-pub fn get(r: Numbers, letter: u8) -> u32 {
-    let i = wide(letter) as usize;
-    if i < 128 {
-        return r[i];
-    }
-    0
-}
-
-fn put(r: Numbers, letter: u8, value: u32) -> Numbers {
-    let mut r = r;
-    let i = wide(letter) as usize;
-    if i < 128 {
-        r[i] = value;
-    }
-    r
-}
-
-// One digit more; at the end of the word SOUND is added, and nothing after it counts.
-fn join(n: u32, c: u8) -> u32 {
-    if n < 100000 {
-        if c == 0 {
-            return n + SOUND;
+// The number that a word writes in at most six digits, below 100,000.
+fn number_of(word: &[u8]) -> Option<u32> {
+    let mut number: u32 = 0;
+    for c in word {
+        if 100_000 <= number {
+            return None;
         }
-        if 48 <= c {
-            if c <= 57 {
-                return n * 10 + wide(c - 48);
-            }
-        }
-        return NO_NUMBER;
+        number = 10 * number + digit(*c)?;
     }
-    n
-}
-
-// The number at a place, and SOUND; or less than SOUND, where no number stands.
-fn number_at(s: &[u8], at: u32) -> u32 {
-    let mut n = 0;
-    let mut i: u32 = 0;
-    while i < 7 {
-        n = join(n, letter_at(s, wrapping_add_u32(at, i)));
-        i += 1;
+    if 6 < word.len() || 100_000 <= number {
+        return None;
     }
-    n
+    Some(number)
 }
 
 // ---- names
 
-// Two words are compared by their letters: 0 so far the same, 1 the same to the end, 2 not the same.
-fn compare(so_far: u8, c: u8, d: u8) -> u8 {
-    if so_far == 0 {
-        if c != d {
-            return 2;
+impl<'a> Name<'a> {
+    fn value(self) -> Option<u32> {
+        Some(10 * digit(self.tens)? + digit(self.ones)?)
+    }
+
+    // The number that the name is told for: its value, or where it has none a number that no word sets.
+    // Kept: these numbers, since a book's bytes may hold such a season, and `transcript` then tells the name for it.
+    fn told_for(self) -> u32 {
+        match (digit(self.tens), digit(self.ones)) {
+            (Some(tens), Some(ones)) => 10 * tens + ones,
+            (Some(tens), None) if self.ones == 0 => 2_000_000 + tens,
+            (None, _) if self.tens == 0 => 2_000_000,
+            _ => 1_000_000,
         }
-        if c == 0 {
-            return 1;
+    }
+
+    // A name is one word, of at most 23 letters, and that word.
+    fn is(self, word: &[u8]) -> bool {
+        word.len() < 24 && matches!(self.text.strip_prefix(word), Some([] | [0 | b'\n', ..]))
+    }
+}
+
+impl<'a> Script<'a> {
+    pub fn new(text: &'a [u8]) -> Self
+        ensures short { length text.now < 65536 → result.text.now ≡ text.now }
+        ensures long { 65536 ≤ length text.now → result.text.now ≡ [] }
+    {
+        if text.len() < 65536 {
+            return Script { text };
+        }
+        Script { text: &[] }
+    }
+
+    // How long it is.
+    pub fn size(self) -> u32 {
+        self.text.len() as u32
+    }
+
+    // What stands from a place on, which is nothing past the end.
+    pub fn text_at(self, at: u32) -> &'a [u8] {
+        if at == 0 {
+            return &[];
+        }
+        self.text.get(at as usize..).unwrap_or(&[])
+    }
+
+    // The name in the line after the line end at a place.
+    fn name_after(self, at: u32) -> Option<Name<'a>> {
+        match self.text.get(at as usize..)? {
+            [b'\n', b':', letter, tens, ones, _, text @ ..] => Some(Name {
+                letter: *letter,
+                tens: *tens,
+                ones: *ones,
+                place: at + 6,
+                text,
+            }),
+            _ => None,
         }
     }
-    so_far
-}
 
-// A name is one word, and that word.
-fn is_same(s: &[u8], name: u32, word: u32) -> bool {
-    let mut same: u8 = 0;
-    let mut i: u32 = 0;
-    while i < 24 {
-        same = compare(
-            same,
-            text_at(s, wrapping_add_u32(name, i)),
-            letter_at(s, wrapping_add_u32(word, i)),
-        );
-        i += 1;
+    // The first name that is told for this number of the letter.
+    fn name_for(self, letter: u8, number: u32) -> Option<Name<'a>> {
+        (0..self.size())
+            .filter_map(|at| self.name_after(at))
+            .find(|name| name.letter == letter && name.told_for() == number)
     }
-    same == 1
-}
 
-// The value of two digits, which the name at a place has before it; past 99 where there are no digits.
-fn value_of(s: &[u8], name: u32) -> u32 {
-    join(
-        join(0, byte_at(s, wrapping_add_u32(name, 4294967293))),
-        byte_at(s, wrapping_add_u32(name, 4294967294)),
-    )
-}
+    // The first name that is this word.
+    fn name_of(self, word: &[u8]) -> Option<Name<'a>> {
+        (0..self.size())
+            .filter_map(|at| self.name_after(at))
+            .find(|name| name.is(word))
+    }
 
-// Whether the line after the line end at `at` gives a name to this value of the letter; or, where `word` is a place, to the word there.
-fn is_name(s: &[u8], at: u32, letter: u8, value: u32, word: u32) -> bool {
-    if byte_at(s, at) != b'\n' {
-        return false;
-    }
-    if byte_at(s, wrapping_add_u32(at, 1)) != b':' {
-        return false;
-    }
-    let name = wrapping_add_u32(at, 6);
-    if word != 0 {
-        return is_same(s, name, word);
-    }
-    if byte_at(s, wrapping_add_u32(at, 2)) != letter {
-        return false;
-    }
-    value_of(s, name) == value
-}
-
-// Where the name stands, or 0.
-pub fn find(s: &[u8], letter: u8, value: u32, word: u32) -> u32 {
-    let end = size(s);
-    let mut at: u32 = 0;
-    while at < end {
-        if is_name(s, at, letter, value, word) {
-            return wrapping_add_u32(at, 6);
+    // The name of this number of the letter, with the rest of the script after it, or nothing.
+    pub fn find(self, letter: u8, number: u32) -> &'a [u8] {
+        match self.name_for(letter, number) {
+            Some(name) => name.text,
+            None => &[],
         }
-        at += 1;
     }
-    0
+
+    // ---- words
+
+    // The word or number that begins at a place.
+    fn word_at(self, at: u32) -> Option<&'a [u8]> {
+        let before = self.text.get(at.checked_sub(1)? as usize)?;
+        let word = self.text_at(at).split(|c| !is_letter(*c)).next()?;
+        if is_letter(*before) || word.is_empty() {
+            return None;
+        }
+        Some(word)
+    }
+
+    // A word sets its letter, or has it wait; what is no word is a number that stands by itself.
+    fn take_word(self, word: &[u8], r: &mut Numbers) {
+        let Some(name) = self.name_of(word) else {
+            take_number(word, FREE, r);
+            return;
+        };
+        match name.value() {
+            Some(value) => r.set(name.letter, value),
+            None => r.set(WAITS, u32::from(name.letter)),
+        }
+    }
+
+    // What is done at a place: the words end there, or a word or a number may begin.
+    fn read_at(self, at: u32, r: &mut Numbers) {
+        match self.text_at(at) {
+            [] | [0 | b'\n', ..] => end_words(0, r),
+            [b'|', ..] => end_words(at.saturating_add(1), r),
+            _ => {
+                if let Some(word) = self.word_at(at) {
+                    match waiting(r) {
+                        Some(letter) => take_number(word, letter, r),
+                        None => self.take_word(word, r),
+                    }
+                }
+            }
+        }
+    }
+
+    // The words from a place to the end of the line, or to a bar, after which the line has its text; they have to end within 256 bytes.
+    pub fn words(self, at: u32, r: Numbers) -> Numbers {
+        let mut r = r;
+        r.set(DONE, 0);
+        for place in at..at.saturating_add(256) {
+            if r.get(DONE) != 0 {
+                return r;
+            }
+            self.read_at(place, &mut r);
+        }
+        if r.get(DONE) == 0 {
+            r.refuse();
+        }
+        r
+    }
+
+    // What is set on every line that sets nothing else.
+    pub fn usual(self) -> Numbers {
+        match self.name_for(b'U', 0) {
+            Some(name) => self.words(name.place, Numbers::new()),
+            None => self.words(0, Numbers::new()),
+        }
+    }
+
+    // ---- lines
+
+    // The line after the line end at a place, unless it is a remark or a name.
+    pub fn line_after(self, at: u32) -> Option<Line> {
+        match self.text.get(at as usize..)? {
+            [b'\n', b'>', ..] => Some(Line::Call(at + 2)),
+            [b'\n', 0 | b'#' | b':', ..] => None,
+            [b'\n', _, ..] => Some(Line::Text(at + 1)),
+            _ => None,
+        }
+    }
 }
 
-// ---- words
-
-// The number that the word before it waits for.
-fn take_number(s: &[u8], at: u32, r: Numbers) -> Numbers {
-    let n = number_at(s, at);
-    let i = r[WAITS] as usize;
-    let mut r = r;
-    r[WAITS] = 0;
-    if n < SOUND {
-        r[WRONG] = 1;
-        return r;
-    }
-    if i < 128 {
-        r[i] = n - SOUND;
-    }
-    r
-}
-
-// A word sets its letter, or has it wait; what is no word is a number that stands by itself.
-fn take_word(s: &[u8], at: u32, r: Numbers) -> Numbers {
-    let mut r = r;
-    let name = find(s, 0, 0, at);
-    if name == 0 {
-        r[WAITS] = FREE as u32;
-        return take_number(s, at, r);
-    }
-    let letter = byte_at(s, wrapping_add_u32(name, 4294967292));
-    let value = value_of(s, name);
-    if value < NO_NUMBER {
-        return put(r, letter, value);
-    }
-    r[WAITS] = wide(letter);
-    r
-}
-
-// What stands at a place, if a word or a number begins there.
-fn take(s: &[u8], at: u32, r: Numbers) -> Numbers {
-    if letter_at(s, wrapping_add_u32(at, 4294967295)) != 0 {
-        return r;
-    }
-    if letter_at(s, at) == 0 {
-        return r;
-    }
-    if r[WAITS] != 0 {
-        return take_number(s, at, r);
-    }
-    take_word(s, at, r)
-}
-
-fn end_words(r: Numbers, text: u32) -> Numbers {
-    let mut r = r;
-    r[DONE] = 1;
-    r[TEXT] = text;
-    if r[WAITS] != 0 {
-        r[WRONG] = 1;
-    }
-    r
-}
-
-// What is done at a place: the words end there, or a word or a number may begin.
-fn word_at(s: &[u8], at: u32, r: Numbers) -> Numbers {
-    if r[DONE] != 0 {
-        return r;
-    }
-    match text_at(s, at) {
-        0 => end_words(r, 0),
-        b'|' => end_words(r, wrapping_add_u32(at, 1)),
-        _ => take(s, at, r),
+// The letter that waits for its number.
+fn waiting(r: &Numbers) -> Option<u8> {
+    match r.get(WAITS) {
+        0 => None,
+        letter => u8::try_from(letter).ok(),
     }
 }
 
-fn read_words(s: &[u8], at: u32, r: Numbers) -> Numbers {
-    let mut r = r;
-    r[DONE] = 0;
-    let mut i: u32 = 0;
-    while i < 256 {
-        r = word_at(s, wrapping_add_u32(at, i), r);
-        i += 1;
+// The number that a word writes is the letter's, which no longer waits.
+fn take_number(word: &[u8], letter: u8, r: &mut Numbers) {
+    r.set(WAITS, 0);
+    match number_of(word) {
+        Some(number) => r.set(letter, number),
+        None => r.refuse(),
     }
-    r
 }
 
-// The words from a place to the end of the line, or to a bar, after which the line has its text; they have to end within 256 bytes.
-pub fn words(s: &[u8], at: u32, r: Numbers) -> Numbers {
-    let mut r = read_words(s, at, r);
-    if r[DONE] == 0 {
-        r[WRONG] = 1;
-    }
-    r
-}
-
-// What is set on every line that sets nothing else.
-pub fn usual(s: &[u8]) -> Numbers {
-    words(s, find(s, b'U', 0, 0), [0; 128])
-}
-
-// ---- lines
-
-// Where a line ends, what the one after it begins with; 0 elsewhere, and before a remark or a name.
-pub fn line_after(s: &[u8], at: u32) -> u8 {
-    if byte_at(s, at) != b'\n' {
-        return 0;
-    }
-    match byte_at(s, wrapping_add_u32(at, 1)) {
-        b'#' | b':' => 0,
-        c => c,
+fn end_words(text: u32, r: &mut Numbers) {
+    r.set(DONE, 1);
+    r.set(TEXT, text);
+    if r.get(WAITS) != 0 {
+        r.refuse();
     }
 }

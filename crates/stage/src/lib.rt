@@ -6,32 +6,30 @@ ghost use Rattle.std.specs.Prelude.{◌+◌, ◌*◌, ◌<◌, ◌≤◌};
 
 use octets::wide;
 use post::{
-    BOOKS, COPIES, DELIVERED, DOWN, REQUESTS, RETURNS, bit, byte, copy, count, count_if, has,
-    is_left, listed, post_all, put,
+    BOOKS, DELIVERED, DOWN, List, RETURNS, byte, copy, count, count_if, has, is_left, listed,
+    post_all, put,
 };
-use script::{
-    CALL, DELIVERS, FREE, FROM, GIVES, HELP_LIMIT, HONEST, HOUSES, LENGTH, Numbers, OWN, WRONG,
-};
+use script::{CALL, DELIVERS, FREE, FROM, GIVES, HELP_LIMIT, HONEST, HOUSES, LENGTH, Numbers, OWN};
 use std::io;
 use std::io::Write;
 use std::num::wrapping_add_u32;
-use telling::{end_line, say_bytes, say_line, tell_phrase, told};
+use telling::Teller;
 
 // The number of the last of several copies or requests; how a copy fares; a bound; whether a house is down, whether it has delivered;
 // whether some houses are wrong.
-const LAST: usize = 88; // X
+const LAST: u8 = b'X';
 
-const FARES: usize = 105; // i
+const FARES: u8 = b'i';
 
-const BOUND: usize = 78; // N
+const BOUND: u8 = b'N';
 
-const IS_DOWN: usize = 72; // H
+const IS_DOWN: u8 = b'H';
 
-const HAS_DELIVERED: usize = 89; // Y
+const HAS_DELIVERED: u8 = b'Y';
 
-const SOME_WRONG: usize = 73; // I
+const SOME_WRONG: u8 = b'I';
 
-const BECOMES: usize = 114; // r
+const BECOMES: u8 = b'r';
 
 // The steps, by their numbers in the script.
 const BEGIN: u32 = 20;
@@ -71,54 +69,52 @@ fn to_whom(first: u32, end: u32) -> u32 {
 // To whom they go, and their numbers, which follow those that there are.
 fn numbered(r: Numbers, first: u32, so_far: u32, end: u32) -> Numbers {
     let mut r = r;
-    r[FROM] = first;
-    r[FREE] = wrapping_add_u32(so_far, 1);
-    r[LAST] = wrapping_add_u32(so_far, end);
+    r.set(FROM, first);
+    r.set(FREE, wrapping_add_u32(so_far, 1));
+    r.set(LAST, wrapping_add_u32(so_far, end));
     r
 }
 
-fn post_to(desk: &mut [u8], r: Numbers, list_at: u32, first: u32, end: u32, message: [u8; 36]) {
-    post_all(desk, list_at, r[OWN], r[HONEST], first, end, message);
+fn post_to(desk: &mut [u8], r: Numbers, list: List, first: u32, end: u32, message: [u8; 36]) {
+    post_all(desk, list, r.get(OWN), r.get(HONEST), first, end, message);
 }
 
 // A message that was sent is sent again to the houses from `first` to before `end`.
 pub fn send_again<W: Write>(
-    out: &mut W,
-    s: &[u8],
+    t: &mut Teller<'_, W>,
     desk: &mut [u8],
     r: Numbers,
     message: [u8; 36],
     first: u32,
     end: u32,
 ) -> io::Result<()> {
-    let r = numbered(r, first, has(desk, COPIES, 0), end);
-    say_line(out, s, to_whom(first, end), r)?;
-    post_to(desk, r, COPIES, first, end, message);
+    let r = numbered(r, first, has(desk, List::Copies.place(), 0), end);
+    t.say_line(to_whom(first, end), &r)?;
+    post_to(desk, r, List::Copies, first, end, message);
     Ok(())
 }
 
 // A request goes to all.
 pub fn ask_all<W: Write>(
-    out: &mut W,
-    s: &[u8],
+    t: &mut Teller<'_, W>,
     desk: &mut [u8],
     r: Numbers,
     request: [u8; 36],
 ) -> io::Result<()> {
-    let houses = r[HOUSES];
-    let r = numbered(r, 0, has(desk, REQUESTS, 0), houses);
-    tell_phrase(out, s, ASKS, r)?;
-    say_bytes(out, &request, 0, 11)?;
-    end_line(out)?;
-    post_to(desk, r, REQUESTS, 0, houses, request);
+    let houses = r.get(HOUSES);
+    let r = numbered(r, 0, has(desk, List::Requests.place(), 0), houses);
+    t.tell_phrase(ASKS, &r)?;
+    t.say_bytes(&request, 0, 11)?;
+    t.end_line()?;
+    post_to(desk, r, List::Requests, 0, houses, request);
     Ok(())
 }
 
 // What came of a call in a season: a delivery is noted, and a message given goes to all.
 pub fn give(desk: &mut [u8], r: Numbers, message: [u8; 36]) {
-    count_if(desk, DELIVERED, r[OWN], r[DELIVERS] == 1);
-    if r[GIVES] == 1 {
-        post_to(desk, r, COPIES, 0, r[HOUSES], message);
+    count_if(desk, DELIVERED, r.get(OWN), r.get(DELIVERS) == 1);
+    if r.get(GIVES) == 1 {
+        post_to(desk, r, List::Copies, 0, r.get(HOUSES), message);
     }
 }
 
@@ -134,8 +130,8 @@ pub struct Taken {
 
 // It is received (0); lost, where the house is down (1); of no interest, where the house is wrong (2).
 fn fares(desk: &[u8], r: Numbers) -> u32 {
-    if r[OWN] < r[HONEST] {
-        return has(desk, DOWN, r[OWN]);
+    if r.get(OWN) < r.get(HONEST) {
+        return has(desk, DOWN, r.get(OWN));
     }
     2
 }
@@ -146,22 +142,23 @@ fn arrive(desk: &[u8], r: Numbers, at: u32, length: u32) -> Taken
     let mut hand: [u8; 40] = [0; 40];
     copy(&mut hand, 0, desk, at + 3);
     let mut r = r;
-    r[FROM] = has(desk, at, 0);
-    r[OWN] = has(desk, at, 1);
-    r[LENGTH] = length;
-    r[FARES] = fares(desk, r);
+    r.set(FROM, has(desk, at, 0));
+    r.set(OWN, has(desk, at, 1));
+    r.set(LENGTH, length);
+    let how = fares(desk, r);
+    r.set(FARES, how);
     Taken {
         r,
         hand,
-        is_received: r[FARES] == 0,
+        is_received: how == 0,
     }
 }
 
-fn list_of(call: u32) -> u32 {
+fn list_of(call: u32) -> List {
     if call == REQUEST {
-        return REQUESTS;
+        return List::Requests;
     }
-    COPIES
+    List::Copies
 }
 
 // A request has 11 bytes.
@@ -174,14 +171,14 @@ fn length_of(call: u32) -> u32 {
 
 // Number x of its list, which has to be left.
 pub fn take(desk: &mut [u8], r: Numbers) -> Taken {
-    let list_at = list_of(r[CALL]);
+    let list = list_of(r.get(CALL));
     let mut r = r;
-    if is_left(desk, list_at, r[FREE]) {
-        let at = listed(list_at, r[FREE]);
+    if is_left(desk, list, r.get(FREE)) {
+        let at = listed(list, r.get(FREE));
         put(desk, at, 2, 1);
-        return arrive(desk, r, at, length_of(r[CALL]));
+        return arrive(desk, r, at, length_of(r.get(CALL)));
     }
-    r[WRONG] = 1;
+    r.refuse();
     Taken {
         r,
         hand: [0; 40],
@@ -192,14 +189,14 @@ pub fn take(desk: &mut [u8], r: Numbers) -> Taken {
 // ---- down and back
 
 // Byte x of the book of house 0 becomes another.
-fn spoil<W: Write>(out: &mut W, s: &[u8], desk: &mut [u8], r: Numbers) -> io::Result<()> {
-    put(desk, BOOKS as u32, r[FREE], r[BECOMES]);
-    told(out, s, r)
+fn spoil<W: Write>(t: &mut Teller<'_, W>, desk: &mut [u8], r: Numbers) -> io::Result<()> {
+    put(desk, BOOKS as u32, r.get(FREE), r.get(BECOMES));
+    t.told(&r)
 }
 
-fn go_down<W: Write>(out: &mut W, s: &[u8], desk: &mut [u8], r: Numbers) -> io::Result<()> {
-    put(desk, DOWN, r[OWN], 1);
-    told(out, s, r)
+fn go_down<W: Write>(t: &mut Teller<'_, W>, desk: &mut [u8], r: Numbers) -> io::Result<()> {
+    put(desk, DOWN, r.get(OWN), 1);
+    t.told(&r)
 }
 
 pub fn go_up(desk: &mut [u8], own: u32) {
@@ -209,12 +206,12 @@ pub fn go_up(desk: &mut [u8], own: u32) {
 
 // ---- what is told
 
-fn stand<W: Write>(out: &mut W, s: &[u8], desk: &[u8], r: Numbers) -> io::Result<()> {
+fn stand<W: Write>(t: &mut Teller<'_, W>, desk: &[u8], r: Numbers) -> io::Result<()> {
     let mut r = r;
-    r[IS_DOWN] = has(desk, DOWN, r[OWN]);
-    r[FREE] = has(desk, RETURNS, r[OWN]);
-    r[HAS_DELIVERED] = has(desk, DELIVERED, r[OWN]);
-    told(out, s, r)
+    r.set(IS_DOWN, has(desk, DOWN, r.get(OWN)));
+    r.set(FREE, has(desk, RETURNS, r.get(OWN)));
+    r.set(HAS_DELIVERED, has(desk, DELIVERED, r.get(OWN)));
+    t.told(&r)
 }
 
 // A product, with a bound by which sums of it fit.
@@ -243,36 +240,36 @@ fn bounds_of(n: u32, h: u32, d: u32) -> Bounds {
 }
 
 // The copies sent, those between honest houses where some are not, the READYs, and the bounds.
-fn bound<W: Write>(out: &mut W, s: &[u8], desk: &[u8], r: Numbers) -> io::Result<()> {
-    let bounds = bounds_of(r[HOUSES], r[HONEST], r[HELP_LIMIT]);
+fn bound<W: Write>(t: &mut Teller<'_, W>, desk: &[u8], r: Numbers) -> io::Result<()> {
+    let bounds = bounds_of(r.get(HOUSES), r.get(HONEST), r.get(HELP_LIMIT));
     let mut r = r;
-    r[FREE] = has(desk, COPIES, 0);
-    r[LAST] = has(desk, COPIES, 1);
-    r[SOME_WRONG] = bit(r[LAST] < r[FREE]);
-    r[BOUND] = bounds.copies;
-    told(out, s, r)?;
-    r[FREE] = has(desk, COPIES, 2);
-    r[BOUND] = bounds.readys;
-    say_line(out, s, READYS, r)
+    r.set(FREE, has(desk, List::Copies.place(), 0));
+    r.set(LAST, has(desk, List::Copies.place(), 1));
+    r.set(SOME_WRONG, u32::from(r.get(LAST) < r.get(FREE)));
+    r.set(BOUND, bounds.copies);
+    t.told(&r)?;
+    r.set(FREE, has(desk, List::Copies.place(), 2));
+    r.set(BOUND, bounds.readys);
+    t.say_line(READYS, &r)
 }
 
-fn refuse<W: Write>(out: &mut W, s: &[u8], r: Numbers) -> io::Result<()> {
+fn refuse<W: Write>(t: &mut Teller<'_, W>, r: Numbers) -> io::Result<()> {
     let mut r = r;
-    r[WRONG] = 1;
-    told(out, s, r)
+    r.refuse();
+    t.told(&r)
 }
 
 // A step that calls on no book, or a call that there is not.
-pub fn take_step<W: Write>(out: &mut W, s: &[u8], desk: &mut [u8], r: Numbers) -> io::Result<()> {
-    match r[CALL] {
+pub fn take_step<W: Write>(t: &mut Teller<'_, W>, desk: &mut [u8], r: Numbers) -> io::Result<()> {
+    match r.get(CALL) {
         BEGIN => {
             post::begin(desk);
             Ok(())
         }
-        GO_DOWN => go_down(out, s, desk, r),
-        STAND => stand(out, s, desk, r),
-        BOUNDS => bound(out, s, desk, r),
-        SPOIL => spoil(out, s, desk, r),
-        _ => refuse(out, s, r),
+        GO_DOWN => go_down(t, desk, r),
+        STAND => stand(t, desk, r),
+        BOUNDS => bound(t, desk, r),
+        SPOIL => spoil(t, desk, r),
+        _ => refuse(t, r),
     }
 }

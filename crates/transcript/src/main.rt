@@ -4,13 +4,12 @@
 
 ghost use Rattle.std.specs.Prelude.{◌≤◌, length, IfOk};
 
-use post::{COPIES, DESK};
-use script::{CALL, FREE, LINE, Numbers, WRONG, usual, words};
+use post::{DESK, List};
+use script::{CALL, FREE, LINE, Line, Numbers, Script};
 use stage::{COPIES_ON, COPY, REQUEST};
 use std::io;
 use std::io::{Read, Write};
-use std::num::wrapping_add_u32;
-use telling::told;
+use telling::Teller;
 
 // The call that makes none, by its number in the script.
 const WITH: u32 = 1;
@@ -18,8 +17,7 @@ const WITH: u32 = 1;
 // ---- calls that change a book
 
 fn act<W: Write>(
-    out: &mut W,
-    s: &[u8],
+    t: &mut Teller<'_, W>,
     desk: &mut [u8],
     r: Numbers,
     hand: [u8; 40],
@@ -27,107 +25,101 @@ fn act<W: Write>(
     let came = desk::on_desk(desk, r, hand);
     let r = came.r;
     let message = came.message;
-    clerk::follow(out, s, desk, r, message)
+    clerk::follow(t, desk, r, message)
 }
 
 // Bytes laid as the numbers say, and handed in; calls for which there is nothing to hand in look at none.
-fn hand_in<W: Write>(out: &mut W, s: &[u8], desk: &mut [u8], r: Numbers) -> io::Result<()> {
+fn hand_in<W: Write>(t: &mut Teller<'_, W>, desk: &mut [u8], r: Numbers) -> io::Result<()> {
     let hand = hand::lay(r);
-    act(out, s, desk, hand::read_hand(r, hand), hand)
+    act(t, desk, hand::read_hand(r, hand), hand)
 }
 
 // Number x of a list comes.
-fn come<W: Write>(out: &mut W, s: &[u8], desk: &mut [u8], r: Numbers) -> io::Result<()> {
+fn come<W: Write>(t: &mut Teller<'_, W>, desk: &mut [u8], r: Numbers) -> io::Result<()> {
     let taken = stage::take(desk, r);
     let r = taken.r;
     let hand = taken.hand;
     let r = hand::read_hand(r, hand);
     if taken.is_received {
-        return act(out, s, desk, r, hand);
+        return act(t, desk, r, hand);
     }
-    told(out, s, r)
+    t.told(&r)
 }
 
 // Copy k comes, if it is left.
-fn come_if<W: Write>(out: &mut W, s: &[u8], desk: &mut [u8], r: Numbers, k: u32) -> io::Result<()> {
+fn come_if<W: Write>(t: &mut Teller<'_, W>, desk: &mut [u8], r: Numbers, k: u32) -> io::Result<()> {
     let mut r = r;
-    r[CALL] = COPY;
-    r[FREE] = k;
-    if post::is_left(desk, COPIES, k) {
-        return come(out, s, desk, r);
+    r.set(CALL, COPY);
+    r.set(FREE, k);
+    if post::is_left(desk, List::Copies, k) {
+        return come(t, desk, r);
     }
     Ok(())
 }
 
 // Copy x and those after it come, each in its turn.
-fn come_from<W: Write>(out: &mut W, s: &[u8], desk: &mut [u8], r: Numbers) -> io::Result<()> {
-    let mut k = r[FREE];
-    while k < 64 {
-        come_if(out, s, desk, r, k)?;
-        k += 1;
+fn come_from<W: Write>(t: &mut Teller<'_, W>, desk: &mut [u8], r: Numbers) -> io::Result<()> {
+    for k in r.get(FREE)..64 {
+        come_if(t, desk, r, k)?;
     }
     Ok(())
 }
 
 // ---- the script
 
-fn call<W: Write>(out: &mut W, s: &[u8], desk: &mut [u8], r: Numbers) -> io::Result<()> {
-    match r[CALL] {
-        5..=10 => hand_in(out, s, desk, r),
-        COPY | REQUEST => come(out, s, desk, r),
-        COPIES_ON => come_from(out, s, desk, r),
-        _ => clerk::take_step(out, s, desk, r),
+fn call<W: Write>(t: &mut Teller<'_, W>, desk: &mut [u8], r: Numbers) -> io::Result<()> {
+    match r.get(CALL) {
+        5..=10 => hand_in(t, desk, r),
+        COPY | REQUEST => come(t, desk, r),
+        COPIES_ON => come_from(t, desk, r),
+        _ => clerk::take_step(t, desk, r),
     }
 }
 
 // What a line sets holds for that line, or, where it makes no call, for those after it.
 fn call_line<W: Write>(
-    out: &mut W,
-    s: &[u8],
+    t: &mut Teller<'_, W>,
     desk: &mut [u8],
     base: Numbers,
     at: u32,
 ) -> io::Result<Numbers> {
-    let mut r = words(s, at, base);
-    r[LINE] = at;
-    if r[WRONG] != 0 {
-        told(out, s, r)?;
+    let script = t.script;
+    let mut r = script.words(at, base);
+    r.set(LINE, at);
+    if r.is_wrong() {
+        t.told(&r)?;
         return Ok(base);
     }
-    if r[CALL] == WITH {
-        return Ok(words(s, at, usual(s)));
+    if r.get(CALL) == WITH {
+        return Ok(script.words(at, script.usual()));
     }
-    call(out, s, desk, r)?;
+    call(t, desk, r)?;
     Ok(base)
 }
 
 // The line after a place, where one ends there.
 fn line<W: Write>(
-    out: &mut W,
-    s: &[u8],
+    t: &mut Teller<'_, W>,
     desk: &mut [u8],
     base: Numbers,
     at: u32,
 ) -> io::Result<Numbers> {
-    match script::line_after(s, at) {
-        0 => Ok(base),
-        b'>' => call_line(out, s, desk, base, wrapping_add_u32(at, 2)),
-        _ => {
-            telling::tell_line(out, s, wrapping_add_u32(at, 1), base)?;
+    match t.script.line_after(at) {
+        None => Ok(base),
+        Some(Line::Call(place)) => call_line(t, desk, base, place),
+        Some(Line::Text(place)) => {
+            t.tell_line(t.script.text_at(place), &base)?;
             Ok(base)
         }
     }
 }
 
 // Each line but the first.
-fn play<W: Write>(out: &mut W, s: &[u8], desk: &mut [u8]) -> io::Result<()> {
-    let mut base = usual(s);
-    let end = script::size(s);
-    let mut at: u32 = 0;
-    while at < end {
-        let next = line(out, s, desk, base, at)?;
-        base = next;
-        at += 1;
+fn play<'a, W: Write>(out: &'a mut W, script: Script<'a>, desk: &mut [u8]) -> io::Result<()> {
+    let mut t = Teller { out, script };
+    let mut base = script.usual();
+    for at in 0..script.size() {
+        base = line(&mut t, desk, base, at)?;
     }
     Ok(())
 }
@@ -151,5 +143,5 @@ fn main(rt: HostRuntime) -> io::Result<()> {
     let mut space: [u8; 65536] = [0; 65536];
     let mut desk: [u8; DESK] = [0; DESK];
     let n = read_full(&mut rt.stdin(), &mut space)?;
-    play(&mut rt.stdout(), &space[..n], &mut desk)
+    play(&mut rt.stdout(), Script::new(&space[..n]), &mut desk)
 }
