@@ -60,18 +60,17 @@ fn sent_entry(book: &[u8], kind: u8, sender: u8, number: u8) -> Sent
     requires { Has book.now sender number }
     ensures { result ≡ sent_as book.now (kind_of kind) sender number }
 {
-    let n = layout::n_of(book);
-    let base = layout::entry_at(book, sender as usize, number as usize);
+    let entry = layout::entry_at(book, sender, number);
     match kind {
         1 => {
-            if (sender as usize) == layout::own_of(book) {
-                let at = layout::published_at(n, number as usize);
+            if sender == layout::own_of(book) {
+                let at = layout::shape_of(book).published(number);
                 return sent_in(book, at, kind, sender, number);
             }
             send_nothing(0)
         }
-        2 => sent_in(book, layout::send_at(base), kind, sender, number),
-        3 => sent_in(book, layout::ready_sent_at(base, n), kind, sender, number),
+        2 => sent_in(book, entry.send(), kind, sender, number),
+        3 => sent_in(book, entry.ready_sent(), kind, sender, number),
         _ => send_nothing(2),
     }
 }
@@ -82,8 +81,8 @@ pub fn sent_on(book: &[u8], kind: u8, sender: u32, number: u32) -> Sent
 {
     if book::is_legal(book) {
         if fields::is_kind(kind) {
-            if (sender as usize) < layout::n_of(book) {
-                if (number as usize) < layout::numbers_of(book) {
+            if sender < u32::from(layout::n_of(book)) {
+                if number < u32::from(layout::numbers_of(book)) {
                     return sent_entry(book, kind, sender as u8, number as u8);
                 }
                 return send_nothing(4);

@@ -1,5 +1,5 @@
 -- Legality, part by part: the numbers and the length, the help given, the sheet; the slots, and those of an entry.
-use Prim.Native.Nat.{ℕ, zero, suc, ◌+◌, ◌*◌, ◌<◌, ◌≤◌}
+use Prim.Native.Nat.{ℕ, zero, suc, ◌+◌, ◌<◌, ◌≤◌}
 use mathlib.Core.Path.{◌≡◌, refl, sym, ap, ap₂, ◌∙◌}
 use mathlib.Core.Bool.{Bool, true, false, ◌&&◌, and-eq-true_iff}
 use mathlib.Core.List.{List}
@@ -13,7 +13,7 @@ use Rattle.sheet.specs.Kept.{sheet_legal_at}
 use Rattle.entry.proofs.Basics.{T_of, true_of, and_l, and_r, and_mk, and_false}
 use Rattle.entry.proofs.Basics as basics
 use Rattle.meaning.specs.Layout.{helped_place, head_length, slot_count, length_of, slot_place, limit_place, sheet_place}
-use Rattle.meaning.specs.Layout.{place_from, per_entry}
+use Rattle.meaning.specs.Layout.{place_from}
 use Rattle.meaning.specs.Book.{n_of, numbers_of, own_of, down_of, limit_of}
 use Rattle.meaning.specs.Legal.{helps_ok, legal, head_legal, row_ok}
 use Rattle.meaning.specs.Opening.{allowed}
@@ -167,9 +167,3 @@ module _ (b : List ℕ) where
 pub ruleset head_rules = (sized_room, helps_room, head_unsized, head_bad_help, head_sheet)
 
 pub ruleset slots_rules = (head_places, slots_room, legal_bad_head, legal_slots)
-
--- ---- the slots of an entry
-
-pub entry_is : (b : List ℕ) (base n : ℕ) (r : Bool) → n ≡ n_of b → r ≡ row_ok b base (2 * n + 3) → r ≡ row_ok b base (per_entry (n_of b))
-unfolding per_entry
-entry_is b base n r u e = e ∙ ap (λ (m : ℕ). row_ok b base (2 * m + 3)) u

@@ -1,17 +1,19 @@
 // Which bytes are a legal book, which have a legal head, and which entries have slots of one form each.
 #![tactic(auto)]
 
-ghost use Rattle.std.specs.Prelude.{◌≡◌, ◌<◌, ◌≤◌, length};
+ghost use Rattle.std.specs.Prelude.{◌≡◌, ◌≤◌, length};
 ghost use Rattle.meaning.specs.Layout.{helped_place, per_entry};
 ghost use Rattle.meaning.specs.Book.{n_of};
 ghost use Rattle.meaning.specs.Legal.{helps_ok, legal, head_legal, row_ok};
-ghost use Rattle.layout.specs.Places.{Within};
+ghost use Rattle.layout.specs.Places.{Lies};
 ghost use Rattle.book.specs.Parts.{sized};
+
+use layout::EntryAt;
 
 // Each of the first k askers was helped at most d times.
 #[tactic(auto, using(crate::proofs::Legality::helps_none, crate::proofs::Legality::helps_hit, crate::proofs::Legality::helps_miss))]
-fn are_helps_ok(b: &[u8], d: usize, k: usize) -> bool
-    requires { (k < 256) × (helped_place k ≤ length b.now) }
+fn are_helps_ok(b: &[u8], d: u8, k: u8) -> bool
+    requires { helped_place k ≤ length b.now }
     ensures { result ≡ helps_ok b.now d k }
 {
     for p in 0..k {
@@ -28,16 +30,15 @@ fn is_sized(b: &[u8]) -> bool
     ensures { result ≡ sized b.now }
 {
     if layout::LIMIT < b.len() {
-        let n = layout::n_of(b);
-        let numbers = layout::numbers_of(b);
+        let shape = layout::shape_of(b);
         if sizes::is_allowed(
-            n as u32,
-            numbers as u32,
-            layout::own_of(b) as u32,
-            layout::down_of(b) as u32,
-            layout::limit_of(b) as u32,
+            u32::from(shape.n),
+            u32::from(shape.numbers),
+            u32::from(layout::own_of(b)),
+            u32::from(layout::down_of(b)),
+            u32::from(layout::limit_of(b)),
         ) {
-            return b.len() == layout::book_length(n, numbers);
+            return b.len() == shape.book_length();
         }
     }
     false
@@ -62,21 +63,16 @@ pub fn is_legal(b: &[u8]) -> bool
     ensures { result ≡ legal b.now }
 {
     if is_head_legal(b) {
-        let n = layout::n_of(b);
-        return slots::are_slots_ok(
-            b,
-            layout::slot_place(n, 0),
-            layout::slot_count(n, layout::numbers_of(b)),
-        );
+        let shape = layout::shape_of(b);
+        return slots::are_slots_ok(b, shape.slot_place(0), shape.slot_count());
     }
     false
 }
 
-// Whether each slot of the entry that begins at `base` has its one form.
-#[tactic(auto, using(crate::proofs::Legality::entry_is), unfolding(meaning::specs::Layout::per_entry))]
-pub fn is_entry_ok(b: &[u8], base: usize) -> bool
-    requires { Within b.now base }
-    ensures { result ≡ row_ok b.now base (per_entry (n_of b.now)) }
+// Whether each slot of the entry has its one form.
+pub fn is_entry_ok(b: &[u8], entry: EntryAt) -> bool
+    requires { Lies b.now entry }
+    ensures { result ≡ row_ok b.now entry.base (per_entry (n_of b.now)) }
 {
-    slots::are_slots_ok(b, base, 2 * layout::n_of(b) + 3)
+    slots::are_slots_ok(b, entry.send(), entry.slots())
 }

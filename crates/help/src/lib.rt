@@ -14,9 +14,10 @@ pub fn hear_request(book: &mut [u8], house: u32) -> Outcome
     requires { head_legal book.old ≡ true }
     ensures { result_of result book.new ≡ requested book.old house (season_of book.old) }
 {
-    if (house as usize) < layout::n_of(book) {
-        if layout::helped_at(book, house as usize) < layout::limit_of(book) {
-            layout::count_help(book, house as usize);
+    if house < u32::from(layout::n_of(book)) {
+        let asker = house as u8;
+        if layout::helped_at(book, asker) < layout::limit_of(book) {
+            layout::count_help(book, asker);
             return reply::help();
         }
         return reply::refuse(14);

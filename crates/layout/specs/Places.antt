@@ -6,6 +6,7 @@ use Rattle.entry.specs.Entry.{Decl}
 use Rattle.meaning.specs.Slot.{slot_at}
 use Rattle.meaning.specs.Layout.{down_place, per_entry, place_from}
 use Rattle.meaning.specs.Book.{n_of, down_of, place_in}
+use Rattle.layout.specs.declared.EntryAt.{EntryAt}
 
 -- n is a number of houses, f a number that may be down, and the slots of an entry that begins at `base` lie within the bytes
 pub record Within (b : List ℕ) (base : ℕ) : Type 0 where
@@ -19,6 +20,16 @@ pub record Within (b : List ℕ) (base : ℕ) : Type 0 where
 pub record Begins (b : List ℕ) (j c base : ℕ) : Type 0 where
   pub is : base ≡ place_in b j c 0
   pub within : Within b base
+
+-- the same of an entry as the code holds it: its n is the book's, and its slots lie within the bytes
+pub record Lies (b : List ℕ) (e : EntryAt) : Type 0 where
+  pub n : e.n ≡ n_of b
+  pub within : Within b e.base
+
+-- and it is the entry of sender j and number c
+pub record Opens (b : List ℕ) (j c : ℕ) (e : EntryAt) : Type 0 where
+  pub n : e.n ≡ n_of b
+  pub begins : Begins b j c e.base
 
 -- slot i of the entry whose first slot begins at `base`
 abbrev pub slot_from : List ℕ → (base i : ℕ) → Option Decl

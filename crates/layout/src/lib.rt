@@ -7,7 +7,7 @@ ghost use Rattle.meaning.specs.Layout.{per_entry, slot_count, length_of, place_f
 ghost use Rattle.meaning.specs.Layout.{send_slot, echo_slot, ready_slot, ready_sent_slot, delivered_slot};
 ghost use Rattle.meaning.specs.Book.{n_of, numbers_of, own_of, season_of, sheet_of, down_of, limit_of, count_help};
 ghost use Rattle.meaning.specs.Legal.{Has};
-ghost use Rattle.layout.specs.Places.{Begins};
+ghost use Rattle.layout.specs.Places.{Opens};
 
 use sheet::Sheet;
 
@@ -28,28 +28,183 @@ pub const LIMIT: usize = 30;
 
 const HELPED: usize = 31;
 
-// Houses n.
-pub fn n_of(b: &[u8]) -> usize
-    requires { n_place < length b.now }
-    ensures { (result ≡ n_of b.now) × (result < 256) }
+// The houses n and the entry numbers S, on which alone a book's length and the places of its slots depend.
+#[derive(Clone, Copy, PartialEq, Eq, Debug)]
+pub struct Shape {
+    pub n: u8,
+    pub numbers: u8,
+}
+
+// The slots of an entry in a book of n houses.
+#[tactic(auto, unfolding(meaning::specs::Layout::per_entry))]
+fn per_entry(n: u8) -> usize
+    ensures { (result ≡ per_entry n) × (result < 1024) }
 {
-    octets::wide(b[N]) as usize
+    2 * usize::from(n) + 3
+}
+
+impl Shape {
+    // The bytes before the slots.
+    #[tactic(auto, unfolding(meaning::specs::Layout::head_length))]
+    fn head_length(self) -> usize
+        ensures { (result ≡ head_length self.n) × (result < 512) }
+    {
+        HELPED + usize::from(self.n)
+    }
+
+    // The entries of so many numbers, one for each sender.
+    fn entries_of(self, numbers: u8) -> usize
+        ensures { (result ≡ numbers * self.n) × (result ≤ 65025) }
+    {
+        usize::from(numbers) * usize::from(self.n)
+    }
+
+    // The slots of so many entries.
+    fn slots_of(self, entries: usize) -> usize
+        requires { entries < 65536 }
+        ensures { (result ≡ entries * per_entry self.n) × (result < 67108864) }
+    {
+        entries * per_entry(self.n)
+    }
+
+    // The slots of a book.
+    #[tactic(auto, unfolding(meaning::specs::Layout::slot_count))]
+    pub fn slot_count(self) -> usize
+        ensures { (result ≡ slot_count self.n self.numbers) × (result < 134217728) }
+    {
+        usize::from(self.numbers) + self.slots_of(self.entries_of(self.numbers))
+    }
+
+    // Where slot k begins.
+    #[tactic(auto, unfolding(meaning::specs::Layout::slot_place))]
+    pub fn slot_place(self, k: usize) -> usize
+        requires { k < 134217728 }
+        ensures { (result ≡ slot_place self.n k) × (result < 4294967296) }
+    {
+        self.head_length() + slots::LENGTH * k
+    }
+
+    // The bytes of a book.
+    #[tactic(auto, unfolding(meaning::specs::Layout::slot_place, meaning::specs::Layout::length_of))]
+    pub fn book_length(self) -> usize
+        ensures { result ≡ length_of self.n self.numbers }
+    {
+        self.slot_place(self.slot_count())
+    }
+
+    // Where what this house published at a number stands.
+    pub fn published(self, number: u8) -> usize
+        ensures { result ≡ slot_place self.n (published_slot number) }
+    {
+        self.slot_place(usize::from(number))
+    }
+
+    // The entry of a sender and a number.
+    #[tactic(auto, unfolding(meaning::specs::Layout::entry_slot))]
+    pub fn entry(self, sender: u8, number: u8) -> EntryAt
+        ensures { (result.base ≡ slot_place self.n (entry_slot self.n self.numbers number sender 0)) × (result.n ≡ self.n) }
+    {
+        let entries = self.entries_of(number) + usize::from(sender);
+        let first = usize::from(self.numbers) + self.slots_of(entries);
+        EntryAt {
+            base: self.slot_place(first) as u32,
+            n: self.n,
+        }
+    }
+}
+
+// An entry: where its slots begin, in a book of n houses.
+#[derive(Clone, Copy, PartialEq, Eq, Debug)]
+pub struct EntryAt {
+    pub base: u32,
+    pub n: u8,
+}
+
+impl EntryAt {
+    // How many slots it has.
+    pub fn slots(self) -> usize
+        ensures { result ≡ per_entry self.n }
+    {
+        per_entry(self.n)
+    }
+
+    // Where its slot i begins.
+    fn slot(self, i: usize) -> usize
+        requires { i < 1024 }
+        ensures { result ≡ place_from self.base i }
+    {
+        self.base as usize + slots::LENGTH * i
+    }
+
+    // Where the SEND stands.
+    pub fn send(self) -> usize
+        ensures { result ≡ place_from self.base send_slot }
+    {
+        self.slot(0)
+    }
+
+    // Where a house's ECHO stands.
+    pub fn echo(self, house: u8) -> usize
+        ensures { result ≡ place_from self.base (echo_slot house) }
+    {
+        self.slot(1 + usize::from(house))
+    }
+
+    // Where a house's READY stands.
+    pub fn ready(self, house: u8) -> usize
+        ensures { result ≡ place_from self.base (ready_slot self.n house) }
+    {
+        self.slot(1 + usize::from(self.n) + usize::from(house))
+    }
+
+    // Where the READY that this house sent stands.
+    pub fn ready_sent(self) -> usize
+        ensures { result ≡ place_from self.base (ready_sent_slot self.n) }
+    {
+        self.slot(1 + 2 * usize::from(self.n))
+    }
+
+    // Where what was delivered stands.
+    pub fn delivered(self) -> usize
+        ensures { result ≡ place_from self.base (delivered_slot self.n) }
+    {
+        self.slot(2 + 2 * usize::from(self.n))
+    }
+}
+
+// Houses n.
+pub fn n_of(b: &[u8]) -> u8
+    requires { n_place < length b.now }
+    ensures { result ≡ n_of b.now }
+{
+    b[N]
 }
 
 // Entry numbers S.
-pub fn numbers_of(b: &[u8]) -> usize
+pub fn numbers_of(b: &[u8]) -> u8
     requires { numbers_place < length b.now }
-    ensures { (result ≡ numbers_of b.now) × (result < 256) }
+    ensures { result ≡ numbers_of b.now }
 {
-    octets::wide(b[NUMBERS]) as usize
+    b[NUMBERS]
+}
+
+// The shape of a book.
+pub fn shape_of(b: &[u8]) -> Shape
+    requires { numbers_place < length b.now }
+    ensures { (result.n ≡ n_of b.now) × (result.numbers ≡ numbers_of b.now) }
+{
+    Shape {
+        n: n_of(b),
+        numbers: numbers_of(b),
+    }
 }
 
 // The own number.
-pub fn own_of(b: &[u8]) -> usize
+pub fn own_of(b: &[u8]) -> u8
     requires { own_place < length b.now }
-    ensures { (result ≡ own_of b.now) × (result < 256) }
+    ensures { result ≡ own_of b.now }
 {
-    octets::wide(b[OWN]) as usize
+    b[OWN]
 }
 
 // The season.
@@ -61,35 +216,36 @@ pub fn season_of(b: &[u8]) -> u32
 }
 
 // f, how many honest houses may be down.
-pub fn down_of(b: &[u8]) -> usize
+pub fn down_of(b: &[u8]) -> u8
     requires { down_place < length b.now }
-    ensures { (result ≡ down_of b.now) × (result < 256) }
+    ensures { result ≡ down_of b.now }
 {
-    octets::wide(b[DOWN]) as usize
+    b[DOWN]
 }
 
 // The recovery limit d.
-pub fn limit_of(b: &[u8]) -> usize
+pub fn limit_of(b: &[u8]) -> u8
     requires { limit_place < length b.now }
-    ensures { (result ≡ limit_of b.now) × (result < 256) }
+    ensures { result ≡ limit_of b.now }
 {
-    octets::wide(b[LIMIT]) as usize
+    b[LIMIT]
 }
 
 // How often asker p was helped.
-pub fn helped_at(b: &[u8], p: usize) -> usize
-    requires { (p < 256) × (helped_place p < length b.now) }
-    ensures { (result ≡ get_or b.now (helped_place p) 0) × (result < 256) }
+pub fn helped_at(b: &[u8], p: u8) -> u8
+    requires { helped_place p < length b.now }
+    ensures { result ≡ get_or b.now (helped_place p) 0 }
 {
-    octets::wide(b[HELPED + p]) as usize
+    b[HELPED + usize::from(p)]
 }
 
 // One more help for asker p.
-pub fn count_help(b: &mut [u8], p: usize)
-    requires { (p < 256) × (helped_place p < length b.old) × (get_or b.old (helped_place p) 0 < 255) }
+#[tactic(auto, unfolding(meaning::specs::Book::count_help))]
+pub fn count_help(b: &mut [u8], p: u8)
+    requires { (helped_place p < length b.old) × (get_or b.old (helped_place p) 0 < 255) }
     ensures { b.new ≡ count_help b.old p }
 {
-    b[HELPED + p] = b[HELPED + p] + 1;
+    b[HELPED + usize::from(p)] += 1;
 }
 
 // The sheet.
@@ -100,123 +256,10 @@ pub fn sheet_of(b: &[u8]) -> Sheet
     judge::sheet_at(b, SHEET)
 }
 
-// The bytes before the slots.
-fn head_length(n: usize) -> usize
-    requires { n < 256 }
-    ensures { (result ≡ head_length n) × (result < 512) }
-{
-    HELPED + n
-}
-
-// The slots of an entry.
-fn per_entry(n: usize) -> usize
-    requires { n < 256 }
-    ensures { (result ≡ per_entry n) × (result < 1024) }
-{
-    2 * n + 3
-}
-
-// The entries of so many numbers, one for each sender.
-fn entries_of(numbers: usize, n: usize) -> usize
-    requires { (numbers < 256) × (n < 256) }
-    ensures { (result ≡ numbers * n) × (result ≤ 65025) }
-{
-    numbers * n
-}
-
-// The slots of so many entries.
-fn slots_of(entries: usize, n: usize) -> usize
-    requires { (entries < 65536) × (n < 256) }
-    ensures { (result ≡ entries * per_entry n) × (result < 67108864) }
-{
-    entries * per_entry(n)
-}
-
-// The slots of a book.
-pub fn slot_count(n: usize, numbers: usize) -> usize
-    requires { (n < 256) × (numbers < 256) }
-    ensures { (result ≡ slot_count n numbers) × (result < 134217728) }
-{
-    numbers + slots_of(entries_of(numbers, n), n)
-}
-
-// Where slot k begins.
-pub fn slot_place(n: usize, k: usize) -> usize
-    requires { (n < 256) × (k < 134217728) }
-    ensures { (result ≡ slot_place n k) × (result < 4294967296) }
-{
-    head_length(n) + slots::LENGTH * k
-}
-
-// Slot i of the entry of number c and sender j, counted over the book.
-fn entry_slot(n: usize, numbers: usize, c: usize, j: usize, i: usize) -> usize
-    requires { (n < 256) × (numbers < 256) × (c < 256) × (j < 256) × (i < 1024) }
-    ensures { (result ≡ entry_slot n numbers c j i) × (result < 134217728) }
-{
-    numbers + slots_of(entries_of(c, n) + j, n) + i
-}
-
-// The bytes of a book.
-pub fn book_length(n: usize, numbers: usize) -> usize
-    requires { (n < 256) × (numbers < 256) }
-    ensures { result ≡ length_of n numbers }
-{
-    slot_place(n, slot_count(n, numbers))
-}
-
-// Where the entry of a sender and a number begins.
-pub fn entry_at(book: &[u8], sender: usize, number: usize) -> usize
+// Where the entry of a sender and a number stands.
+pub fn entry_at(book: &[u8], sender: u8, number: u8) -> EntryAt
     requires { Has book.now sender number }
-    ensures { Begins book.now sender number result }
+    ensures { Opens book.now sender number result }
 {
-    let n = n_of(book);
-    let numbers = numbers_of(book);
-    slot_place(n, entry_slot(n, numbers, number, sender, 0))
-}
-
-// Where what this house published at a number stands.
-pub fn published_at(n: usize, number: usize) -> usize
-    requires { (n < 256) × (number < 256) }
-    ensures { result ≡ slot_place n (published_slot number) }
-{
-    slot_place(n, number)
-}
-
-// Where the SEND of an entry that begins at `base` stands.
-pub fn send_at(base: usize) -> usize
-    ensures { result ≡ place_from base send_slot }
-{
-    base
-}
-
-// Where a house's ECHO stands.
-pub fn echo_at(base: usize, house: usize) -> usize
-    requires { (base < 4294967296) × (house < 256) }
-    ensures { result ≡ place_from base (echo_slot house) }
-{
-    base + slots::LENGTH * (1 + house)
-}
-
-// Where a house's READY stands.
-pub fn ready_at(base: usize, n: usize, house: usize) -> usize
-    requires { (base < 4294967296) × (n < 256) × (house < 256) }
-    ensures { result ≡ place_from base (ready_slot n house) }
-{
-    base + slots::LENGTH * (1 + n + house)
-}
-
-// Where the READY that this house sent stands.
-pub fn ready_sent_at(base: usize, n: usize) -> usize
-    requires { (base < 4294967296) × (n < 256) }
-    ensures { result ≡ place_from base (ready_sent_slot n) }
-{
-    base + slots::LENGTH * (1 + 2 * n)
-}
-
-// Where what was delivered stands.
-pub fn delivered_at(base: usize, n: usize) -> usize
-    requires { (base < 4294967296) × (n < 256) }
-    ensures { result ≡ place_from base (delivered_slot n) }
-{
-    base + slots::LENGTH * (2 + 2 * n)
+    shape_of(book).entry(sender, number)
 }

@@ -6,8 +6,10 @@ ghost use Rattle.entry.specs.Entry.{is_none};
 ghost use Rattle.protocol.specs.Steps.{recording};
 ghost use Rattle.meaning.specs.Slot.{slot_at, put_slot};
 ghost use Rattle.meaning.specs.Layout.{slot_length};
-ghost use Rattle.layout.specs.Places.{Within};
+ghost use Rattle.layout.specs.Places.{Lies};
 ghost use Rattle.marks.specs.Marks.{echo_mark, ready_marks};
+
+use layout::EntryAt;
 
 // Whether vouchers now make a READY, and deliver.
 #[derive(Clone, Copy)]
@@ -53,26 +55,26 @@ pub fn mark(book: &mut [u8], at: usize, yes: bool, d: [u8; 20])
 }
 
 // Whether the ECHOes of d now make a READY.
-pub fn echo_mark(book: &[u8], base: usize, d: [u8; 20]) -> bool
-    requires { Within book.now base }
-    ensures { result ≡ echo_mark book.now base d }
+pub fn echo_mark(book: &[u8], entry: EntryAt, d: [u8; 20]) -> bool
+    requires { Lies book.now entry }
+    ensures { result ≡ echo_mark book.now entry.base d }
 {
-    let n = layout::n_of(book);
-    let counts = counts::counts_of(n, layout::down_of(book));
-    let votes = vouchers::count_same(book, layout::echo_at(base, 0), n, d);
-    is_reached(book, layout::ready_sent_at(base, n), counts.quorum, votes)
+    let n = usize::from(entry.n);
+    let counts = counts::counts_of(n, usize::from(layout::down_of(book)));
+    let votes = vouchers::count_same(book, entry.echo(0), n, d);
+    is_reached(book, entry.ready_sent(), counts.quorum, votes)
 }
 
 // Whether the READYs of d now make a READY, and deliver.
-pub fn ready_marks(book: &[u8], base: usize, d: [u8; 20]) -> Marks
-    requires { Within book.now base }
-    ensures { result ≡ ready_marks book.now base d }
+pub fn ready_marks(book: &[u8], entry: EntryAt, d: [u8; 20]) -> Marks
+    requires { Lies book.now entry }
+    ensures { result ≡ ready_marks book.now entry.base d }
 {
-    let n = layout::n_of(book);
-    let counts = counts::counts_of(n, layout::down_of(book));
-    let votes = vouchers::count_same(book, layout::ready_at(base, n, 0), n, d);
+    let n = usize::from(entry.n);
+    let counts = counts::counts_of(n, usize::from(layout::down_of(book)));
+    let votes = vouchers::count_same(book, entry.ready(0), n, d);
     Marks {
-        gives: is_reached(book, layout::ready_sent_at(base, n), counts.amplify, votes),
-        delivers: is_reached(book, layout::delivered_at(base, n), counts.deliver, votes),
+        gives: is_reached(book, entry.ready_sent(), counts.amplify, votes),
+        delivers: is_reached(book, entry.delivered(), counts.deliver, votes),
     }
 }

@@ -8,6 +8,8 @@ ghost use Rattle.meaning.specs.Layout.{limit_place};
 ghost use Rattle.meaning.specs.Opening.{Opened, opened};
 ghost use Rattle.opening.specs.Parts.{blank};
 
+use layout::Shape;
+
 // Every byte 0.
 #[tactic(auto, using(crate::proofs::Filling::zero_more, crate::proofs::Filling::zeros_all))]
 fn clear(b: &mut [u8])
@@ -19,21 +21,21 @@ fn clear(b: &mut [u8])
 }
 
 // The bytes before the sheet: n, S, own number, season.
-fn before_sheet(n: u8, numbers: u8, own: u8, season: u32) -> [u8; 7]
-    ensures { result ≡ n ∷ numbers ∷ own ∷ be32 season }
+fn before_sheet(shape: Shape, own: u8, season: u32) -> [u8; 7]
+    ensures { result ≡ shape.n ∷ shape.numbers ∷ own ∷ be32 season }
 {
     let q = octets::quad_of(season);
-    [n, numbers, own, q.a, q.b, q.c, q.d]
+    [shape.n, shape.numbers, own, q.a, q.b, q.c, q.d]
 }
 
 // Writes the whole buffer: the header, and every slot empty.
 #[tactic(auto, using(crate::proofs::Filling::blank_laid))]
-fn lay_blank(b: &mut [u8], n: u8, numbers: u8, own: u8, f: u8, d: u8, season: u32, sheet: &[u8])
+fn lay_blank(b: &mut [u8], shape: Shape, own: u8, f: u8, d: u8, season: u32, sheet: &[u8])
     requires { (limit_place < length b.old) × (length sheet.now ≡ sheet_length) }
-    ensures { b.new ≡ blank (length b.old) n numbers own f d season sheet.now }
+    ensures { b.new ≡ blank (length b.old) shape.n shape.numbers own f d season sheet.now }
 {
     clear(b);
-    slots::lay_at(b, 0, &before_sheet(n, numbers, own, season));
+    slots::lay_at(b, 0, &before_sheet(shape, own, season));
     slots::lay_at(b, layout::DOWN, &[f, d]);
     slots::lay_at(b, layout::SHEET, sheet);
 }
@@ -55,17 +57,12 @@ pub fn open_book(
 {
     if sizes::is_allowed(n, numbers, own, f, d) {
         if judge::is_sheet(sheet) {
-            if book.len() == layout::book_length(n as usize, numbers as usize) {
-                lay_blank(
-                    book,
-                    n as u8,
-                    numbers as u8,
-                    own as u8,
-                    f as u8,
-                    d as u8,
-                    season,
-                    sheet,
-                );
+            let shape = Shape {
+                n: n as u8,
+                numbers: numbers as u8,
+            };
+            if book.len() == shape.book_length() {
+                lay_blank(book, shape, own as u8, f as u8, d as u8, season, sheet);
                 return 0;
             }
             return 11;

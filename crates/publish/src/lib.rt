@@ -11,18 +11,18 @@ ghost use Rattle.calls.specs.Call.{called, published};
 use calls::Outcome;
 
 // A publication at a number of the book: 8, else the own entry is marked and a SEND given.
-fn enter_publication(book: &mut [u8], number: u32, d: [u8; 20]) -> Outcome
+fn enter_publication(book: &mut [u8], number: u8, d: [u8; 20]) -> Outcome
     requires { (legal book.old ≡ true) × (number < numbers_of book.old) × Plausible book.old d }
     ensures { result_of result book.new ≡ called book.old (publishing number d) }
 {
-    let at = layout::published_at(layout::n_of(book), number as usize);
+    let at = layout::shape_of(book).published(number);
     if slots::is_full(book, at) {
         return reply::refuse(8);
     }
     let own = layout::own_of(book);
     let season = layout::season_of(book);
     slots::put_slot(book, at, d);
-    reply::announce(season, own as u8, number as u8, d)
+    reply::announce(season, own, number, d)
 }
 
 // 4, 5, then the step, which answers 8 where a publication stands.
@@ -30,9 +30,9 @@ fn publish_legal(book: &mut [u8], number: u32, d: [u8; 20]) -> Outcome
     requires { (legal book.old ≡ true) × IsDecl d }
     ensures { result_of result book.new ≡ called book.old (publishing number d) }
 {
-    if (number as usize) < layout::numbers_of(book) {
+    if number < u32::from(layout::numbers_of(book)) {
         if gates::is_plausible(layout::sheet_of(book), octets::declaration_at(&d, 0)) {
-            return enter_publication(book, number, d);
+            return enter_publication(book, number as u8, d);
         }
         return reply::refuse(5);
     }

@@ -6,6 +6,8 @@ ghost use Rattle.card.specs.Card.{houses_ok};
 ghost use Rattle.meaning.specs.Layout.{numbers_ok};
 ghost use Rattle.meaning.specs.Opening.{Length, allowed, length_answer};
 
+use layout::Shape;
+
 // Entry numbers S: 1 to 4 per sender.
 const MOST_NUMBERS: u32 = 4;
 
@@ -59,8 +61,14 @@ pub fn length_of(n: u32, numbers: u32) -> LengthAnswer
     ensures { ◌≡◌ {A = Length} (record { answer = result.answer; length = result.length }) (length_answer n numbers) }
 {
     if is_size(n, numbers) {
-        let length = layout::book_length(n as usize, numbers as usize) as u64;
-        return LengthAnswer { answer: 0, length };
+        let shape = Shape {
+            n: n as u8,
+            numbers: numbers as u8,
+        };
+        return LengthAnswer {
+            answer: 0,
+            length: shape.book_length() as u64,
+        };
     }
     LengthAnswer {
         answer: 9,

@@ -27,7 +27,7 @@ use Rattle.reply.specs.Handed.{sender_in, number_in, lot_in, with_kind, outcome_
 use Rattle.marks.specs.declared.Marks.{Marks}
 use Rattle.marks.specs.Marks.{echo_mark, ready_marks}
 use Rattle.step.specs.Carries.{Carries}
-use Rattle.step.proofs.Taken.{taking, heard_in_lem, has_one, base_one, echo_taken, ready_taken}
+use Rattle.step.proofs.Taken.{taking, heard_in_lem, n_one, has_one, base_one, echo_taken, ready_taken}
 
 -- what recording answers at the slot is what it answers of what was heard
 pub slot_checked : (b : List ℕ) (j c p : ℕ) (k : Kind) (v : Decl) → Has b j c → p < n_of b → (base at r : ℕ) → base ≡ place_in b j c 0
@@ -85,6 +85,9 @@ module _ (b : List ℕ) (bytes : Bytes b) (j c p : ℕ) (fits : Fits b j c) (hp 
 
     first : b₁ ≡ b₁'
     first = e₁ ∙ ap (λ (x : ℕ). put_slot b x v) (ea ∙ from (heard_slot (n_of b) k p))
+
+    pub heard_n : n_of b₁ ≡ n_of b
+    heard_n = ap n_of first ∙ n_one b bytes j c p fits hp v dv k
 
     pub heard_within : Within b₁ base
     heard_within =

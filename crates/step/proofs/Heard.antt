@@ -15,13 +15,14 @@ use Rattle.meaning.proofs.Seen.{from_base}
 use Rattle.calls.specs.Entered.{result_of, rules_by}
 use Rattle.calls.specs.ByEntry.{entered_in, called_in}
 use Rattle.calls.proofs.Checking.{recorded_refused, message_taken}
-use Rattle.layout.specs.Places.{Within}
+use Rattle.layout.specs.declared.EntryAt.{EntryAt}
+use Rattle.layout.specs.Places.{Lies}
 use Rattle.reply.specs.declared.Step.{Step}
 use Rattle.reply.specs.Handed.{sender_in, number_in, lot_in, outcome_of, refused_by}
 use Rattle.marks.specs.declared.Marks.{Marks}
 use Rattle.marks.specs.Marks.{echo_mark, ready_marks}
 use Rattle.step.specs.Carries.{Carries, asked_by}
-use Rattle.step.proofs.Entered.{slot_checked, outcome_wired, send_entered, heard_within, echo_entered, ready_entered}
+use Rattle.step.proofs.Entered.{slot_checked, outcome_wired, send_entered, heard_n, heard_within, echo_entered, ready_entered}
 
 module _ (b m : List ℕ) (base : ℕ) (C : Carries b m base) where
   abbrev j : ℕ
@@ -88,11 +89,20 @@ module _ (b m : List ℕ) (base : ℕ) (C : Carries b m base) where
       stored : b₁ ≡ put_slot b at v
       stored = q₁ ∙ ap (put_slot b at) e₁
 
-      pub echo_within : at ≡ place_from base (echo_slot p) → Within b₁ base
-      echo_within ea = heard_within b bytes j c p fits hp v dv ECHO base at b₁ C.begins ea stored
+      -- the entry as the code holds it lies in the bytes with the voucher recorded, as it lay before
+      pub echo_lies : at ≡ place_from base (echo_slot p) → (e : EntryAt) → e.base ≡ base → e.n ≡ n_of b → Lies b₁ e
+      echo_lies ea e eb em =
+          record {
+            n = em ∙ sym (heard_n b bytes j c p fits hp v dv ECHO base at b₁ C.begins ea stored);
+            within = rw eb (heard_within b bytes j c p fits hp v dv ECHO base at b₁ C.begins ea stored);
+          }
 
-      pub ready_within : at ≡ place_from base (ready_slot n p) → Within b₁ base
-      ready_within ea = heard_within b bytes j c p fits hp v dv READY base at b₁ C.begins (ready_place ea) stored
+      pub ready_lies : at ≡ place_from base (ready_slot n p) → (e : EntryAt) → e.base ≡ base → e.n ≡ n_of b → Lies b₁ e
+      ready_lies ea e eb em =
+          record {
+            n = em ∙ sym (heard_n b bytes j c p fits hp v dv READY base at b₁ C.begins (ready_place ea) stored);
+            within = rw eb (heard_within b bytes j c p fits hp v dv READY base at b₁ C.begins (ready_place ea) stored);
+          }
 
       module _ (sent : ℕ) (et : sent ≡ place_from base (ready_sent_slot n)) (d₂ d₃ : Decl) (e₂ : d₂ ≡ v) (e₃ : d₃ ≡ v) (b₂ : List ℕ)
           (z : r ≡ 0) where

@@ -66,7 +66,7 @@ module _ (b : List ℕ) (bytes : Bytes b) (j c p : ℕ) (fits : Fits b j c) (hp 
   one : (k : Kind) → Rowed b (heard_in_lem k) j c (recorded k p v (look b j c))
   one k = rowed_taken b j c fits bytes v dv k p hp false false
 
-  n_one : (k : Kind) → n_of (heard_in_lem k) ≡ n_of b
+  pub n_one : (k : Kind) → n_of (heard_in_lem k) ≡ n_of b
   n_one k = agree_n (heard_in_lem k) b (one k).stored.header
 
   numbers_one : (k : Kind) → numbers_of (heard_in_lem k) ≡ numbers_of b

@@ -8,6 +8,7 @@ ghost use Rattle.calls.specs.Search.{waits, earliest, found, waiting};
 ghost use Rattle.waiting.specs.Found.{told};
 
 use calls::Waiting;
+use layout::Shape;
 use refusal::Refusal;
 
 // An entry, by its number and its sender.
@@ -31,20 +32,19 @@ fn waits_at(book: &[u8], sender: u8, number: u8) -> bool
     requires { Has book.now sender number }
     ensures { result ≡ waits book.now sender number }
 {
-    let base = layout::entry_at(book, usize::from(sender), usize::from(number));
-    slots::is_full(book, layout::send_at(base))
-        && !slots::is_full(book, layout::delivered_at(base, layout::n_of(book)))
+    let entry = layout::entry_at(book, sender, number);
+    slots::is_full(book, entry.send()) && !slots::is_full(book, entry.delivered())
 }
 
 // Lowest number first and then lowest sender.
-fn search(book: &[u8], n: u8, numbers: u8) -> Option<Place>
-    requires { (head_legal book.now ≡ true) × (n ≡ n_of book.now) × (numbers ≡ numbers_of book.now) }
+fn search(book: &[u8], shape: Shape) -> Option<Place>
+    requires { (head_legal book.now ≡ true) × (shape.n ≡ n_of book.now) × (shape.numbers ≡ numbers_of book.now) }
     ensures { told result ≡ found (earliest book.now) }
 {
     let mut found = None;
     // Kept: document 01 names this form, nested loops over numbers and senders, left by a label with the first waiting entry.
-    'search: for number in 0..numbers {
-        for sender in 0..n {
+    'search: for number in 0..shape.numbers {
+        for sender in 0..shape.n {
             if waits_at(book, sender, number) {
                 found = Some(Place { number, sender });
                 break 'search;
@@ -64,11 +64,7 @@ pub fn earliest_waiting(book: &[u8]) -> Waiting
             ..NOTHING
         };
     }
-    match search(
-        book,
-        layout::n_of(book) as u8,
-        layout::numbers_of(book) as u8,
-    ) {
+    match search(book, layout::shape_of(book)) {
         Some(place) => Waiting {
             answer: 0,
             waits: true,

@@ -6,7 +6,7 @@ use Rattle.admit.proofs.open_entry.Goals as goal
 
 pub is_entry_legal-requires : goal.is_entry_legal-requires
 is_entry_legal-requires c =
-    (rw (c.requires.4, c.requires.5) c.requires.1, c.entry_at-base.ensures, c.requires.2)
+    (rw (c.requires.4, c.requires.5) c.requires.1, c.entry_at-entry.ensures, c.requires.2)
 
 pub returns-then-is_entry_legal : goal.returns-then-is_entry_legal
 returns-then-is_entry_legal c =

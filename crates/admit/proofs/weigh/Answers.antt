@@ -17,16 +17,17 @@ take-requires c =
       record {
         comes = r.0;
         fits = r.1;
-        begins = r.2;
+        begins = r.2.begins;
         plausible = record { decl = lot_decl b m r.0; ok = sym ok ∙ c.if-is_plausible.true };
       },
       omega arith,
       r.3,
       r.4,
+      r.2.n,
     )
 
-pub returns-then-house-n_of : goal.returns-then-house-n_of
-returns-then-house-n_of c =
+pub returns-then-house-from : goal.returns-then-house-from
+returns-then-house-from c =
     let a = c.args in
     let r = c.requires in
     let b = a.book.now in

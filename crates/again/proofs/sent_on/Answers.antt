@@ -15,27 +15,27 @@ pub sent_entry-requires : goal.sent_entry-requires
 sent_entry-requires c =
     record {
       head = legal_head _ (sym c.is_legal.ensures ∙ c.if-is_legal.true);
-      sender = omega (arith, c.n_of.ensures.0, c.if-sender-n_of.true);
-      number = omega (arith, c.numbers_of.ensures.0, c.if-number-numbers_of.true);
+      sender = omega (arith, c.n_of.ensures, c.if-sender-from.true);
+      number = omega (arith, c.numbers_of.ensures, c.if-number-from.true);
     }
 
-pub returns-then-number-numbers_of : goal.returns-then-number-numbers_of
-returns-then-number-numbers_of c =
+pub returns-then-number-from : goal.returns-then-number-from
+returns-then-number-from c =
     let a = c.args in
     sent_there a.book.now a.kind a.sender a.number _ (sym c.is_legal.ensures ∙ c.if-is_legal.true) c.sent_entry.ensures
 
-pub returns-then-sender-n_of : goal.returns-then-sender-n_of
-returns-then-sender-n_of c =
+pub returns-then-sender-from : goal.returns-then-sender-from
+returns-then-sender-from c =
     let a = c.args in
     sent_no_number a.book.now a.kind a.sender a.number _ (sym c.is_legal.ensures ∙ c.if-is_legal.true)
-    (sym c.is_kind.ensures ∙ c.if-is_kind.true) (omega (arith, c.n_of.ensures.0, c.if-sender-n_of.true))
-    (omega (arith, c.numbers_of.ensures.0, c.if-number-numbers_of.false)) c.send_nothing.ensures
+    (sym c.is_kind.ensures ∙ c.if-is_kind.true) (omega (arith, c.n_of.ensures, c.if-sender-from.true))
+    (omega (arith, c.numbers_of.ensures, c.if-number-from.false)) c.send_nothing.ensures
 
 pub returns-then-is_kind : goal.returns-then-is_kind
 returns-then-is_kind c =
     let a = c.args in
     sent_no_sender a.book.now a.kind a.sender a.number _ (sym c.is_legal.ensures ∙ c.if-is_legal.true)
-    (sym c.is_kind.ensures ∙ c.if-is_kind.true) (omega (arith, c.n_of.ensures.0, c.if-sender-n_of.false))
+    (sym c.is_kind.ensures ∙ c.if-is_kind.true) (omega (arith, c.n_of.ensures, c.if-sender-from.false))
     c.send_nothing-then-is_kind.ensures
 
 pub returns-then-is_legal : goal.returns-then-is_legal

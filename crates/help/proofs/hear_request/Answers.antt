@@ -8,7 +8,7 @@ pub n_of-requires : goal.n_of-requires
 n_of-requires c = let h = head_room _ c.requires in omega arith
 
 pub helped_at-requires : goal.helped_at-requires
-helped_at-requires c = let h = head_room _ c.requires in (omega arith, omega arith)
+helped_at-requires c = let h = head_room _ c.requires in omega arith
 
 pub limit_of-requires : goal.limit_of-requires
 limit_of-requires c = let h = head_room _ c.requires in omega arith
@@ -17,14 +17,14 @@ pub count_help-requires : goal.count_help-requires
 count_help-requires c =
     let h = head_room _ c.requires in
     let low = low_byte c.args.book.now c.args.house c.requires (omega arith) in
-    (omega arith, omega arith, low)
+    (omega arith, low)
 
 pub returns-then-helped_at-limit_of : goal.returns-then-helped_at-limit_of
 returns-then-helped_at-limit_of c =
     request_helped c.args.book.now c.args.house (omega arith) (omega arith) _ c.help.ensures _ c.count_help.ensures
 
-pub returns-then-house-n_of : goal.returns-then-house-n_of
-returns-then-house-n_of c = enough_refused c.args.book.now c.args.house (omega arith) (omega arith) _ c.refuse.ensures
+pub returns-then-house-from : goal.returns-then-house-from
+returns-then-house-from c = enough_refused c.args.book.now c.args.house (omega arith) (omega arith) _ c.refuse.ensures
 
 pub returns : goal.returns
 returns c = asker_refused c.args.book.now c.args.house (omega arith) _ c.refuse-2.ensures

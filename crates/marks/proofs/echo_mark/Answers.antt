@@ -1,28 +1,26 @@
 -- The mark that the code finds is the one that the ECHOes of d now make.
 use Rattle.std.proofs.Common.{ap, ap₂, ◌∙◌, arith}
 use Rattle.card.specs.Card.{houses_ok, down_ok}
-use Rattle.meaning.specs.Book.{n_of}
-use Rattle.meaning.proofs.Places.{ready_sent_below}
-use Rattle.layout.proofs.Begins.{slot_room, row_within, echoes_below}
+use Rattle.layout.proofs.Begins.{ready_sent_room, echoes_room}
 use Rattle.marks.proofs.Marking.{echo_found}
 use Rattle.marks.proofs.echo_mark.Goals as goal
 
 pub counts_of-counts-requires : goal.counts_of-counts-requires
-counts_of-counts-requires c = (
-  ap houses_ok c.n_of-n.ensures.0 ∙ c.requires.n,
-  ap₂ down_ok c.n_of-n.ensures.0 c.down_of.ensures.0 ∙ c.requires.down,
-)
+counts_of-counts-requires c =
+    let n = c.from-n.ensures ∙ c.requires.n in (
+      ap houses_ok n ∙ c.requires.within.n,
+      ap₂ down_ok n (c.from.ensures ∙ c.down_of.ensures) ∙ c.requires.within.down,
+    )
 
 pub count_same-votes-requires : goal.count_same-votes-requires
-count_same-votes-requires c =
-    omega (arith, row_within _ _ _ c.requires (echoes_below (n_of c.args.book.now)), c.echo_at.ensures, c.n_of-n.ensures.0)
+count_same-votes-requires c = omega (arith, echoes_room _ _ c.requires, c.echo.ensures, c.from-n.ensures)
 
 pub is_reached-requires : goal.is_reached-requires
-is_reached-requires c =
-    omega (arith, slot_room _ _ _ c.requires (ready_sent_below (n_of c.args.book.now)), c.ready_sent_at.ensures, c.n_of-n.ensures.0)
+is_reached-requires c = omega (arith, ready_sent_room _ _ c.requires, c.ready_sent.ensures)
 
 pub returns : goal.returns
 returns c =
     let a = c.args in
-    echo_found a.book.now a.base a.d _ _ _ c.n_of-n.ensures.0 c.down_of.ensures.0 c.counts_of-counts.ensures _ c.echo_at.ensures _
-    c.count_same-votes.ensures.0 _ c.ready_sent_at.ensures _ c.is_reached.ensures
+    echo_found a.book.now a.entry.base a.d _ _ _ c.requires.n (c.from.ensures ∙ c.down_of.ensures)
+    (rw c.from-n.ensures at c.counts_of-counts.ensures) _ c.echo.ensures _ (rw c.from-n.ensures at c.count_same-votes.ensures.0) _
+    c.ready_sent.ensures _ c.is_reached.ensures

@@ -5,14 +5,11 @@ use Rattle.meaning.specs.Layout.{length_of, head_length}
 use Rattle.sizes.proofs.Sizes.{allowed_n, allowed_numbers, allowed_own, allowed_down, allowed_limit}
 use Rattle.opening.proofs.open_book.Goals as goal
 
-pub book_length-requires : goal.book_length-requires
-book_length-requires c = (search allowed_n, search allowed_numbers)
+pub overflow_cast-shape : goal.overflow_cast-shape
+overflow_cast-shape c = record { fits = search allowed_n }
 
-pub overflow_cast-n-then-book-book_length : goal.overflow_cast-n-then-book-book_length
-overflow_cast-n-then-book-book_length c = record { fits = search allowed_n }
-
-pub overflow_cast-numbers-then-book-book_length : goal.overflow_cast-numbers-then-book-book_length
-overflow_cast-numbers-then-book-book_length c = record { fits = search allowed_numbers }
+pub overflow_cast-shape-then-is_sheet : goal.overflow_cast-shape-then-is_sheet
+overflow_cast-shape-then-is_sheet c = record { fits = search allowed_numbers }
 
 pub overflow_cast-own : goal.overflow_cast-own
 overflow_cast-own c = record { fits = search allowed_own }

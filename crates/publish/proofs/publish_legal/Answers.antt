@@ -21,7 +21,7 @@ pub enter_publication-requires : goal.enter_publication-requires
 enter_publication-requires c =
     let a = c.args in (
       c.requires.0,
-      omega (arith, c.numbers_of.ensures.0, c.if-number-numbers_of.true),
+      omega (arith, c.numbers_of.ensures, c.if-number-from.true),
       record {
         decl = c.requires.1;
         ok = sym (plausible_ok _ (sheet_of a.book.now) a.d _ _ c.requires.1 c.sheet_of.ensures c.declaration_at.ensures
@@ -29,15 +29,15 @@ enter_publication-requires c =
       },
     )
 
-pub returns-then-number-numbers_of : goal.returns-then-number-numbers_of
-returns-then-number-numbers_of c =
+pub returns-then-number-from : goal.returns-then-number-from
+returns-then-number-from c =
     let a = c.args in
-    lot_refused a.book.now c.requires.0 a.number a.d (omega (arith, c.numbers_of.ensures.0, c.if-number-numbers_of.true))
+    lot_refused a.book.now c.requires.0 a.number a.d (omega (arith, c.numbers_of.ensures, c.if-number-from.true))
     (sym (plausible_ok _ (sheet_of a.book.now) a.d _ _ c.requires.1 c.sheet_of.ensures c.declaration_at.ensures
     c.is_plausible.ensures) ∙ c.if-is_plausible.false) _ c.refuse.ensures
 
 pub returns : goal.returns
 returns c =
     let a = c.args in
-    number_refused a.book.now c.requires.0 a.number a.d (omega (arith, c.numbers_of.ensures.0, c.if-number-numbers_of.false)) _
+    number_refused a.book.now c.requires.0 a.number a.d (omega (arith, c.numbers_of.ensures, c.if-number-from.false)) _
     c.refuse-2.ensures

@@ -7,7 +7,7 @@ use Rattle.waiting.proofs.Searching.{row}
 use Rattle.waiting.proofs.search.Given as goal
 
 abbrev pub invariant-search : goal.invariant-search
-invariant-search l = (l.number ≤ l.numbers) × (l.found ≡ None) × (first_below (row l.book l.n) l.number ≡ none)
+invariant-search l = (l.number ≤ l.shape.numbers) × (l.found ≡ None) × (first_below (row l.book l.shape.n) l.number ≡ none)
 
 abbrev pub invariant-loop-sender : goal.invariant-loop-sender
-invariant-loop-sender l = (l.sender ≤ l.n) × (l.found ≡ None) × (first_below (waiting_at l.book l.number) l.sender ≡ none)
+invariant-loop-sender l = (l.sender ≤ l.shape.n) × (l.found ≡ None) × (first_below (waiting_at l.book l.number) l.sender ≡ none)
