@@ -1,7 +1,7 @@
 -- What this crate promises holds.
 use Prim.Native.Nat.{ℕ, suc, ◌+◌, ◌-◌, ◌<◌, ◌≤◌}
 use mathlib.Core.Path.{◌≡◌, refl, sym, ap, ◌∙◌, subst}
-use mathlib.Core.Logic.{◌⊎◌, ◌↔◌, inl, inr}
+use mathlib.Core.Logic.{inl}
 use mathlib.Core.Bool.{Bool, true, false, cond, not}
 use mathlib.Core.List.{List, [], ◌∷◌, ◌++◌}
 use native.Mathlib.Omega.{arith}
@@ -15,6 +15,7 @@ use Rattle.sheet.proofs.Claims as sheets
 use Rattle.roll.specs.declared.Line.{Line}
 use Rattle.roll.specs.declared.Totals.{Totals}
 use Rattle.roll.specs.declared.Ask.{Ask}
+use Rattle.roll.specs.declared.Ask.TheVariants.{Enter, Strike}
 use Rattle.roll.specs.Roll.{line_of, finite_readings, has, totals_of, in_use, sound, enters, strikes, zero_line, Changed, accepted}
 use Rattle.roll.specs.Roll.{refused, entered, struck, changed}
 use Rattle.roll.specs.Plain.{Among, Finite, There, Sound}
@@ -165,13 +166,12 @@ struck_long roll t lot e =
 as_long : (roll : List Line) (t : Totals) (q : Ask) → AsLong roll (changed roll t q)
 unfolding changed
 as_long roll t q =
-    bcase (eqb (changed roll t q).answer 0) (λ a. go q.strikes (eqb-true (changed roll t q).answer 0 a))
+    bcase (eqb (changed roll t q).answer 0) (λ a. accepted_long q (eqb-true (changed roll t q).answer 0 a))
     (λ r. ap (λ (c : Changed). length c.lines) (refused_stays roll t q (eqb-false (changed roll t q).answer 0 r)))
   where
-    go : (s : Bool) → (cond s (struck roll t q.line.lot) (entered roll t q.line)).answer ≡ 0
-        → AsLong roll (cond s (struck roll t q.line.lot) (entered roll t q.line))
-    go true e = struck_long roll t q.line.lot e
-    go false e = entered_long roll t q.line e
+    accepted_long : (q : Ask) → (changed roll t q).answer ≡ 0 → AsLong roll (changed roll t q)
+    accepted_long (Enter l) e = entered_long roll t l e
+    accepted_long (Strike lot) e = struck_long roll t lot e
 
 -- ---- a sound roll is not answered 20
 
@@ -198,11 +198,8 @@ struck_not_20 roll t lot s = rw s (go (has lot (in_use roll t)))
 
 not_20 : (roll : List Line) (t : Totals) (q : Ask) → sound roll t ≡ true → (changed roll t q).answer ≡ 20 → ⊥
 unfolding changed
-not_20 roll t q s = go q.strikes
-  where
-    go : (b : Bool) → (cond b (struck roll t q.line.lot) (entered roll t q.line)).answer ≡ 20 → ⊥
-    go true e = struck_not_20 roll t q.line.lot s e
-    go false e = entered_not_20 roll t q.line s e
+not_20 roll t (Enter l) s e = entered_not_20 roll t l s e
+not_20 roll t (Strike lot) s e = struck_not_20 roll t lot s e
 
 -- ---- a line entered again
 

@@ -2,22 +2,22 @@
 use Prim.Native.Nat.{ℕ, zero, suc, ◌+◌, ◌<◌, ◌≤◌}
 use mathlib.Core.Path.{◌≡◌, refl, sym, subst}
 use mathlib.Core.Logic.{◌↔◌, inl, inr}
-use mathlib.Core.Bool.{Bool, true, true≢false, ◌&&◌}
+use mathlib.Core.Bool.{true, true≢false}
 use mathlib.Core.List.{List, [], ◌∷◌}
 use native.Mathlib.Omega.{arith}
-use lib.ListN.{length, get_or}
-use lib.Dec.{leb, eqb}
+use lib.ListN.{length}
+use lib.Dec.{eqb}
 use lib.Ieee.{binary32, of_bits}
 use borrow.Author.Tests.{leb-true, le-leb, eqb-true}
 use Rattle.sheet.specs.Sheet.{finite}
 use Rattle.roll.specs.declared.Line.{Line}
 use Rattle.roll.specs.declared.Totals.{Totals}
-use Rattle.roll.specs.Roll.{moisture_of, finite_readings, ordered_from, ordered, all_finite, has, totals_of, same_totals, zero_line}
+use Rattle.roll.specs.Roll.{moisture_of, finite_readings, ordered_from, all_finite, has, totals_of}
 use Rattle.roll.specs.Roll.{most_lines, in_use, sound}
 use Rattle.roll.specs.Plain.{Among, lot_at, Finite, There, Sound}
 use Rattle.roll.proofs.Tests.{bcase, and_left, and_right, or_then}
 use Rattle.roll.proofs.Lines.{rest, has_among}
-use Rattle.roll.proofs.Sound.{same_are, are_same, Parts, parts}
+use Rattle.roll.proofs.Sound.{same_are, are_same, parts}
 
 -- ---- ascending lot order
 

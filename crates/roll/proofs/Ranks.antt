@@ -1,12 +1,12 @@
 -- Float comparison of finite readings is comparison of the ranks of their bits.
 use Prim.Native.Nat.{ℕ, ◌+◌, ◌-◌, ◌%◌, ◌^◌, ◌≤◌, ◌<◌}
 use mathlib.Core.Path.{◌≡◌, refl, sym, ap, ◌∙◌, subst}
-use mathlib.Core.Bool.{Bool, true, false, cond, not, ◌||◌, true≢false}
+use mathlib.Core.Bool.{Bool, true, false, not, ◌||◌, true≢false}
 use native.Mathlib.Omega.{arith}
 use lib.Dec.{leb, ltb}
 use lib.Pow.{pow_pos}
 use lib.Ieee.{Float, binary32, of_bits, below, lt, le, eq}
-use borrow.Author.Tests.{le-leb, lt-leb, lt-ltb, le-ltb, ltb-true, ltb-false, leb-true, leb-false}
+use borrow.Author.Tests.{le-leb, lt-leb, le-ltb, ltb-true, ltb-false}
 use Rattle.sheet.specs.Sheet.{finite}
 use Rattle.sheet.proofs.Finite.{finite_bits}
 use Rattle.sheet.proofs.Order.{same_ltb, units_of, units, units_mono, units_back, sized, lt_sized, le_is}

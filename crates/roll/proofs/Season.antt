@@ -12,8 +12,9 @@ use borrow.Author.Tests.{eqb-true, eqb-false}
 use Rattle.roll.specs.declared.Line.{Line}
 use Rattle.roll.specs.declared.Totals.{Totals}
 use Rattle.roll.specs.declared.Ask.{Ask}
+use Rattle.roll.specs.declared.Ask.TheVariants.{Enter, Strike}
 use Rattle.roll.specs.Roll.{weight, totals_of, most_lines, in_use, sound, enters, strikes, zero_line, Changed, accepted}
-use Rattle.roll.specs.Roll.{entered, struck, changed}
+use Rattle.roll.specs.Roll.{entered, struck, is_strike, lot_asked, kilograms_asked, changed}
 use Rattle.roll.specs.Season.{empty, next, season, is_accepted, entered_in, noted, struck_in, no_notes}
 use Rattle.roll.proofs.Tests.{bcase}
 use Rattle.roll.proofs.Lines.{weighs, weight_enters, weight_strikes, weighs_enters, weighs_strikes}
@@ -30,21 +31,13 @@ on c lot = weighs lot (in_use c.lines c.totals)
 
 -- the kilograms that a call enters, and those that it strikes from the roll
 abbrev entered_by : Changed → Ask → ℕ
-entered_by c q = cond (is_accepted c q && not q.strikes) q.line.kilograms 0
+entered_by c q = cond (is_accepted c q && not (is_strike q)) (kilograms_asked q) 0
 
 abbrev struck_by : Changed → Ask → ℕ
-struck_by c q = cond (is_accepted c q && q.strikes) (on c q.line.lot) 0
+struck_by c q = cond (is_accepted c q && is_strike q) (on c (lot_asked q)) 0
 
 total_weight : (roll : List Line) (t : Totals) → Parts roll t → t.kilograms ≡ weight (in_use roll t)
 total_weight roll t s = ap (λ (u : Totals). u.kilograms) (same_are t (totals_of (in_use roll t)) s.those)
-
-is_struck : (roll : List Line) (t : Totals) (q : Ask) → q.strikes ≡ true → changed roll t q ≡ struck roll t q.line.lot
-unfolding changed
-is_struck roll t q s = rw s
-
-is_entered : (roll : List Line) (t : Totals) (q : Ask) → q.strikes ≡ false → changed roll t q ≡ entered roll t q.line
-unfolding changed
-is_entered roll t q s = rw s
 
 struck_balance : (roll : List Line) (t : Totals) (lot : ℕ) → (struck roll t lot).answer ≡ 0
     → kg (struck roll t lot) + weighs lot (in_use roll t) ≡ t.kilograms + 0
@@ -65,29 +58,22 @@ entered_balance roll t l e =
     sums : {a b : ℕ} → a ≡ b + l.kilograms → t.kilograms ≡ b → a + 0 ≡ t.kilograms + l.kilograms
     sums x y = omega arith
 
-by_case : (a s : Bool) (k o w l : ℕ) → (a ≡ true → s ≡ true → k + w ≡ o + 0) → (a ≡ true → s ≡ false → k + 0 ≡ o + l)
-    → (a ≡ false → k + 0 ≡ o + 0)
+by_case : (a s : Bool) (k o w l : ℕ) → (a ≡ true → k + cond s w 0 ≡ o + cond (not s) l 0) → (a ≡ false → k + 0 ≡ o + 0)
     → k + cond (a && s) w 0 ≡ o + cond (a && not s) l 0
-by_case true true k o w l f g h = f refl refl
-by_case true false k o w l f g h = g refl refl
-by_case false s k o w l f g h = h refl
+by_case true s k o w l f g = f refl
+by_case false s k o w l f g = g refl
 
 balanced : (c : Changed) (q : Ask) → kg (next c q) + struck_by c q ≡ kg c + entered_by c q
+unfolding changed
 balanced c q =
-    by_case (is_accepted c q) q.strikes (kg (next c q)) (kg c) (on c q.line.lot) q.line.kilograms
-    (λ a s. strike s (eqb-true (next c q).answer 0 a)) (λ a s. enter s (eqb-true (next c q).answer 0 a))
+    by_case (is_accepted c q) (is_strike q) (kg (next c q)) (kg c) (on c (lot_asked q)) (kilograms_asked q)
+    (λ a. accepted_balance q (eqb-true (next c q).answer 0 a))
     (λ r. ap (λ (d : Changed). kg d + 0) (refused_stays c.lines c.totals q (eqb-false (next c q).answer 0 r)))
   where
-    strike : q.strikes ≡ true → (next c q).answer ≡ 0 → kg (next c q) + on c q.line.lot ≡ kg c + 0
-    strike s e =
-        let i = is_struck c.lines c.totals q s in
-        ap (λ (d : Changed). kg d + on c q.line.lot) i
-        ∙ struck_balance c.lines c.totals q.line.lot (ap (λ (d : Changed). d.answer) (sym i) ∙ e)
-
-    enter : q.strikes ≡ false → (next c q).answer ≡ 0 → kg (next c q) + 0 ≡ kg c + q.line.kilograms
-    enter s e =
-        let i = is_entered c.lines c.totals q s in
-        ap (λ (d : Changed). kg d + 0) i ∙ entered_balance c.lines c.totals q.line (ap (λ (d : Changed). d.answer) (sym i) ∙ e)
+    accepted_balance : (q : Ask) → (next c q).answer ≡ 0
+        → kg (next c q) + cond (is_strike q) (on c (lot_asked q)) 0 ≡ kg c + cond (not (is_strike q)) (kilograms_asked q) 0
+    accepted_balance (Enter l) e = entered_balance c.lines c.totals l e
+    accepted_balance (Strike lot) e = struck_balance c.lines c.totals lot e
 
 -- ---- a season
 
@@ -127,29 +113,27 @@ entered_notes roll t l x e =
     ap (λ (d : Changed). on d x) p.gives ∙ ap (weighs x) (in_use_of (enters l (in_use roll t)) (drop (t.lines + 1) roll))
     ∙ weighs_enters x l (in_use roll t)
 
-by_note : (a s b : Bool) (n k o w : ℕ) → o ≡ w → (a ≡ true → s ≡ true → n ≡ cond b 0 o) → (a ≡ true → s ≡ false → n ≡ cond b k o)
-    → (a ≡ false → n ≡ o)
-    → n ≡ cond a (cond b (cond s 0 k) w) w
-by_note true true b n k o w e f g h = f refl refl ∙ ap (cond b 0) e
-by_note true false b n k o w e f g h = g refl refl ∙ ap (cond b k) e
-by_note false s b n k o w e f g h = h refl ∙ e
+by_note : (a b : Bool) (n k o w : ℕ) → o ≡ w → (a ≡ true → n ≡ cond b k o) → (a ≡ false → n ≡ o) → n ≡ cond a (cond b k w) w
+by_note true b n k o w e f g = f refl ∙ ap (cond b k) e
+by_note false b n k o w e f g = g refl ∙ e
 
 next_noted : (c : Changed) (q : Ask) (w : ℕ → ℕ) → Noted c w → Noted (next c q) (noted c q w)
+unfolding changed
 next_noted c q w i x =
-    by_note (is_accepted c q) q.strikes (eqb q.line.lot x) (on (next c q) x) q.line.kilograms (on c x) (w x) (i x)
-    (λ a s. let e = is_struck c.lines c.totals q s in
-    ap (λ (d : Changed). on d x) e ∙ struck_notes c.lines c.totals q.line.lot x
-    (ap (λ (d : Changed). d.answer) (sym e) ∙ eqb-true (next c q).answer 0 a))
-    (λ a s. let e = is_entered c.lines c.totals q s in
-    ap (λ (d : Changed). on d x) e ∙ entered_notes c.lines c.totals q.line x
-    (ap (λ (d : Changed). d.answer) (sym e) ∙ eqb-true (next c q).answer 0 a))
+    by_note (is_accepted c q) (eqb (lot_asked q) x) (on (next c q) x) (cond (is_strike q) 0 (kilograms_asked q)) (on c x) (w x) (i x)
+    (λ a. accepted_notes q (eqb-true (next c q).answer 0 a))
     (λ r. ap (λ (d : Changed). on d x) (refused_stays c.lines c.totals q (eqb-false (next c q).answer 0 r)))
+  where
+    accepted_notes : (q : Ask) → (next c q).answer ≡ 0
+        → on (next c q) x ≡ cond (eqb (lot_asked q) x) (cond (is_strike q) 0 (kilograms_asked q)) (on c x)
+    accepted_notes (Enter l) e = entered_notes c.lines c.totals l x e
+    accepted_notes (Strike lot) e = struck_notes c.lines c.totals lot x e
 
 struck_noted : (qs : List Ask) (c : Changed) (w : ℕ → ℕ) → Noted c w → struck_from qs c ≡ struck_in qs c w
 struck_noted [] c w i = refl
 struck_noted (q ∷ qs) c w i =
-    ap (λ (k : ℕ). cond (is_accepted c q && q.strikes) k 0 + struck_from qs (next c q)) (i q.line.lot)
-    ∙ ap (λ (k : ℕ). cond (is_accepted c q && q.strikes) (w q.line.lot) 0 + k)
+    ap (λ (k : ℕ). cond (is_accepted c q && is_strike q) k 0 + struck_from qs (next c q)) (i (lot_asked q))
+    ∙ ap (λ (k : ℕ). cond (is_accepted c q && is_strike q) (w (lot_asked q)) 0 + k)
     (struck_noted qs (next c q) (noted c q w) (next_noted c q w i))
 
 struck_as_entered : (qs : List Ask) (roll : List Line) → struck_from qs (empty roll) ≡ struck_in qs (empty roll) no_notes

@@ -1,17 +1,18 @@
 -- A roll and totals: when they are sound, what an accepted call rests on and leaves, and that a refused one leaves both as they were.
-use Prim.Native.Nat.{ℕ, zero, suc, ◌+◌, ◌-◌, ◌<◌, ◌≤◌}
+use Prim.Native.Nat.{ℕ, suc, ◌+◌, ◌-◌, ◌<◌, ◌≤◌}
 use mathlib.Core.Path.{◌≡◌, refl, sym, ap, ◌∙◌, subst}
 use mathlib.Core.Logic.{◌⊎◌, inl, inr}
-use mathlib.Core.Bool.{Bool, true, false, cond, not, ◌&&◌}
+use mathlib.Core.Bool.{Bool, true, false, ◌&&◌}
 use mathlib.Core.List.{List, [], ◌∷◌, ◌++◌}
 use native.Mathlib.Omega.{arith}
-use lib.ListN.{length, take, drop, length-append, length-drop}
+use lib.ListN.{length, drop, length-append, length-drop}
 use lib.Dec.{leb, eqb}
 use lib.Seq.{length-take-le, take-append_seam}
 use borrow.Author.Tests.{leb-true, leb-false, eqb-true, le-leb, eq-eqb}
 use Rattle.roll.specs.declared.Line.{Line}
 use Rattle.roll.specs.declared.Totals.{Totals}
 use Rattle.roll.specs.declared.Ask.{Ask}
+use Rattle.roll.specs.declared.Ask.TheVariants.{Enter, Strike}
 use Rattle.roll.specs.Roll.{finite_readings, ordered, all_finite, has, totals_of, no_totals, same_totals, most_lines, in_use, sound}
 use Rattle.roll.specs.Roll.{enters, strikes, zero_line, Changed, refused, accepted, entered, struck, changed}
 use Rattle.roll.proofs.Tests.{bcase, and_left, and_right}
@@ -170,16 +171,12 @@ stays roll t c (k, r) = r ∙ ap (λ (n : ℕ). refused n roll t) (sym (ap (λ (
 
 pub refused_stays : (roll : List Line) (t : Totals) (q : Ask) → ((changed roll t q).answer ≡ 0 → ⊥) → Stays roll t (changed roll t q)
 unfolding changed
-refused_stays roll t q = go q.strikes
-  where
-    go : (s : Bool) → ((cond s (struck roll t q.line.lot) (entered roll t q.line)).answer ≡ 0 → ⊥)
-        → Stays roll t (cond s (struck roll t q.line.lot) (entered roll t q.line))
-    go true d =
-        elim (struck_either roll t q.line.lot)
-        [ inl p ↦ absurd (d (ap (λ (c : Changed). c.answer) p.gives)) | inr r ↦ stays roll t (struck roll t q.line.lot) r ]
-    go false d =
-        elim (entered_either roll t q.line)
-        [ inl p ↦ absurd (d (ap (λ (c : Changed). c.answer) p.gives)) | inr r ↦ stays roll t (entered roll t q.line) r ]
+refused_stays roll t (Enter l) d =
+    elim (entered_either roll t l)
+    [ inl p ↦ absurd (d (ap (λ (c : Changed). c.answer) p.gives)) | inr r ↦ stays roll t (entered roll t l) r ]
+refused_stays roll t (Strike lot) d =
+    elim (struck_either roll t lot)
+    [ inl p ↦ absurd (d (ap (λ (c : Changed). c.answer) p.gives)) | inr r ↦ stays roll t (struck roll t lot) r ]
 
 -- an accepted call leaves a sound roll
 abbrev After : Changed → Type 0
@@ -219,9 +216,5 @@ struck_sound roll t lot e =
 
 pub accepted_sound : (roll : List Line) (t : Totals) (q : Ask) → (changed roll t q).answer ≡ 0 → After (changed roll t q)
 unfolding changed
-accepted_sound roll t q = go q.strikes
-  where
-    go : (s : Bool) → (cond s (struck roll t q.line.lot) (entered roll t q.line)).answer ≡ 0
-        → After (cond s (struck roll t q.line.lot) (entered roll t q.line))
-    go true e = struck_sound roll t q.line.lot e
-    go false e = entered_sound roll t q.line e
+accepted_sound roll t (Enter l) e = entered_sound roll t l e
+accepted_sound roll t (Strike lot) e = struck_sound roll t lot e

@@ -2,7 +2,7 @@
 use Rattle.std.specs.Prelude.{ℕ, ◌≡◌, List, [], ◌∷◌}
 use Rattle.roll.specs.declared.Line.{Line}
 use Rattle.roll.specs.declared.Totals.{Totals}
-use Rattle.roll.specs.Roll.{no_totals, zero_line, Changed, outcome, refused, entered, struck}
+use Rattle.roll.specs.Roll.{no_totals, zero_line, outcome, refused, entered, struck}
 
 -- 17.5 and 18.0, minus zero and a NaN, as their bits
 abbrev low : ℕ

@@ -9,6 +9,7 @@ use Rattle.sheet.specs.Sheet.{finite}
 use Rattle.roll.specs.declared.Line.{Line}
 use Rattle.roll.specs.declared.Totals.{Totals}
 use Rattle.roll.specs.declared.Ask.{Ask}
+use Rattle.roll.specs.declared.Ask.TheVariants.{Enter, Strike}
 
 -- ---- lot lines
 
@@ -162,11 +163,26 @@ struck roll t lot =
 
 -- what is asked: a line to enter, or a lot to strike
 abbrev pub entering : Line → Ask
-entering l = record { strikes = false; line = l }
+entering l = Enter l
 
 abbrev pub striking : ℕ → Ask
-striking lot = record { strikes = true; line = record { lot = lot; colonies = 0; kilograms = 0; moisture = 0; conductivity = 0 } }
+striking lot = Strike lot
 
+-- whether a lot is to be struck; the lot that is asked for; and the kilograms that are to be entered, 0 where a lot is to be struck
+abbrev pub is_strike : Ask → Bool
+is_strike (Enter l) = false
+is_strike (Strike lot) = true
+
+abbrev pub lot_asked : Ask → ℕ
+lot_asked (Enter l) = l.lot
+lot_asked (Strike lot) = lot
+
+abbrev pub kilograms_asked : Ask → ℕ
+kilograms_asked (Enter l) = l.kilograms
+kilograms_asked (Strike lot) = 0
+
+-- what the ask makes of the roll and the totals
 unfoldable pub changed : List Line → Totals → Ask → Changed
 unfolding entered struck
-changed roll t ask = cond ask.strikes (struck roll t ask.line.lot) (entered roll t ask.line)
+changed roll t (Enter l) = entered roll t l
+changed roll t (Strike lot) = struck roll t lot

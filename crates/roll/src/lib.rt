@@ -1,9 +1,14 @@
 // A roll of lot lines and the season's totals, both lent by the caller, and what is asked of them.
 #![tactic(auto)]
 
-// A lot's line: a declaration's five numbers, the readings as their bits.
+ghost use Rattle.std.specs.Prelude.{◌≡◌};
+ghost use Rattle.roll.specs.Roll.{line_of};
+
+use lot::Declaration;
+
+// A lot's line: a declaration's five numbers, the readings as their bits. The default is the line zeroed.
 #[repr(C)]
-#[derive(Clone, Copy)]
+#[derive(Clone, Copy, PartialEq, Eq, Default, Debug)]
 pub struct Line {
     pub lot: u32,
     pub colonies: u32,
@@ -12,9 +17,24 @@ pub struct Line {
     pub conductivity: u32,
 }
 
+// The line of a delivered declaration.
+impl From<Declaration> for Line {
+    ghost from_gives = { λ declaration line. line ≡ line_of declaration };
+
+    fn from(d: Declaration) -> Line {
+        Line {
+            lot: d.lot,
+            colonies: d.colonies,
+            kilograms: d.kilograms,
+            moisture: d.moisture,
+            conductivity: d.conductivity,
+        }
+    }
+}
+
 // The season's totals: kilograms, lines in use, and the highest moisture's bits; measured is 1, or 0 where there is none.
 #[repr(C)]
-#[derive(Clone, Copy)]
+#[derive(Clone, Copy, PartialEq, Eq, Debug)]
 pub struct Totals {
     pub kilograms: u64,
     pub lines: usize,
@@ -23,8 +43,8 @@ pub struct Totals {
 }
 
 // A line to enter, or a lot to strike.
-#[derive(Clone, Copy)]
-pub struct Ask {
-    pub strikes: bool,
-    pub line: Line,
+#[derive(Clone, Copy, PartialEq, Eq, Debug)]
+pub enum Ask {
+    Enter(Line),
+    Strike(u32),
 }
