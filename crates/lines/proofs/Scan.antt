@@ -1,12 +1,13 @@
 -- What a look through the lines sees: their order and their readings, where a lot stands and what it weighs, and what all lines weigh.
 use Prim.Native.Nat.{ℕ, zero, suc, ◌+◌, ◌*◌, ◌<◌, ◌≤◌, ◌^◌}
-use mathlib.Core.Path.{◌≡◌, refl, sym, ◌∙◌}
+use mathlib.Core.Path.{◌≡◌, refl, sym, ap, ◌∙◌}
 use mathlib.Core.Bool.{Bool, true, false, cond, ◌&&◌, ◌||◌, true≢false}
 use mathlib.Core.List.{List, [], ◌∷◌}
 use native.Mathlib.Omega.{arith}
 use lib.ListN.{length, get_or, take}
 use lib.Dec.{leb, ltb, eqb}
 use borrow.Author.Tests.{eqb-true, le-ltb, ne_eqb}
+use Rattle.std.specs.Prelude.{Option, None, Some, is_some}
 use Rattle.roll.specs.declared.Line.{Line}
 use Rattle.roll.specs.Roll.{finite_readings, ordered_from, ordered, all_finite, has, weight, zero_line}
 use Rattle.roll.proofs.Tests.{bcase, or_then}
@@ -54,19 +55,19 @@ sees_fine (l ∷ ls) lot s =
 
 -- ---- the lot
 
-found_or : (a f b : Bool) → cond a true f || b ≡ f || (a || b)
-found_or true true b = refl
-found_or true false b = refl
-found_or false f b = refl
+found_or : (a : Bool) (k : ℕ) (f : Option ℕ) (b : Bool) → is_some (cond a (Some k) f) || b ≡ is_some f || (a || b)
+found_or true k (Some w) b = refl
+found_or true k None b = refl
+found_or false k f b = refl
 
 or_none : (f : Bool) → f ≡ f || false
 or_none true = refl
 or_none false = refl
 
-pub sees_found : (ls : List Line) (lot : ℕ) (s : Seen) → (scanned lot s ls).found ≡ s.found || has lot ls
+pub sees_found : (ls : List Line) (lot : ℕ) (s : Seen) → is_some (scanned lot s ls).found ≡ is_some s.found || has lot ls
 unfolding looked
-sees_found [] lot s = or_none s.found
-sees_found (l ∷ ls) lot s = sees_found ls lot (looked lot s l) ∙ found_or (eqb l.lot lot) s.found (has lot ls)
+sees_found [] lot s = or_none (is_some s.found)
+sees_found (l ∷ ls) lot s = sees_found ls lot (looked lot s l) ∙ found_or (eqb l.lot lot) l.kilograms s.found (has lot ls)
 
 -- how many lots are below
 abbrev pub belows : ℕ → List Line → ℕ
@@ -125,17 +126,18 @@ sees_kilograms (l ∷ ls) lot s = sees_kilograms ls lot (looked lot s l) ∙ sum
     sum : (a b c : ℕ) → a + b + c ≡ a + (b + c)
     sum a b c = omega arith
 
-weighs_within : (ls : List Line) (lot : ℕ) (s : Seen) → s.weight ≤ s.kilograms → (scanned lot s ls).weight ≤ (scanned lot s ls).kilograms
+weighs_within : (ls : List Line) (lot : ℕ) (s : Seen) → ((w : ℕ) → s.found ≡ Some w → w ≤ s.kilograms)
+    → (w : ℕ) → (scanned lot s ls).found ≡ Some w → w ≤ (scanned lot s ls).kilograms
 unfolding looked
 weighs_within [] lot s h = h
 weighs_within (l ∷ ls) lot s h = weighs_within ls lot (looked lot s l) (go (eqb l.lot lot))
   where
-    go : (b : Bool) → cond b l.kilograms s.weight ≤ s.kilograms + l.kilograms
-    go true = omega arith
-    go false = omega arith
+    go : (b : Bool) (w : ℕ) → cond b (Some l.kilograms) s.found ≡ Some w → w ≤ s.kilograms + l.kilograms
+    go true w e = let k : l.kilograms ≡ w = cc in omega arith
+    go false w e = let k : w ≤ s.kilograms = h w e in omega arith
 
 -- on an ordered roll a lot stands once, and it weighs what its line does
-weight_past : (lot k : ℕ) (ls : List Line) (s : Seen) → lot < k → ordered_from k ls ≡ true → (scanned lot s ls).weight ≡ s.weight
+weight_past : (lot k : ℕ) (ls : List Line) (s : Seen) → lot < k → ordered_from k ls ≡ true → (scanned lot s ls).found ≡ s.found
 unfolding looked
 weight_past lot k [] s h o = refl
 weight_past lot k (l ∷ ls) s h o =
@@ -149,7 +151,7 @@ weight_past lot k (l ∷ ls) s h o =
     differs x y z = omega arith
 
 sees_weight : (lot k : ℕ) (ls : List Line) (s : Seen) → ordered_from k ls ≡ true → has lot ls ≡ true
-    → (scanned lot s ls).weight ≡ weighs lot ls
+    → (scanned lot s ls).found ≡ Some (weighs lot ls)
 unfolding looked
 sees_weight lot k [] s o h = absurd (true≢false (sym h))
 sees_weight lot k (l ∷ ls) s o h =
@@ -161,7 +163,7 @@ sees_weight lot k (l ∷ ls) s o h =
     here : l.lot ≡ lot → lot < l.lot + 1
     here x = omega arith
 
-pub weight_is : (lot : ℕ) (ls : List Line) → ordered ls ≡ true → has lot ls ≡ true → (seen_in lot ls).weight ≡ weighs lot ls
+pub weight_is : (lot : ℕ) (ls : List Line) → ordered ls ≡ true → has lot ls ≡ true → (seen_in lot ls).found ≡ Some (weighs lot ls)
 weight_is lot ls o h = sees_weight lot 0 ls nothing_seen o h
 
 weight_fits : (ls : List Line) → Small ls → weight ls ≤ length ls * 2 ^ 32
@@ -186,9 +188,12 @@ fair_all ls lot h s =
     record {
       place_fits = few (sees_place ls lot nothing_seen) (belows_within lot ls) h;
       kilograms_fit = light (sees_kilograms ls lot nothing_seen) (weight_fits ls s) h;
-      weight_within = weighs_within ls lot nothing_seen (omega arith);
+      weight_within = weighs_within ls lot nothing_seen none;
     }
   where
+    none : (w : ℕ) → None ≡ Some w → w ≤ 0
+    none w e = cc
+
     few : {p b n : ℕ} → p ≡ 0 + b → b ≤ n → n ≤ 4096 → p < 2 ^ 63
     few e x y = omega arith
 
@@ -205,8 +210,8 @@ pub within : (lot i n : ℕ) (ls : List Line) → i ≤ n → Within (seen_in lo
 within lot i n ls h =
     record {
       place_within = up (sees_place (take i ls) lot nothing_seen) (belows_within lot (take i ls)) (length_take_within i ls) h;
-      found_within = λ f. below (sees_place (take i ls) lot nothing_seen)
-          (belows_found lot (take i ls) (sym (sees_found (take i ls) lot nothing_seen) ∙ f)) (length_take_within i ls) h;
+      found_within = λ w f. below (sees_place (take i ls) lot nothing_seen)
+          (belows_found lot (take i ls) (sym (sees_found (take i ls) lot nothing_seen) ∙ ap is_some f)) (length_take_within i ls) h;
     }
   where
     up : {p b k : ℕ} → p ≡ 0 + b → b ≤ k → k ≤ i → i ≤ n → p ≤ n

@@ -8,27 +8,29 @@ use mathlib.Core.List.{List, [], ◌∷◌}
 use native.Mathlib.Omega.{arith}
 use lib.Dec.{ltb, eqb}
 use lib.Ieee.{lt}
-use borrow.Author.Tests.{lt-ltb, ltb-true, ltb-false, eqb-true, eqb-false, ne_eqb}
+use borrow.Author.Tests.{ltb-true, ltb-false, eqb-true, eqb-false, ne_eqb}
 use Rattle.sheet.specs.Sheet.{finite}
+use Rattle.std.specs.Prelude as Prelude
+use Rattle.std.specs.Prelude.{None, Some}
 use Rattle.roll.specs.declared.Line.{Line}
 use Rattle.roll.specs.Rank.{rank}
 use Rattle.roll.specs.Roll.{moisture_of, finite_readings, ordered_from, ordered, all_finite, has, better, best, highest, enters, strikes}
 use Rattle.roll.specs.Plain.{Among}
 use Rattle.roll.proofs.Tests.{bcase, and_left, and_right}
-use Rattle.roll.proofs.Ranks.{lt_rank, rank_there}
+use Rattle.roll.proofs.Ranks.{lt_rank}
 use Rattle.roll.proofs.Lines.{rest, enters_ordered, enters_finite, among_enters, enters_among}
 use Rattle.roll.proofs.Highest.{r, moisture_finite, Top, top_is, is_top, highest_none}
 use Rattle.lines.specs.declared.Seen.{Seen}
-use Rattle.lines.specs.Look.{no_top, top_of, raised, merged, looked, nothing_seen, scanned, seen_in}
+use Rattle.lines.specs.Look.{top_of, raised, merged, looked, nothing_seen, scanned, seen_in}
 use Rattle.lines.specs.declared.Top as Seen_top
 
 abbrev pub Mark : Type 0
-Mark = Seen_top.Top
+Mark = Prelude.Option Seen_top.Top
 
 -- the mark of the highest line, or of none
 abbrev pub mark_of : Option Line → Mark
-mark_of none = no_top
-mark_of (some l) = top_of l
+mark_of none = None
+mark_of (some l) = Some (top_of l)
 
 abbrev pub FiniteIn : Option Line → Type 0
 FiniteIn none = Unit
@@ -36,9 +38,10 @@ FiniteIn (some l) = finite (moisture_of l) ≡ true
 
 -- ---- one line more
 
-raised_is : (b : Option Line) (l : Line) → FiniteIn b → finite (moisture_of l) ≡ true → raised (mark_of b) (top_of l) ≡ mark_of (better b l)
+raised_is : (b : Option Line) (l : Line) → FiniteIn b → finite (moisture_of l) ≡ true
+    → Some (raised (mark_of b) (top_of l)) ≡ mark_of (better b l)
 unfolding top_of better
-raised_is none l f g = rw (lt-ltb 0 (rank l.moisture) (rank_there l.moisture g))
+raised_is none l f g = refl
 raised_is (some b) l f g = bcase (lt (moisture_of b) (moisture_of l)) (λ t. rw (t, sym compares ∙ t)) (λ t. rw (t, sym compares ∙ t))
   where
     compares : lt (moisture_of b) (moisture_of l) ≡ ltb (rank b.moisture) (rank l.moisture)
@@ -60,7 +63,7 @@ sees_all : (ls : List Line) (lot : ℕ) (s : Seen) (b : Option Line) → s.all �
 unfolding looked
 sees_all [] lot s b e f a = e
 sees_all (l ∷ ls) lot s b e f a =
-    sees_all ls lot (looked lot s l) (better b l) (ap (λ (t : Mark). raised t (top_of l)) e ∙ raised_is b l f g) (better_finite b l f g)
+    sees_all ls lot (looked lot s l) (better b l) (ap (λ (t : Mark). Some (raised t (top_of l))) e ∙ raised_is b l f g) (better_finite b l f g)
     (and_right (finite_readings l) (all_finite ls) a)
   where
     g : finite (moisture_of l) ≡ true
@@ -75,7 +78,7 @@ the_lot : (lot : ℕ) (s : Seen) (l : Line) → eqb l.lot lot ≡ true → (look
 unfolding looked
 the_lot lot s l e = rw e
 
-other : (lot : ℕ) (s : Seen) (l : Line) → eqb l.lot lot ≡ false → (looked lot s l).others ≡ raised s.others (top_of l)
+other : (lot : ℕ) (s : Seen) (l : Line) → eqb l.lot lot ≡ false → (looked lot s l).others ≡ Some (raised s.others (top_of l))
 unfolding looked
 other lot s l e = rw e
 
@@ -86,7 +89,7 @@ others_past [] lot k s b h o e f a = e
 others_past (l ∷ ls) lot k s b h o e f a =
     let c = rest k l ls o in
     others_past ls lot (l.lot + 1) (looked lot s l) (better b l) (past h c.0) c.1
-    (other lot s l (ne_eqb l.lot lot (λ x. differs h c.0 x)) ∙ ap (λ (t : Mark). raised t (top_of l)) e ∙ raised_is b l f g)
+    (other lot s l (ne_eqb l.lot lot (λ x. differs h c.0 x)) ∙ ap (λ (t : Mark). Some (raised t (top_of l))) e ∙ raised_is b l f g)
     (better_finite b l f g) (and_right (finite_readings l) (all_finite ls) a)
   where
     g : finite (moisture_of l) ≡ true
@@ -107,7 +110,7 @@ sees_others (l ∷ ls) lot k s b o e f a =
     (λ t. others_past ls lot (l.lot + 1) (looked lot s l) b (here (eqb-true l.lot lot t)) c.1 (the_lot lot s l t ∙ e) f more
     ∙ ap (λ (x : Bool). mark_of (best b (cond x ls (l ∷ strikes lot ls)))) (sym t))
     (λ t. sees_others ls lot (l.lot + 1) (looked lot s l) (better b l) c.1
-    (other lot s l t ∙ ap (λ (m : Mark). raised m (top_of l)) e ∙ raised_is b l f g) (better_finite b l f g) more
+    (other lot s l t ∙ ap (λ (m : Mark). Some (raised m (top_of l))) e ∙ raised_is b l f g) (better_finite b l f g) more
     ∙ ap (λ (x : Bool). mark_of (best b (cond x ls (l ∷ strikes lot ls)))) (sym t))
   where
     g : finite (moisture_of l) ≡ true
@@ -129,7 +132,7 @@ others_are lot ls o a = sees_others ls lot 0 nothing_seen none o refl tt a
 abbrev chosen : Line → Line → Line
 chosen b l = cond (eqb (r b) (r l)) (cond (ltb l.lot b.lot) l b) (cond (ltb (r b) (r l)) l b)
 
-merged_chosen : (b l : Line) → merged (top_of b) l ≡ top_of (chosen b l)
+merged_chosen : (b l : Line) → merged (Some (top_of b)) l ≡ top_of (chosen b l)
 unfolding merged top_of
 merged_chosen b l = go (eqb (r b) (r l)) (ltb l.lot b.lot) (ltb (r b) (r l))
   where
@@ -206,21 +209,16 @@ in_enters h l ls t = record {
 }
 
 -- of no line
-merged_none : (l : Line) → finite_readings l ≡ true → merged no_top l ≡ top_of l
-unfolding merged top_of
-merged_none l f =
-    let p = rank_there l.moisture (moisture_finite l f) in
-    rw (ne_eqb 0 (rank l.moisture) (λ e. apart e p), lt-ltb 0 (rank l.moisture) p)
-  where
-    apart : {k : ℕ} → 0 ≡ k → 0 < k → ⊥
-    apart x y = omega arith
+merged_none : (l : Line) → merged None l ≡ top_of l
+unfolding merged
+merged_none l = refl
 
 alone : (l : Line) (ls : List Line) → ls ≡ [] → highest (enters l ls) ≡ some l
 unfolding better
 alone l ls e = ap (λ (x : List Line). highest (enters l x)) e
 
 pub merged_is : (l : Line) (ls : List Line) → ordered ls ≡ true → all_finite ls ≡ true → finite_readings l ≡ true → has l.lot ls ≡ false
-    → merged (mark_of (highest ls)) l ≡ mark_of (highest (enters l ls))
+    → Some (merged (mark_of (highest ls)) l) ≡ mark_of (highest (enters l ls))
 merged_is l ls o a f h = go (highest ls) refl
   where
     low : 0 ≤ l.lot
@@ -229,6 +227,7 @@ merged_is l ls o a f h = go (highest ls) refl
     among : (g : Line) → Top (λ x. (x ≡ l) ⊎ Among x ls) g → highest (enters l ls) ≡ some g
     among g t = is_top (enters l ls) g (enters_ordered l 0 ls low o h) (enters_finite l ls f a) (in_enters g l ls t)
 
-    go : (b : Option Line) → highest ls ≡ b → merged (mark_of b) l ≡ mark_of (highest (enters l ls))
-    go none e = merged_none l f ∙ ap mark_of (sym (alone l ls ((highest_none ls).0 e)))
-    go (some b) e = merged_chosen b l ∙ ap mark_of (sym (among (chosen b l) (chosen_top b l ls (top_is ls b o a e))))
+    go : (b : Option Line) → highest ls ≡ b → Some (merged (mark_of b) l) ≡ mark_of (highest (enters l ls))
+    go none e = ap Some (merged_none l) ∙ ap mark_of (sym (alone l ls ((highest_none ls).0 e)))
+    go (some b) e =
+        ap Some (merged_chosen b l) ∙ ap mark_of (sym (among (chosen b l) (chosen_top b l ls (top_is ls b o a e))))

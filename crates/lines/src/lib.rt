@@ -4,51 +4,47 @@
 
 ghost use Rattle.std.specs.Prelude.{◌≡◌, ◌<◌, ◌^◌};
 ghost use Rattle.roll.specs.Rank.{rank};
-ghost use Rattle.roll.specs.Roll.{line_of, finite_readings};
-ghost use Rattle.lines.specs.Look.{no_top, top_of, raised, merged, Fair, nothing_seen, fine_next, looked};
+ghost use Rattle.roll.specs.Roll.{finite_readings};
+ghost use Rattle.lines.specs.Look.{top_of, raised, merged, Fair, nothing_seen, fine_next, looked};
 
-use lot::Declaration;
 use roll::Line;
 
-// The highest moisture so far: its rank, 0 for none; its bits, and its lot.
-#[derive(Clone, Copy)]
+// The highest moisture so far: its rank, its bits, and its lot.
+#[derive(Clone, Copy, PartialEq, Eq, Debug)]
 pub struct Top {
     pub rank: u32,
     pub bits: u32,
     pub lot: u32,
 }
 
-// What a look has seen: whether all was fine, and the least lot that may come next; how many lots are below the one looked for, whether
-// that was found, and its kilograms; the kilograms of all lines; the highest moisture of all, and of the others.
-#[derive(Clone, Copy)]
+// What a look has seen: whether all was fine, and the least lot that may come next; how many lots are below the one looked for, and its
+// kilograms where it was found; the kilograms of all lines; the highest moisture of all, and of the others, or none.
+#[derive(Clone, Copy, PartialEq, Eq, Debug)]
 pub struct Seen {
     pub fine: bool,
-    pub found: bool,
-    pub weight: u32,
     pub next: u64,
     pub place: usize,
+    pub found: Option<u32>,
     pub kilograms: u64,
-    pub all: Top,
-    pub others: Top,
+    pub all: Option<Top>,
+    pub others: Option<Top>,
 }
 
-// The line of a delivered declaration.
-pub fn line_of(d: Declaration) -> Line
-    ensures { result ≡ line_of d }
-{
-    Line {
-        lot: d.lot,
-        colonies: d.colonies,
-        kilograms: d.kilograms,
-        moisture: d.moisture,
-        conductivity: d.conductivity,
+// Nothing is seen yet.
+impl Default for Seen {
+    ghost is_default = { λ seen. seen ≡ nothing_seen };
+
+    fn default() -> Seen {
+        Seen {
+            fine: true,
+            next: 0,
+            place: 0,
+            found: None,
+            kilograms: 0,
+            all: None,
+            others: None,
+        }
     }
-}
-
-pub fn wide(x: u32) -> u64
-    ensures { (result ≡ x) × (result < 2 ^ 32) }
-{
-    x as u64
 }
 
 // Neither reading is NaN or infinite, by the bits without the sign.
@@ -56,10 +52,7 @@ pub fn wide(x: u32) -> u64
 pub fn is_finite_line(l: Line) -> bool
     ensures { result ≡ finite_readings l }
 {
-    if l.moisture % 0x8000_0000 < 0x7f80_0000 {
-        return l.conductivity % 0x8000_0000 < 0x7f80_0000;
-    }
-    false
+    l.moisture % 0x8000_0000 < 0x7f80_0000 && l.conductivity % 0x8000_0000 < 0x7f80_0000
 }
 
 // The rank of finite bits: a higher float has a higher rank, and both zeros have the same.
@@ -67,12 +60,14 @@ fn rank_of(bits: u32) -> u32
     ensures { result ≡ rank bits }
 {
     if bits < 0x8000_0000 {
-        return 0x8000_0000 + bits;
+        0x8000_0000 + bits
+    } else {
+        0x8000_0000 - bits % 0x8000_0000
     }
-    0x8000_0000 - bits % 0x8000_0000
 }
 
 // A line's moisture, with its rank and its lot.
+#[tactic(auto, unfolding(crate::specs::Look::top_of))]
 fn top_of(l: Line) -> Top
     ensures { result ≡ top_of l }
 {
@@ -84,105 +79,65 @@ fn top_of(l: Line) -> Top
 }
 
 // The next line takes the place of one whose moisture is lower: among equal moistures the first stands.
-fn raise(t: Top, u: Top) -> Top
-    ensures { result ≡ raised t u }
+fn raise(best: Option<Top>, next: Top) -> Top
+    ensures { result ≡ raised best next }
 {
-    if t.rank < u.rank {
-        return u;
+    match best {
+        Some(top) if top.rank >= next.rank => top,
+        _ => next,
     }
-    t
 }
 
 // Any other line takes the place of a lower moisture, and of an equal one of a higher lot: among equal moistures the lowest lot stands.
-pub fn merge(t: Top, l: Line) -> Top
-    ensures { result ≡ merged t l }
+#[tactic(auto, unfolding(crate::specs::Look::merged))]
+pub fn merge(best: Option<Top>, l: Line) -> Top
+    ensures { result ≡ merged best l }
 {
-    let u = top_of(l);
-    if t.rank == u.rank {
-        if u.lot < t.lot {
-            return u;
-        }
-        return t;
-    }
-    raise(t, u)
-}
-
-// Nothing is seen yet.
-pub fn nothing_seen() -> Seen
-    ensures { result ≡ nothing_seen }
-{
-    let none = Top {
-        rank: 0,
-        bits: 0,
-        lot: 0,
-    };
-    Seen {
-        fine: true,
-        found: false,
-        weight: 0,
-        next: 0,
-        place: 0,
-        kilograms: 0,
-        all: none,
-        others: none,
+    let next = top_of(l);
+    match best {
+        Some(top) if top.rank == next.rank && top.lot <= next.lot => top,
+        Some(top) if top.rank == next.rank => next,
+        _ => raise(best, next),
     }
 }
 
-// A line that may stand next: its lot is above those before it, its readings are finite.
-fn is_next(seen: Seen, l: Line) -> bool
-    ensures { result ≡ fine_next seen l }
-{
-    if seen.fine {
-        if seen.next <= wide(l.lot) {
-            return is_finite_line(l);
-        }
+impl Seen {
+    // A line that may stand next: its lot is above those before it, its readings are finite.
+    #[tactic(auto, unfolding(crate::specs::Look::fine_next))]
+    fn is_next(self, l: Line) -> bool
+        ensures { result ≡ fine_next self l }
+    {
+        self.fine && self.next <= u64::from(l.lot) && is_finite_line(l)
     }
-    false
-}
 
-// One more line is seen; its kilograms are a 32-bit number, as in every line that is lent.
-pub fn look(lot: u32, seen: Seen, l: Line) -> Seen
-    requires { Fair seen }
-    ensures { (result ≡ looked lot seen l) × (l.kilograms < 2 ^ 32) }
-{
-    let fine = is_next(seen, l);
-    let next = wide(l.lot) + 1;
-    let kilograms = seen.kilograms + wide(l.kilograms);
-    let top = top_of(l);
-    let all = seen.all;
-    let others = seen.others;
-    if l.lot == lot {
-        return Seen {
-            fine,
-            found: true,
-            weight: l.kilograms,
-            next,
-            place: seen.place,
-            kilograms,
-            all: raise(all, top),
-            others,
+    // One more line is seen, in a look for a lot; its kilograms are a 32-bit number, as in every line that is lent.
+    #[tactic(auto, unfolding(crate::specs::Look::looked))]
+    pub fn look(self, lot: u32, l: Line) -> Seen
+        requires { Fair self }
+        ensures { (result ≡ looked lot self l) × (l.kilograms < 2 ^ 32) }
+    {
+        let top = top_of(l);
+        let seen = Seen {
+            fine: self.is_next(l),
+            next: u64::from(l.lot) + 1,
+            kilograms: self.kilograms + u64::from(l.kilograms),
+            all: Some(raise(self.all, top)),
+            ..self
         };
-    }
-    if l.lot < lot {
-        return Seen {
-            fine,
-            found: seen.found,
-            weight: seen.weight,
-            next,
-            place: seen.place + 1,
-            kilograms,
-            all: raise(all, top),
-            others: raise(others, top),
-        };
-    }
-    Seen {
-        fine,
-        found: seen.found,
-        weight: seen.weight,
-        next,
-        place: seen.place,
-        kilograms,
-        all: raise(all, top),
-        others: raise(others, top),
+        if l.lot == lot {
+            return Seen {
+                found: Some(l.kilograms),
+                ..seen
+            };
+        }
+        let others = Some(raise(self.others, top));
+        if l.lot < lot {
+            return Seen {
+                place: self.place + 1,
+                others,
+                ..seen
+            };
+        }
+        Seen { others, ..seen }
     }
 }

@@ -8,6 +8,6 @@ pub returns-then-bits-lt2147483648 : goal.returns-then-bits-lt2147483648
 unfolding rank
 returns-then-bits-lt2147483648 c = grind (arith, nat_tests)
 
-pub returns : goal.returns
+pub returns-else-bits-lt2147483648 : goal.returns-else-bits-lt2147483648
 unfolding rank
-returns c = grind (arith, nat_tests)
+returns-else-bits-lt2147483648 c = grind (arith, nat_tests)
