@@ -1,232 +1,173 @@
-// The plan of a change: the lines to look through, and then, by what was seen, the answer, the line that is carried from where to where,
-// and the totals afterwards.
+// The plan of a change: the lines to look through, and then, by what was seen, a refusal, or the places whose lines move, the line that is
+// laid down among them, and the totals afterwards.
 #![tactic(auto)]
 
-ghost use Rattle.std.specs.Prelude.{◌≡◌, true, ◌+◌, ◌<◌, ◌≤◌, ◌^◌};
-ghost use Rattle.roll.specs.Roll.{zero_line, same_totals, entering, striking};
+ghost use Rattle.std.specs.Prelude.{ℕ, ◌≡◌, true, Some, IfOk, ◌<◌, ◌≤◌, ◌^◌};
+ghost use Rattle.roll.specs.Roll.{lot_asked};
 ghost use Rattle.lines.specs.Look.{Fair, Within};
-ghost use Rattle.plans.specs.Plan.{long_enough, place_at, top_totals, refusal, begun, enter_plan, strike_plan, sound_seen, decided};
+ghost use Rattle.plans.specs.Plan.{long_enough, top_totals, begun, enter_plan, strike_plan, sound_seen, decided, WithinRoll};
 
 use lines::{Seen, Top};
+use refusal::Refusal;
 use roll::{Ask, Line, Totals};
+use std::ops::Range;
+
+// A roll has at most so many lines.
+const MOST_LINES: usize = 4096;
+
+// A roll of so many lines, and totals, as they are before a change.
+#[derive(Clone, Copy, PartialEq, Eq, Debug)]
+pub struct Before {
+    pub len: usize,
+    pub totals: Totals,
+}
 
 // So many lines are looked through, for a lot.
-#[derive(Clone, Copy)]
+#[derive(Clone, Copy, PartialEq, Eq, Debug)]
 pub struct Look {
     pub n: usize,
     pub lot: u32,
 }
 
-// An answer; a line that is carried over n places from a place on, upwards or downwards; and the totals afterwards.
-#[derive(Clone, Copy)]
+// The way in which lines move by one place.
+#[derive(Clone, Copy, PartialEq, Eq, Debug)]
+pub enum Way {
+    Up,
+    Down,
+}
+
+// The lines at some places move by one, over the last of them or over the first, and a line is laid down in the place that is left; and the
+// totals afterwards.
+#[derive(Drop)]
 pub struct Plan {
-    pub answer: u8,
-    pub from: usize,
-    pub n: usize,
-    pub down: bool,
+    pub places: Range<usize>,
+    pub way: Way,
     pub line: Line,
     pub totals: Totals,
 }
 
-// A line to enter.
-pub fn enter_line(line: Line) -> Ask
-    ensures { result ≡ entering line }
+// The lot that is asked for.
+fn lot_of(ask: Ask) -> u32
+    ensures { result ≡ lot_asked ask }
 {
-    Ask {
-        strikes: false,
-        line,
-    }
-}
-
-// A lot to strike.
-pub fn strike_lot(lot: u32) -> Ask
-    ensures { result ≡ striking lot }
-{
-    let line = Line {
-        lot,
-        colonies: 0,
-        kilograms: 0,
-        moisture: 0,
-        conductivity: 0,
-    };
-    Ask {
-        strikes: true,
-        line,
-    }
-}
-
-// A roll not too long, and no more lines in use than there are.
-#[tactic(auto, unfolding(crate::specs::Plan::long_enough))]
-fn is_long_enough(len: usize, lines: usize) -> bool
-    ensures { (result ≡ long_enough len lines) × (result ≡ true → (lines ≤ len) × (lines ≤ 4096)) }
-{
-    if len <= 4096 {
-        return lines <= len;
-    }
-    false
-}
-
-// The lines in use are looked through, or none where there are too many.
-pub fn begin(len: usize, totals: Totals, ask: Ask) -> Look
-    ensures { (result ≡ begun len totals ask) × (result.n ≤ len) × (result.n ≤ 4096) × (result.n ≤ totals.lines) }
-{
-    let asked = ask.line;
-    if is_long_enough(len, totals.lines) {
-        return Look {
-            n: totals.lines,
-            lot: asked.lot,
-        };
-    }
-    Look {
-        n: 0,
-        lot: asked.lot,
-    }
-}
-
-// The place of a plan's turn i: from the front, or from the back.
-pub fn place_at(plan: Plan, i: usize) -> usize
-    requires { (i < plan.n) × (plan.from + plan.n < 2 ^ 64) }
-    ensures { (result ≡ place_at plan i) × (result < plan.from + plan.n) }
-{
-    if plan.down {
-        return plan.from + (plan.n - 1 - i);
-    }
-    plan.from + i
-}
-
-fn zero_line() -> Line
-    ensures { result ≡ zero_line }
-{
-    Line {
-        lot: 0,
-        colonies: 0,
-        kilograms: 0,
-        moisture: 0,
-        conductivity: 0,
-    }
-}
-
-// Nothing is carried and the totals stay.
-fn refuse(answer: u8, totals: Totals) -> Plan
-    ensures { result ≡ refusal answer totals }
-{
-    let line = zero_line();
-    Plan {
-        answer,
-        from: 0,
-        n: 0,
-        down: false,
-        line,
-        totals,
+    match ask {
+        Ask::Enter(line) => line.lot,
+        Ask::Strike(lot) => lot,
     }
 }
 
 // Totals with this highest moisture, or none.
-fn totals_with(kilograms: u64, lines: usize, top: Top) -> Totals
+#[tactic(auto, unfolding(crate::specs::Plan::top_totals))]
+fn totals_with(kilograms: u64, lines: usize, top: Option<Top>) -> Totals
     ensures { result ≡ top_totals kilograms lines top }
 {
-    if top.rank == 0 {
-        return Totals {
-            kilograms,
-            lines,
-            moisture: 0,
-            measured: 0,
-        };
-    }
+    let (moisture, measured) = match top {
+        Some(top) => (top.bits, 1),
+        None => (0, 0),
+    };
     Totals {
         kilograms,
         lines,
-        moisture: top.bits,
-        measured: 1,
+        moisture,
+        measured,
     }
 }
 
-// Entering: the line is carried up from its place, over the lines above it and the first free one.
-fn plan_enter(len: usize, totals: Totals, line: Line, seen: Seen) -> Plan
-    requires { (totals.kilograms < 2 ^ 63) × (seen.place ≤ totals.lines) }
-    ensures { (result ≡ enter_plan len totals line seen) × (result.from + result.n ≤ len) }
-{
-    let others = seen.others;
-    if lines::is_finite_line(line) {
-        if seen.found {
-            return refuse(22, totals);
-        }
-        if totals.lines < len {
-            let kilograms = totals.kilograms + lines::wide(line.kilograms);
-            let top = lines::merge(others, line);
-            return Plan {
-                answer: 0,
-                from: seen.place,
-                n: totals.lines - seen.place + 1,
-                down: false,
-                line,
-                totals: totals_with(kilograms, totals.lines + 1, top),
-            };
-        }
-        return refuse(23, totals);
+impl Before {
+    // A roll not too long, and no more lines in use than there are.
+    #[tactic(auto, unfolding(crate::specs::Plan::long_enough))]
+    fn is_long_enough(self) -> bool
+        ensures { (result ≡ long_enough self.len self.totals.lines)
+            × (result ≡ true → (self.totals.lines ≤ self.len) × (self.totals.lines ≤ 4096)) }
+    {
+        self.len <= MOST_LINES && self.totals.lines <= self.len
     }
-    refuse(21, totals)
-}
 
-// Striking: a zero line is carried down from the last line in use to the lot's place.
-fn plan_strike(len: usize, totals: Totals, seen: Seen) -> Plan
-    requires { (seen.weight ≤ totals.kilograms) × Within seen totals.lines × (totals.lines ≤ len) }
-    ensures { (result ≡ strike_plan totals seen) × (result.from + result.n ≤ len) }
-{
-    let others = seen.others;
-    if seen.found {
-        let line = zero_line();
-        let kilograms = totals.kilograms - lines::wide(seen.weight);
-        return Plan {
-            answer: 0,
-            from: seen.place,
-            n: totals.lines - seen.place,
-            down: true,
-            line,
-            totals: totals_with(kilograms, totals.lines - 1, others),
-        };
-    }
-    refuse(24, totals)
-}
-
-// All four are equal.
-fn is_same(t: Totals, u: Totals) -> bool
-    ensures { result ≡ same_totals t u }
-{
-    if t.kilograms == u.kilograms {
-        if t.lines == u.lines {
-            if t.moisture == u.moisture {
-                return t.measured == u.measured;
+    // The lines in use are looked through, or none where there are too many.
+    #[tactic(auto, unfolding(crate::specs::Plan::begun))]
+    pub fn begin(self, ask: Ask) -> Look
+        ensures { (result ≡ begun self.len self.totals ask) × (result.n ≤ self.len) × (result.n ≤ 4096) × (result.n ≤ self.totals.lines) }
+    {
+        let lot = lot_of(ask);
+        if self.is_long_enough() {
+            Look {
+                n: self.totals.lines,
+                lot,
             }
+        } else {
+            Look { n: 0, lot }
         }
     }
-    false
-}
 
-// What was seen is sound: a roll not too long, in which the lines in use are in order and finite and have these totals.
-fn is_sound(len: usize, totals: Totals, seen: Seen) -> bool
-    ensures { (result ≡ sound_seen len totals seen) × (result ≡ true → (totals.kilograms ≡ seen.kilograms) × (totals.lines ≤ len)) }
-{
-    let all = seen.all;
-    if is_long_enough(len, totals.lines) {
-        if seen.fine {
-            let was = totals_with(seen.kilograms, totals.lines, all);
-            return is_same(totals, was);
+    // Entering: the lines from the line's place on go up, over the first free one.
+    #[tactic(auto, unfolding(crate::specs::Plan::enter_plan))]
+    fn enter(self, line: Line, seen: Seen) -> Result<Plan, Refusal>
+        requires { (self.totals.kilograms < 2 ^ 63) × (seen.place ≤ self.totals.lines) }
+        ensures { (result ≡ enter_plan self.len self.totals line seen) × IfOk result (WithinRoll self.len) }
+    {
+        let totals = self.totals;
+        if !lines::is_finite_line(line) {
+            return Err(Refusal::NotFinite);
         }
+        if seen.found.is_some() {
+            return Err(Refusal::LotThere);
+        }
+        if totals.lines >= self.len {
+            return Err(Refusal::NoneFree);
+        }
+        let kilograms = totals.kilograms + u64::from(line.kilograms);
+        let top = lines::merge(seen.others, line);
+        Ok(Plan {
+            places: seen.place..totals.lines + 1,
+            way: Way::Up,
+            line,
+            totals: totals_with(kilograms, totals.lines + 1, Some(top)),
+        })
     }
-    false
-}
 
-// What was seen decides the answer, and what is carried where.
-pub fn decide(len: usize, totals: Totals, ask: Ask, seen: Seen) -> Plan
-    requires { Fair seen × Within seen totals.lines }
-    ensures { (result ≡ decided len totals ask seen) × (result.from + result.n ≤ len) }
-{
-    if is_sound(len, totals, seen) {
-        if ask.strikes {
-            return plan_strike(len, totals, seen);
-        }
-        return plan_enter(len, totals, ask.line, seen);
+    // Striking: the lines above the lot's come down over it, and a zero line stands where the last was.
+    #[tactic(auto, unfolding(crate::specs::Plan::strike_plan))]
+    fn strike(self, seen: Seen) -> Result<Plan, Refusal>
+        requires { ((w : ℕ) → seen.found ≡ Some w → w ≤ self.totals.kilograms) × Within seen self.totals.lines
+            × (self.totals.lines ≤ self.len) }
+        ensures { (result ≡ strike_plan self.totals seen) × IfOk result (WithinRoll self.len) }
+    {
+        let totals = self.totals;
+        let Some(weight) = seen.found else {
+            return Err(Refusal::LotNotThere);
+        };
+        let kilograms = totals.kilograms - u64::from(weight);
+        Ok(Plan {
+            places: seen.place..totals.lines,
+            way: Way::Down,
+            line: Line::default(),
+            totals: totals_with(kilograms, totals.lines - 1, seen.others),
+        })
     }
-    refuse(20, totals)
+
+    // What was seen is sound: a roll not too long, in which the lines in use are in order and finite and have these totals.
+    #[tactic(auto, unfolding(crate::specs::Plan::sound_seen))]
+    fn is_sound(self, seen: Seen) -> bool
+        ensures { (result ≡ sound_seen self.len self.totals seen)
+            × (result ≡ true → (self.totals.kilograms ≡ seen.kilograms) × (self.totals.lines ≤ self.len)) }
+    {
+        self.is_long_enough()
+            && seen.fine
+            && self.totals == totals_with(seen.kilograms, self.totals.lines, seen.all)
+    }
+
+    // What was seen decides: a refusal, or which lines move and what is laid down.
+    #[tactic(auto, unfolding(crate::specs::Plan::decided))]
+    pub fn decide(self, ask: Ask, seen: Seen) -> Result<Plan, Refusal>
+        requires { Fair seen × Within seen self.totals.lines }
+        ensures { (result ≡ decided self.len self.totals ask seen) × IfOk result (WithinRoll self.len) }
+    {
+        if !self.is_sound(seen) {
+            return Err(Refusal::NotSound);
+        }
+        match ask {
+            Ask::Enter(line) => self.enter(line, seen),
+            Ask::Strike(_) => self.strike(seen),
+        }
+    }
 }
