@@ -16,7 +16,8 @@ ghost use Rattle.roll.specs.Roll.{line_of, outcome, entered, struck};
 
 use calls::{Outcome, Returned, Sent, Waiting};
 use message::{ReadAnswer, Written};
-use roll::{Line, Totals};
+use refusal::answer_of;
+use roll::{Ask, Line, Totals};
 use sizes::LengthAnswer;
 
 // The length of a book, or answer 9.
@@ -131,7 +132,7 @@ pub extern "C" fn gm_roll_line(declaration: &[u8; 20]) -> Line
     ensures { result ≡ line_of (declaration_at declaration.now 0) }
 {
     let d = octets::declaration_at(declaration, 0);
-    lines::line_of(d)
+    Line::from(d)
 }
 
 // Entering a line on the roll, the totals brought up to date: 20, 21, 22, 23.
@@ -139,7 +140,7 @@ pub extern "C" fn gm_roll_line(declaration: &[u8; 20]) -> Line
 pub extern "C" fn gm_roll_insert(roll: &mut [Line], totals: &mut Totals, line: Line) -> u8
     ensures { outcome result roll.new totals.new ≡ entered roll.old totals.old line }
 {
-    sweep::change(roll, totals, plans::enter_line(line))
+    answer_of(sweep::change(roll, totals, Ask::Enter(line)))
 }
 
 // Striking a lot from the roll, the totals brought up to date: 20, 24.
@@ -147,5 +148,5 @@ pub extern "C" fn gm_roll_insert(roll: &mut [Line], totals: &mut Totals, line: L
 pub extern "C" fn gm_roll_strike(roll: &mut [Line], totals: &mut Totals, lot: u32) -> u8
     ensures { outcome result roll.new totals.new ≡ struck roll.old totals.old lot }
 {
-    sweep::change(roll, totals, plans::strike_lot(lot))
+    answer_of(sweep::change(roll, totals, Ask::Strike(lot)))
 }

@@ -1,3 +1,4 @@
 pub mod Places
 pub mod Carrying
+pub mod Settling
 pub mod Core

@@ -1,5 +1,8 @@
--- The seen counts have room and the place is one of the lines; an accepted change is what the code works out, a refusal leaves all.
-use Rattle.std.proofs.Common.{◌≡◌, List, length, sym, ap, ◌∙◌, subst, arith}
+-- The seen counts have room and the place is one of the lines; what the code works out is what is asked.
+use Rattle.std.proofs.Common.{◌≡◌, List, length, Result, Ok, Err, sym, ap, ◌∙◌, subst, arith}
+use Rattle.std.specs.Result.{IsErrAnd}
+use Rattle.refusal.specs.declared.Refusal.{Refusal}
+use Rattle.refusal.specs.Answer.{answer_of}
 use Rattle.roll.specs.declared.Line.{Line}
 use Rattle.roll.specs.declared.Totals.{Totals}
 use Rattle.roll.specs.declared.Ask.{Ask}
@@ -8,45 +11,43 @@ use Rattle.lines.specs.declared.Seen.{Seen}
 use Rattle.lines.specs.Look.{Fair, Within}
 use Rattle.lines.proofs.Scan.{fair, within}
 use Rattle.plans.specs.declared.Look.{Look}
-use Rattle.plans.specs.declared.Plan.{Plan}
 use Rattle.plans.specs.Plan.{begun, decided}
-use Rattle.sweep.specs.Sweep.{carried, looked_at, settled}
-use Rattle.sweep.proofs.Core.{works, stays_refused}
+use Rattle.sweep.specs.Sweep.{looked_at, settled}
+use Rattle.sweep.proofs.Core.{works}
 use Rattle.sweep.proofs.change.Goals as goal
 
--- the plan, as the code has it, is that of the definition
-planned : (ls : List Line) (t : Totals) (q : Ask) (k : Look) (s : Seen) (p : Plan) → k ≡ begun (length ls) t q → s ≡ looked_at k ls
-    → p ≡ decided (length ls) t q s → p ≡ decided (length ls) t q (looked_at (begun (length ls) t q) ls)
-planned ls t q k s p ek es ep = ep ∙ ap (decided (length ls) t q) (es ∙ ap (λ (x : Look). looked_at x ls) ek)
+-- what is decided, as the code has it, is what the definition decides
+settles : (ls : List Line) (t : Totals) (q : Ask) (k : Look) (s : Seen) → k ≡ begun (length ls) t q → s ≡ looked_at k ls
+    → settled ls t (decided (length ls) t q s) ≡ changed ls t q
+settles ls t q k s ek es =
+    ap (λ (x : Seen). settled ls t (decided (length ls) t q x)) (es ∙ ap (λ (x : Look). looked_at x ls) ek) ∙ works ls t q
 
-accepts : (ls seen after : List Line) (t : Totals) (q : Ask) (p : Plan) → p ≡ decided (length ls) t q (looked_at (begun (length ls) t q) ls)
-    → seen ≡ ls → after ≡ (carried p seen).lines → outcome p.answer after p.totals ≡ changed ls t q
-accepts ls seen after t q p e f g =
-    ap (λ (x : List Line). outcome p.answer x p.totals) (g ∙ ap (λ (x : List Line). (carried p x).lines) f)
-    ∙ ap (λ (x : Plan). settled x ls) e ∙ works ls t q
+-- an error that a `?` hands on is the error
+refused_by : (r : Result Unit Refusal) (e : Refusal) → IsErrAnd r (λ (x : Refusal). x ≡ e) → r ≡ Err e
+refused_by (Ok x) e h = absurd h
+refused_by (Err x) e h = ap Err h
 
-refuses : (ls seen : List Line) (t : Totals) (q : Ask) (p : Plan) → p ≡ decided (length ls) t q (looked_at (begun (length ls) t q) ls)
-    → seen ≡ ls → (p.answer ≡ 0 → ⊥) → outcome p.answer seen t ≡ changed ls t q
-refuses ls seen t q p e f d =
-    ap (λ (x : List Line). outcome p.answer x t) f ∙ ap (λ (x : Plan). outcome x.answer ls t) e
-    ∙ stays_refused ls t q (subst (λ (x : Plan). x.answer ≡ 0 → ⊥) e d) ∙ works ls t q
-
-pub decide-plan-requires : goal.decide-plan-requires
-decide-plan-requires c =
-    let look = c.begin-look.result in
+pub decide-requires : goal.decide-requires
+decide-requires c =
+    let look = c.begin.result in
     let ls = c.args.roll.now in
     let e = c.look_through-seen.ensures in (
-      subst Fair (sym e.0) (fair look.lot look.n ls (omega arith) e.2),
+      subst Fair (sym e.0) (fair look.lot look.n ls (omega arith) e.1),
       subst (λ (s : Seen). Within s c.args.totals.now.lines) (sym e.0)
           (within look.lot look.n c.args.totals.now.lines ls (omega arith)),
     )
 
-pub returns-then-plan-eq0 : goal.returns-then-plan-eq0
-returns-then-plan-eq0 c =
-    let e = c.look_through-seen.ensures in
-    accepts _ _ _ _ _ _ (planned _ _ _ _ _ _ c.begin-look.ensures.0 e.0 c.decide-plan.ensures.0) e.1 c.carry.ensures.1
+pub returns-in_err-plan : goal.returns-in_err-plan
+returns-in_err-plan c =
+    let ls = c.args.roll.now in
+    let t = c.args.totals.now in
+    ap (λ (r : Result Unit Refusal). outcome (answer_of r) ls t) (refused_by c.from_residual.result _ c.from_residual.ensures.1)
+    ∙ ap (settled ls t) (sym c.in_err-plan.was ∙ c.decide.ensures.0)
+    ∙ settles ls t c.args.ask c.begin.result c.look_through-seen.result c.begin.ensures.0 c.look_through-seen.ensures.0
 
-pub returns-else-plan-eq0 : goal.returns-else-plan-eq0
-returns-else-plan-eq0 c =
-    let e = c.look_through-seen.ensures in
-    refuses _ _ _ _ _ (planned _ _ _ _ _ _ c.begin-look.ensures.0 e.0 c.decide-plan.ensures.0) e.1 c.if-plan-eq0.false
+pub returns : goal.returns
+returns c =
+    let ls = c.args.roll.now in
+    let t = c.args.totals.now in
+    ap (λ (x : List Line). outcome 0 x c.in_ok-plan.plan.totals) c.carry.ensures ∙ ap (settled ls t) (sym c.in_ok-plan.was ∙ c.decide.ensures.0)
+    ∙ settles ls t c.args.ask c.begin.result c.look_through-seen.result c.begin.ensures.0 c.look_through-seen.ensures.0
