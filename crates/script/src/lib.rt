@@ -116,6 +116,7 @@ impl<'a> Script<'a> {
     }
 
     // What stands from a place on, which is nothing past the end.
+    // Kept: 0 is nowhere, since a line with no text has this number in place of one, and a script may tell that number.
     pub fn text_at(self, at: u32) -> &'a [u8] {
         if at == 0 {
             return &[];
@@ -186,8 +187,8 @@ impl<'a> Script<'a> {
     // What is done at a place: the words end there, or a word or a number may begin.
     fn read_at(self, at: u32, r: &mut Numbers) {
         match self.text_at(at) {
-            [] | [0 | b'\n', ..] => end_words(0, r),
-            [b'|', ..] => end_words(at.saturating_add(1), r),
+            [] | [0 | b'\n', ..] => end_words(None, r),
+            [b'|', ..] => end_words(Some(at.saturating_add(1)), r),
             _ => {
                 if let Some(word) = self.word_at(at) {
                     match waiting(r) {
@@ -217,10 +218,8 @@ impl<'a> Script<'a> {
 
     // What is set on every line that sets nothing else.
     pub fn usual(self) -> Numbers {
-        match self.name_for(b'U', 0) {
-            Some(name) => self.words(name.place, Numbers::new()),
-            None => self.words(0, Numbers::new()),
-        }
+        let place = self.name_for(b'U', 0).map_or(0, |name| name.place);
+        self.words(place, Numbers::new())
     }
 
     // ---- lines
@@ -253,9 +252,10 @@ fn take_number(word: &[u8], letter: u8, r: &mut Numbers) {
     }
 }
 
-fn end_words(text: u32, r: &mut Numbers) {
+// The words are done, and the line has a text at a place, or none.
+fn end_words(text: Option<u32>, r: &mut Numbers) {
     r.set(DONE, 1);
-    r.set(TEXT, text);
+    r.set(TEXT, text.unwrap_or(0));
     if r.get(WAITS) != 0 {
         r.refuse();
     }

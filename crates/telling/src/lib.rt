@@ -119,11 +119,13 @@ impl<'a, W: Write> Teller<'a, W> {
             self.say(b"not understood:")?;
             return self.tell_line(self.script.text_at(r.get(LINE)), r);
         }
-        if r.get(TEXT) == 0 {
-            return self.say_line(r.get(CALL), r);
+        match r.get(TEXT) {
+            0 => self.say_line(r.get(CALL), r),
+            text => {
+                self.tell(self.script.text_at(text), r)?;
+                self.tell_line(self.script.find(b'z', r.get(TAIL)), r)
+            }
         }
-        self.tell(self.script.text_at(r.get(TEXT)), r)?;
-        self.tell_line(self.script.find(b'z', r.get(TAIL)), r)
     }
 
     // ---- bytes
