@@ -1,6 +1,6 @@
 -- An accepted publication at the bytes is the protocol's step, entered in the book.
 use Prim.Native.Nat.{ℕ, ◌<◌}
-use mathlib.Core.Path.{◌≡◌, refl, ap, ap₂, ◌∙◌}
+use mathlib.Core.Path.{◌≡◌, refl, sym, ap, ap₂, ◌∙◌}
 use mathlib.Core.Bool.{true}
 use mathlib.Core.List.{List}
 use mathlib.Core.Option.{Option, none, some}
@@ -14,7 +14,11 @@ use Rattle.meaning.specs.Book.{n_of, numbers_of, own_of, season_of, look}
 use Rattle.meaning.specs.Legal.{legal, IsDecl}
 use Rattle.meaning.proofs.Stores.{stored_published}
 use Rattle.calls.specs.declared.Outcome.{Outcome}
-use Rattle.calls.specs.Entered.{result_of, handed, wired, published_at}
+use Rattle.protocol.specs.Book.{publishing}
+use Rattle.lot.proofs.Declared.{bytes_of_numbers}
+use Rattle.calls.specs.Call.{called, published}
+use Rattle.calls.proofs.Published.{published_bytes}
+use Rattle.calls.specs.Entered.{Result, result_of, handed, wired, published_at}
 use Rattle.calls.proofs.Entered.{letter_wired, entered_is}
 
 -- the own entry marked, and its SEND given
@@ -30,3 +34,8 @@ publication_entered b h bytes c l v dv n at own season b₁ o en ea eo es e₁ e
     let place = ea ∙ ap (λ (x : ℕ). slot_place x c) en in
     ap₂ result_of (eq ∙ ap (λ (x : Option (List ℕ)). handed 0 x none) m) (e₁ ∙ ap (λ (x : ℕ). put_slot b x v) place)
     ∙ entered_is b (own_of b) c (publishes v (look b (own_of b) c)) (put_slot b (slot_place (n_of b) c) v) s
+
+-- 20 bytes, as publishing takes them
+pub as_called : (b : List ℕ) → legal b ≡ true → (c : ℕ) (v : Decl) → IsDecl v → (x : Result)
+    → x ≡ called b (publishing c v) → x ≡ published b c v
+as_called b h c v dv = published_bytes b c v v dv.long dv.bytes (sym (bytes_of_numbers v dv.long dv.bytes)) h
