@@ -10,7 +10,9 @@ use lib.ListN.{length, get_or, replicate}
 use borrow.Author.Tests.{lt-ltb, le-ltb}
 use Rattle.lot.specs.declared.Declaration.{Declaration}
 use Rattle.lot.specs.Declaration.{declaration_at, bytes_of}
-use Rattle.message.specs.Message.{is_kind, request_wire, fields, wire}
+use Rattle.message.specs.declared.Kind as message
+use Rattle.message.specs.declared.Kind.TheVariants.{Send, Echo, Ready}
+use Rattle.message.specs.Message.{number_of, is_kind, request_wire, fields, wire}
 use Rattle.entry.specs.Entry.{Decl, Kind, SEND, ECHO, READY, Entry, outgoing, is_some, PerEntry}
 use Rattle.meaning.specs.Slot.{part, slot_at}
 use Rattle.meaning.specs.Layout.{slot_length, place_from, slot_place, published_slot, send_slot, ready_sent_slot}
@@ -21,8 +23,7 @@ use Rattle.meaning.proofs.Entries.{look_is}
 use Rattle.again.proofs.Same.{part_numbers}
 use Rattle.calls.specs.Entered.{kind_of, letter, letters, kind_number}
 use Rattle.layout.specs.Places.{Begins}
-use Rattle.entry.proofs.Fullness.{empty_holds}
-use Rattle.calls.proofs.KindNumber.{kind_known, kind_unknown, kind_send, kind_echo, kind_ready, no_kind, number_of_kind}
+use Rattle.calls.proofs.KindNumber.{kind_known, kind_unknown, kind_send, kind_echo, kind_ready, number_of_kind}
 use Rattle.meaning.proofs.Seen.{from_base, heard_seen, sent_seen, published_seen}
 use Rattle.calls.specs.declared.Sent.{Sent}
 use Rattle.calls.specs.Again.{returned, sending, said_of, sent_on, sent_of, sent_as}
@@ -38,9 +39,9 @@ module _ (b : List ℕ) where
       let w = q ∙ ap request_wire e in
       rw h (λ i. record { answer = 0; request = w i })
 
-  pub returned_no_book : legal b ≡ false → record { answer = 1; request = replicate 11 0 } ≡ returned b
+  pub returned_no_book : legal b ≡ false → (answer : ℕ) → answer ≡ 1 → record { answer = answer; request = replicate 11 0 } ≡ returned b
   unfolding returned
-  returned_no_book h = rw h
+  returned_no_book h answer e = rw (h, e)
 
 -- ---- what was sent
 
@@ -55,16 +56,13 @@ module _ (b : List ℕ) (at kind j c : ℕ) (room : at + slot_length ≤ length 
       go false e = absurd (true≢false (sym t ∙ (rw e at er)))
 
   pub sent_full : r ≡ true → (d : Declaration) → d ≡ declaration_at b (at + 1) → (v : Decl) → v ≡ bytes_of d → (season : ℕ)
-      → season ≡ season_of b → (m : List ℕ) → m ≡ fields kind season j c v
-      → record { answer = 0; gives = true; message = m } ≡ sending 0 (letter_of kind (season_of b) j c (slot_at b at))
+      → season ≡ season_of b → (k : ℕ) → k ≡ kind → (m : List ℕ) → m ≡ fields k season j c v
+      → some m ≡ letter_of kind (season_of b) j c (slot_at b at)
   unfolding wire
-  sent_full t d ed v ev season es m em =
+  sent_full t d ed v ev season es k ek m em =
       let n = ed ∙ sym (part_numbers b (at + 1) (omega arith)) in
-      let y = em ∙ (λ i. fields kind (es i) j c ((ev ∙ ap bytes_of n) i)) in
-      rw (full_part t) (λ i. record { answer = 0; gives = true; message = y i })
-
-  pub sent_empty : r ≡ false → (w : Sent) → w ≡ sending 0 none → w ≡ sending 0 (letter_of kind (season_of b) j c (slot_at b at))
-  sent_empty t w ew = rw (empty_holds (slot_at b at) (sym er ∙ t)) ew
+      let y = em ∙ (λ i. fields (ek i) (es i) j c ((ev ∙ ap bytes_of n) i)) in
+      rw (full_part t) (ap some y)
 
 -- the slot of each kind
 module _ (b : List ℕ) (kind j c : ℕ) (has : Has b j c) (w : Sent) where
@@ -101,9 +99,6 @@ module _ (b : List ℕ) (kind j c : ℕ) (has : Has b j c) (w : Sent) where
       ∙ others_published (n_of b) (numbers_of b) (own_of b) (slot_of b) j c (λ q. f (q ∙ sym eo))
       in
       from SEND (kind_send kind e) none (sym none_there) ew
-
-  pub sent_no_kind_here : (kind ≡ 1 → ⊥) → (kind ≡ 2 → ⊥) → (kind ≡ 3 → ⊥) → w ≡ sending 2 none → Is
-  sent_no_kind_here f g h ew = ew ∙ ap (λ (o : Option Kind). sent_as b o j c) (sym (no_kind kind f g h))
 
   module _ (base : ℕ) (at : Begins b j c base) where
     pub sent_echo : kind ≡ 2 → (send : ℕ) → send ≡ place_from base send_slot
@@ -147,3 +142,10 @@ module _ (b : List ℕ) (kind j c : ℕ) (w : Sent) where
   pub sent_there : legal b ≡ true → w ≡ sent_as b (kind_of kind) j c → w ≡ sent_of b kind j c
   unfolding sent_of
   sent_there h e = rw h e
+
+-- the kinds that there are
+pub kind_is : (k : message.Kind) (n : ℕ) → number_of k ≡ n → is_kind n ≡ true
+unfolding is_kind
+kind_is Send n e = rw (← e) refl
+kind_is Echo n e = rw (← e) refl
+kind_is Ready n e = rw (← e) refl
