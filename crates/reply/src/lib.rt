@@ -83,10 +83,8 @@ fn with_kind(message: &[u8], kind: u8) -> [u8; 36]
     requires { length message.now ≡ 36 }
     ensures { result ≡ with_kind kind message.now }
 {
-    let mut out: [u8; 36] = [0; 36];
-    for i in 0..36 {
-        out[i] = message[i];
-    }
+    let mut out = [0; 36];
+    out.copy_from_slice(&message[..36]);
     out[3] = kind;
     out
 }

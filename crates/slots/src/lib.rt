@@ -24,13 +24,6 @@ struct Strays {
     last: u64,
 }
 
-// A byte as a number of 64 bits.
-fn wide(x: u8) -> u64
-    ensures { (result ≡ x) × (result < 256) }
-{
-    x as u64
-}
-
 // The number whose eight bytes stand at i, the lowest first: what compiles is one load, where the highest first would be turned round.
 pub fn eight_at(bytes: &[u8], i: usize) -> u64
     requires { i + 7 < length bytes.now }
@@ -39,14 +32,9 @@ pub fn eight_at(bytes: &[u8], i: usize) -> u64
         + get_or s (i + 4) 0 * 4294967296 + get_or s (i + 5) 0 * 1099511627776 + get_or s (i + 6) 0 * 281474976710656
         + get_or s (i + 7) 0 * 72057594037927936 }
 {
-    wide(bytes[i])
-        + wide(bytes[i + 1]) * 256
-        + wide(bytes[i + 2]) * 65536
-        + wide(bytes[i + 3]) * 16777216
-        + wide(bytes[i + 4]) * 4294967296
-        + wide(bytes[i + 5]) * 1099511627776
-        + wide(bytes[i + 6]) * 281474976710656
-        + wide(bytes[i + 7]) * 72057594037927936
+    let mut eight = [0; 8];
+    eight.copy_from_slice(&bytes[i..i + 8]);
+    u64::from_le_bytes(eight)
 }
 
 // Whether the slot at `at` holds something.
@@ -108,9 +96,7 @@ pub fn lay_at(b: &mut [u8], at: usize, bytes: &[u8])
     requires { at + length bytes.now ≤ length b.old }
     ensures { b.new ≡ paste b.old at bytes.now (length bytes.now) }
 {
-    for i in 0..bytes.len() {
-        b[at + i] = bytes[i];
-    }
+    b[at..at + bytes.len()].copy_from_slice(bytes);
 }
 
 // Fills the slot at `at` with d.

@@ -18,15 +18,14 @@ pub fn count_same(b: &[u8], at: usize, n: usize, d: [u8; 20]) -> usize
     let first = slots::eight_at(&slot, 0);
     let second = slots::eight_at(&slot, 5);
     let third = slots::eight_at(&slot, 13);
-    let mut found: usize = 0;
+    let mut found = 0;
     for p in 0..n {
         let i = at + slots::LENGTH * p;
-        if slots::eight_at(b, i) == first {
-            if slots::eight_at(b, i + 5) == second {
-                if slots::eight_at(b, i + 13) == third {
-                    found += 1;
-                }
-            }
+        if slots::eight_at(b, i) == first
+            && slots::eight_at(b, i + 5) == second
+            && slots::eight_at(b, i + 13) == third
+        {
+            found += 1;
         }
     }
     found

@@ -2,10 +2,10 @@
 use Rattle.std.proofs.Common.{rules, ◌≡◌, ℕ, length, get_or, Fits, w8}
 use Rattle.vouchers.proofs.Counting.{none_differs, first_differs, second_differs, third_differs, counted}
 use Rattle.vouchers.proofs.count_same.Goals as goal
-use Rattle.vouchers.proofs.count_same.Goals.{then-eight_at-first+then-eight_at-second+then-eight_at-third}
-use Rattle.vouchers.proofs.count_same.Goals.{then-eight_at-first+then-eight_at-second+else-eight_at-third}
-use Rattle.vouchers.proofs.count_same.Goals.{then-eight_at-first+else-eight_at-second}
-use Rattle.vouchers.proofs.count_same.Goals.{else-eight_at-first}
+use Rattle.vouchers.proofs.count_same.Goals.{then-eight_at-first+then-eight_at-second+then-eight_at-third, else-eight_at-first}
+use Rattle.vouchers.proofs.count_same.Goals.{else-eight_at-first-via-then-eight_at-first+then-eight_at-second+else-eight_at-third}
+use Rattle.vouchers.proofs.count_same.Goals.{else-eight_at-first-via-then-eight_at-first+else-eight_at-second}
+use Rattle.vouchers.proofs.count_same.Goals.{else-eight_at-first-via-else-eight_at-first}
 
 pub loop-p-preserved : goal.loop-p-preserved
 loop-p-preserved c =
@@ -20,13 +20,17 @@ loop-p-preserved c =
       | then-eight_at-first+then-eight_at-second+then-eight_at-third w ↦
           none_differs a.b.now a.at x y z _ _ _ more so_far _ _ _ _ first w.eight_at-then-eight_at-first.ensures
           w.eight_at-then-eight_at-second.ensures w.if-eight_at-first.true w.if-eight_at-second.true w.if-eight_at-third.true w.found-is
-      | then-eight_at-first+then-eight_at-second+else-eight_at-third w ↦
-          third_differs a.b.now a.at x y z _ _ _ more so_far _ _ w.eight_at-then-eight_at-second.ensures w.if-eight_at-third.false
-          w.found-is
-      | then-eight_at-first+else-eight_at-second w ↦
-          second_differs a.b.now a.at x y z _ _ _ more so_far _ _ w.eight_at-then-eight_at-first.ensures w.if-eight_at-second.false
-          w.found-is
-      | else-eight_at-first w ↦ first_differs a.b.now a.at x y z _ _ _ more so_far _ _ first w.if-eight_at-first.false w.found-is
+      | else-eight_at-first w ↦
+          elim w.else-eight_at-first.branch [
+            | else-eight_at-first-via-then-eight_at-first+then-eight_at-second+else-eight_at-third v ↦
+                third_differs a.b.now a.at x y z _ _ _ more so_far _ _ v.eight_at-then-eight_at-second.ensures v.if-eight_at-third.false
+                w.found-is
+            | else-eight_at-first-via-then-eight_at-first+else-eight_at-second v ↦
+                second_differs a.b.now a.at x y z _ _ _ more so_far _ _ v.eight_at-then-eight_at-first.ensures v.if-eight_at-second.false
+                w.found-is
+            | else-eight_at-first-via-else-eight_at-first v ↦
+                first_differs a.b.now a.at x y z _ _ _ more so_far _ _ first v.if-eight_at-first.false w.found-is
+          ]
     ]
 
 pub returns : goal.returns
