@@ -172,6 +172,8 @@ impl EntryAt {
     }
 }
 
+// Kept: five names for five bytes of the header; one function generic in the place, as field::<N>(b), would say no more than b[N] does.
+
 // Houses n.
 pub fn n_of(b: &[u8]) -> u8
     requires { n_place < length b.now }

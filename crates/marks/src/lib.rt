@@ -2,17 +2,21 @@
 #![tactic(auto)]
 
 ghost use Rattle.std.specs.Prelude.{◌≡◌, cond, ◌&&◌, ◌+◌, ◌<◌, ◌≤◌, leb, length};
-ghost use Rattle.entry.specs.Entry.{is_none};
+ghost use Rattle.card.specs.Card.{counts_of};
+ghost use Rattle.card.specs.Count.{count};
+ghost use Rattle.entry.specs.Entry.{is_none, holds};
 ghost use Rattle.protocol.specs.Steps.{recording};
 ghost use Rattle.meaning.specs.Slot.{slot_at, put_slot};
-ghost use Rattle.meaning.specs.Layout.{slot_length};
+ghost use Rattle.meaning.specs.Layout.{slot_length, place_from};
+ghost use Rattle.meaning.specs.Book.{down_of};
 ghost use Rattle.layout.specs.Places.{Lies};
 ghost use Rattle.marks.specs.Marks.{echo_mark, ready_marks};
 
+use card::Counts;
 use layout::EntryAt;
 
 // Whether vouchers now make a READY, and deliver.
-#[derive(Clone, Copy)]
+#[derive(Clone, Copy, PartialEq, Eq, Debug)]
 pub struct Marks {
     pub gives: bool,
     pub delivers: bool,
@@ -38,10 +42,7 @@ fn is_reached(book: &[u8], at: usize, least: usize, votes: usize) -> bool
     requires { at < length book.now }
     ensures { result ≡ is_none (slot_at book.now at) && leb least votes }
 {
-    if slots::is_full(book, at) {
-        return false;
-    }
-    least <= votes
+    !slots::is_full(book, at) && least <= votes
 }
 
 // Fills the slot at `at` where `yes` says so.
@@ -54,14 +55,23 @@ pub fn mark(book: &mut [u8], at: usize, yes: bool, d: [u8; 20])
     }
 }
 
+// The counts for the book's houses, and how many of the row of vouchers that begins at `row` hold d.
+fn tally(book: &[u8], entry: EntryAt, row: usize, d: [u8; 20]) -> (Counts, usize)
+    requires { Lies book.now entry × (place_from row entry.n ≤ length book.now) }
+    ensures { (result.0 ≡ counts_of entry.n (down_of book.now))
+        × (result.1 ≡ count (λ p. holds (slot_at book.now (place_from row p)) d) entry.n) }
+{
+    let n = usize::from(entry.n);
+    let counts = counts::counts_of(n, usize::from(layout::down_of(book)));
+    (counts, vouchers::count_same(book, row, n, d))
+}
+
 // Whether the ECHOes of d now make a READY.
 pub fn echo_mark(book: &[u8], entry: EntryAt, d: [u8; 20]) -> bool
     requires { Lies book.now entry }
     ensures { result ≡ echo_mark book.now entry.base d }
 {
-    let n = usize::from(entry.n);
-    let counts = counts::counts_of(n, usize::from(layout::down_of(book)));
-    let votes = vouchers::count_same(book, entry.echo(0), n, d);
+    let (counts, votes) = tally(book, entry, entry.echo(0), d);
     is_reached(book, entry.ready_sent(), counts.quorum, votes)
 }
 
@@ -70,9 +80,7 @@ pub fn ready_marks(book: &[u8], entry: EntryAt, d: [u8; 20]) -> Marks
     requires { Lies book.now entry }
     ensures { result ≡ ready_marks book.now entry.base d }
 {
-    let n = usize::from(entry.n);
-    let counts = counts::counts_of(n, usize::from(layout::down_of(book)));
-    let votes = vouchers::count_same(book, entry.ready(0), n, d);
+    let (counts, votes) = tally(book, entry, entry.ready(0), d);
     Marks {
         gives: is_reached(book, entry.ready_sent(), counts.amplify, votes),
         delivers: is_reached(book, entry.delivered(), counts.deliver, votes),

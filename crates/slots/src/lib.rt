@@ -9,7 +9,8 @@ ghost use Rattle.meaning.specs.Slot.{slot_at, slot_ok, put_slot};
 ghost use Rattle.meaning.specs.Legal.{row_ok};
 ghost use Rattle.slots.specs.Strays.{clear};
 
-// The bytes of a slot.
+// The bytes of a slot. Kept: a slot is named by its place in the book's bytes, as the definitions name it (`slot_at`, `put_slot`), and not by
+// a type of its own, which would ask for the same room where it is made.
 pub const LENGTH: usize = 21;
 
 // The slots that one turn of the scan gathers.
@@ -67,6 +68,7 @@ fn gather_row(b: &[u8], at: usize, k: usize, s: Strays) -> Strays
     ensures { clear result ≡ clear s && row_ok b.now at k }
 {
     let mut strays = s;
+    // Kept: slots are counted from `at` on, as the clause counts them (`row_ok`, `place_from`), and not by chunks_exact.
     for i in 0..k {
         strays = gather(b, at + LENGTH * i, strays);
     }

@@ -19,6 +19,7 @@ pub fn count_same(b: &[u8], at: usize, n: usize, d: [u8; 20]) -> usize
     let second = slots::eight_at(&slot, 5);
     let third = slots::eight_at(&slot, 13);
     let mut found = 0;
+    // Kept: slots are counted from `at` on, as the clause counts them (`place_from`), and not by chunks_exact.
     for p in 0..n {
         let i = at + slots::LENGTH * p;
         if slots::eight_at(b, i) == first
