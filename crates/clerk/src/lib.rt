@@ -2,186 +2,149 @@
 // with them what follows a call in a season, where a message given is posted, who asked is helped, and a house that returns sends again.
 #![tactic(auto)]
 
-ghost use Rattle.std.specs.Prelude.{◌<◌};
-
 use calls::Waiting;
-use hand::{Came, answered, nothing};
-use octets::wide;
-use post::{APART, BOOKS, List, byte, copy, has};
-use script::{BYTES, CALL, FROM, GIVES, HONEST, HOUSES, KIND, NUMBER, Numbers, OWN, SENDER};
+use hand::answered;
+use message::Kind;
+use post::{List, byte, has};
+use script::{CALL, Call, FROM, GIVES, HONEST, HOUSES, KIND, NUMBER, Numbers, OWN, SENDER};
+use stage::{Gives, Scene, given};
 use std::io;
 use std::io::Write;
-use std::num::wrapping_add_u32;
-use telling::Teller;
+use std::ops::Range;
 
 const WAITS: u8 = b'e';
-
-// The calls, by their numbers in the script.
-const SENT: u32 = 13;
-
-const WAITING: u32 = 14;
-
-const SHOW: u32 = 16;
-
-const BACK: u32 = 27;
 
 // What is told where nothing was sent, by its number in the script.
 const NOTHING: u32 = 32;
 
-// ---- the calls
+// Which entry is told as the earliest that waits, by its number in the script.
+#[derive(Clone, Copy, PartialEq, Eq, Debug)]
+enum Waits {
+    None = 0,
+    Entry = 1,
+    Refused = 2,
+}
 
-fn come_back(book: &[u8], r: Numbers) -> Came {
+impl From<&Waiting> for Waits {
+    fn from(w: &Waiting) -> Waits {
+        match (w.answer, w.waits) {
+            (0, true) => Waits::Entry,
+            (0, false) => Waits::None,
+            _ => Waits::Refused,
+        }
+    }
+}
+
+// ---- the calls, each with the message that it gives, which is zeros where it gives none
+// Kept: zeros in place of None, since they are posted where the script sets g itself.
+
+fn come_back(book: &[u8], r: &mut Numbers) -> [u8; 36] {
     let back = again::come_back(book);
-    let request = back.request;
+    answered(r, back.answer);
     let mut message: [u8; 36] = [0; 36];
-    copy(&mut message, 0, &request, 0);
-    Came {
-        r: answered(r, back.answer),
-        message,
-    }
+    message[..11].copy_from_slice(&back.request);
+    message
 }
 
-fn sent(book: &[u8], r: Numbers) -> Came {
+fn sent(book: &[u8], r: &mut Numbers) -> [u8; 36] {
     let sent = again::sent_on(book, byte(r.get(KIND)), r.get(SENDER), r.get(NUMBER));
-    let message = sent.message;
-    let mut r = answered(r, sent.answer);
-    r.set(GIVES, hand::given(sent.answer, sent.gives, false));
-    Came { r, message }
+    answered(r, sent.answer);
+    r.set(GIVES, given(sent.answer, sent.gives, false) as u32);
+    sent.message
 }
 
-// An entry that waits (1), none (0), or a refusal (2).
-fn waiting_of(w: Waiting) -> u32 {
-    if w.answer != 0 {
-        return 2;
-    }
-    u32::from(w.waits)
-}
-
-fn waiting(book: &[u8], r: Numbers) -> Came {
+fn waiting(book: &[u8], r: &mut Numbers) -> [u8; 36] {
     let w = waiting::earliest_waiting(book);
-    let mut r = answered(r, w.answer);
-    r.set(WAITS, waiting_of(w));
-    r.set(NUMBER, wide(w.number));
-    r.set(SENDER, wide(w.sender));
-    nothing(r)
+    answered(r, w.answer);
+    r.set(WAITS, Waits::from(&w) as u32);
+    r.set(NUMBER, u32::from(w.number));
+    r.set(SENDER, u32::from(w.sender));
+    [0; 36]
 }
 
-fn on_book(book: &[u8], r: Numbers) -> Came {
-    match r.get(CALL) {
-        SENT => sent(book, r),
-        WAITING => waiting(book, r),
+fn on_book(book: &[u8], call: Call, r: &mut Numbers) -> [u8; 36] {
+    match call {
+        Call::Sent => sent(book, r),
+        Call::Waiting => waiting(book, r),
         _ => come_back(book, r),
     }
 }
 
 // A call on the book of a house, where the desk has it.
-fn on_place(desk: &[u8], r: Numbers, own: u32, bytes: u32) -> Came {
-    let first = BOOKS + APART * own as usize;
-    let end = first + bytes as usize;
-    if end <= desk.len() {
-        return on_book(&desk[first..end], r);
+fn look_up(desk: &[u8], call: Call, r: &mut Numbers) -> [u8; 36] {
+    match desk.get(outset::place_of(r)) {
+        Some(book) => on_book(book, call, r),
+        None => {
+            r.refuse();
+            [0; 36]
+        }
     }
-    let mut r = r;
-    r.refuse();
-    nothing(r)
-}
-
-fn look_up(desk: &[u8], r: Numbers) -> Came {
-    let r = outset::with_length(r);
-    on_place(desk, r, r.get(OWN), r.get(BYTES))
 }
 
 // ---- what is sent again
 
-// What a house sent of a kind, to the houses from `first` to before `end`.
+// What a house sent of a kind.
 fn send_kind<W: Write>(
-    t: &mut Teller<'_, W>,
-    desk: &mut [u8],
-    r: Numbers,
-    kind: u32,
-    first: u32,
-    end: u32,
+    scene: &mut Scene<'_, W>,
+    mut r: Numbers,
+    kind: Kind,
+    to: &Range<u32>,
 ) -> io::Result<()> {
-    let mut r = r;
-    r.set(CALL, SENT);
-    r.set(KIND, kind);
-    let came = look_up(desk, r);
-    let r = came.r;
-    let message = came.message;
-    if r.get(GIVES) == 1 {
-        return stage::send_again(t, desk, hand::read(r, &message), message, first, end);
+    r.set(CALL, Call::Sent as u32);
+    r.set(KIND, u32::from(u8::from(kind)));
+    let message = look_up(scene.desk, Call::Sent, &mut r);
+    if r.get(GIVES) == Gives::Message as u32 {
+        hand::read(&mut r, &message);
+        return scene.send_again(r, message, to);
     }
     Ok(())
 }
 
 // All that a house sent on the entry of house 0, which alone publishes in these seasons.
-fn send_all<W: Write>(
-    t: &mut Teller<'_, W>,
-    desk: &mut [u8],
-    r: Numbers,
-    first: u32,
-    end: u32,
-) -> io::Result<()> {
-    let before = has(desk, List::Copies.place(), 0);
-    send_kind(t, desk, r, 1, first, end)?;
-    send_kind(t, desk, r, 2, first, end)?;
-    send_kind(t, desk, r, 3, first, end)?;
-    if has(desk, List::Copies.place(), 0) == before {
-        return t.say_line(NOTHING, &r);
+fn send_all<W: Write>(scene: &mut Scene<'_, W>, r: Numbers, to: &Range<u32>) -> io::Result<()> {
+    let before = has(scene.desk, List::Copies.place(), 0);
+    for kind in [Kind::Send, Kind::Echo, Kind::Ready] {
+        send_kind(scene, r, kind, to)?;
+    }
+    if has(scene.desk, List::Copies.place(), 0) == before {
+        return scene.teller.say_line(NOTHING, &r);
     }
     Ok(())
 }
 
 // ---- what follows a call
 
-// A helper sends to the asker alone.
-fn help<W: Write>(t: &mut Teller<'_, W>, desk: &mut [u8], r: Numbers) -> io::Result<()> {
-    let asker = r.get(FROM);
-    send_all(t, desk, r, asker, wrapping_add_u32(asker, 1))
-}
-
-// What came of a call is told; in a season a message given is posted, and who asked is helped.
-pub fn follow<W: Write>(
-    t: &mut Teller<'_, W>,
-    desk: &mut [u8],
-    r: Numbers,
-    message: [u8; 36],
-) -> io::Result<()> {
-    t.told(&r)?;
+// What came of a call is told; in a season a message given is posted, and who asked is helped: a helper sends to the asker alone.
+pub fn follow<W: Write>(scene: &mut Scene<'_, W>, r: Numbers, message: [u8; 36]) -> io::Result<()> {
+    scene.teller.told(&r)?;
     if r.get(HONEST) != 0 {
-        stage::give(desk, r, message);
-        if r.get(GIVES) == 2 {
-            return help(t, desk, r);
+        scene.give(&r, message);
+        if r.get(GIVES) == Gives::Help as u32 {
+            let asker = r.get(FROM);
+            return send_all(scene, r, &(asker..asker.wrapping_add(1)));
         }
     }
     Ok(())
 }
 
-fn look<W: Write>(t: &mut Teller<'_, W>, desk: &mut [u8], r: Numbers) -> io::Result<()> {
-    let came = look_up(desk, r);
-    let r = came.r;
-    let message = came.message;
-    follow(t, desk, r, message)
+fn look<W: Write>(scene: &mut Scene<'_, W>, call: Call, mut r: Numbers) -> io::Result<()> {
+    let message = look_up(scene.desk, call, &mut r);
+    follow(scene, r, message)
 }
 
 // On return a house sends again to all what it has sent and asks all for help.
-fn start_again<W: Write>(t: &mut Teller<'_, W>, desk: &mut [u8], r: Numbers) -> io::Result<()> {
-    stage::go_up(desk, r.get(OWN));
-    let came = look_up(desk, r);
-    let r = came.r;
-    let request = came.message;
-    t.told(&r)?;
-    send_all(t, desk, r, 0, r.get(HOUSES))?;
-    stage::ask_all(t, desk, r, request)
+fn start_again<W: Write>(scene: &mut Scene<'_, W>, mut r: Numbers) -> io::Result<()> {
+    scene.go_up(r.get(OWN));
+    let request = look_up(scene.desk, Call::StartAgain, &mut r);
+    scene.teller.told(&r)?;
+    send_all(scene, r, &(0..r.get(HOUSES)))?;
+    scene.ask_all(r, request)
 }
 
 // A call or a step that changes no book.
-pub fn take_step<W: Write>(t: &mut Teller<'_, W>, desk: &mut [u8], r: Numbers) -> io::Result<()> {
-    match r.get(CALL) {
-        2..=4 => t.told(&outset::on_nothing(r)),
-        11..=14 => look(t, desk, r),
-        SHOW => hand::show(t, r),
-        BACK => start_again(t, desk, r),
-        _ => stage::take_step(t, desk, r),
+pub fn take_step<W: Write>(scene: &mut Scene<'_, W>, call: Call, r: Numbers) -> io::Result<()> {
+    match call {
+        Call::StartAgain => start_again(scene, r),
+        _ => look(scene, call, r),
     }
 }

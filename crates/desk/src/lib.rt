@@ -2,12 +2,10 @@
 // the numbers that a script set, and what came of it is put among them, to be told.
 #![tactic(auto)]
 
-ghost use Rattle.std.specs.Prelude.{◌<◌};
-
 use calls::Outcome;
-use hand::{Came, MOISTURE, answered, declaration_of, given, nothing, read, reading_of};
-use post::{APART, BOOKS};
-use script::{BYTES, CALL, DELIVERS, FROM, GIVES, KIND, LENGTH, NUMBER, Numbers, OWN};
+use hand::{MOISTURE, answered, declaration_of, read, reading_of};
+use script::{Call, DELIVERS, FROM, GIVES, KIND, NUMBER, Numbers};
+use stage::given;
 
 // What came of a call, by the letters of its numbers.
 const GIVEN_KIND: u8 = b'K';
@@ -16,71 +14,61 @@ const GIVEN_MOISTURE: u8 = b'M';
 
 const DELIVERED_MOISTURE: u8 = b'D';
 
-// The calls, by their numbers in the script.
-const OPEN: u32 = 5;
-
-const OPEN_WITH: u32 = 6;
-
-const PUBLISH: u32 = 7;
-
 // ---- what came of a call
 
-fn moisture_of(declaration: [u8; 20]) -> u32 {
-    reading_of(octets::declaration_at(&declaration, 0).moisture)
-}
-
-fn note(r: Numbers, o: Outcome) -> Came {
-    let message = o.message;
-    let declaration = o.declaration;
-    let g = read(r, &message);
-    let mut r = answered(r, o.answer);
-    r.set(GIVES, given(o.answer, o.gives, o.helps));
-    r.set(GIVEN_KIND, g.get(KIND));
-    r.set(GIVEN_MOISTURE, g.get(MOISTURE));
+// The message given is read apart from the numbers of the call.
+fn note(r: &mut Numbers, o: &Outcome) {
+    let mut of_message = *r;
+    read(&mut of_message, &o.message);
+    answered(r, o.answer);
+    r.set(GIVES, given(o.answer, o.gives, o.helps) as u32);
+    r.set(GIVEN_KIND, of_message.get(KIND));
+    r.set(GIVEN_MOISTURE, of_message.get(MOISTURE));
     r.set(DELIVERS, u32::from(o.delivers));
-    r.set(DELIVERED_MOISTURE, moisture_of(declaration));
-    Came { r, message }
+    let delivered = octets::declaration_at(&o.declaration, 0);
+    r.set(DELIVERED_MOISTURE, reading_of(delivered.moisture));
 }
 
-// ---- the calls
+// ---- the calls, each with the message that it gives, which is zeros where it gives none
+// Kept: zeros in place of None, since they are posted where the script sets g itself.
 
-fn publish(book: &mut [u8], r: Numbers) -> Came {
+fn publish(book: &mut [u8], r: &mut Numbers) -> [u8; 36] {
     let declaration = octets::bytes_of(declaration_of(r));
     let o = publish::publish(book, r.get(NUMBER), &declaration);
-    note(r, o)
+    note(r, &o);
+    o.message
 }
 
-fn receive(book: &mut [u8], r: Numbers, hand: [u8; 40]) -> Came {
-    let first = 0;
-    let end = r.get(LENGTH) as usize;
-    if end <= 40 {
-        let o = receive::receive(book, r.get(FROM), &hand[first..end]);
-        return note(r, o);
+// What cannot be handed in is not received.
+fn receive(book: &mut [u8], r: &mut Numbers, handed: Option<&[u8]>) -> [u8; 36] {
+    match handed {
+        Some(message) => {
+            let o = receive::receive(book, r.get(FROM), message);
+            note(r, &o);
+            o.message
+        }
+        None => [0; 36],
     }
-    nothing(r)
 }
 
-fn on_book(book: &mut [u8], r: Numbers, hand: [u8; 40]) -> Came {
-    match r.get(CALL) {
-        OPEN | OPEN_WITH => outset::open(book, r),
-        PUBLISH => publish(book, r),
-        _ => receive(book, r, hand),
+fn on_book(book: &mut [u8], call: Call, r: &mut Numbers, handed: Option<&[u8]>) -> [u8; 36] {
+    match call {
+        Call::Open | Call::OpenWith => {
+            outset::open(book, r);
+            [0; 36]
+        }
+        Call::Publish => publish(book, r),
+        _ => receive(book, r, handed),
     }
 }
 
 // A call on the book of a house, where the desk has room for it.
-fn on_place(desk: &mut [u8], r: Numbers, hand: [u8; 40], own: u32, bytes: u32) -> Came {
-    let first = BOOKS + APART * own as usize;
-    let end = first + bytes as usize;
-    if end <= desk.len() {
-        return on_book(&mut desk[first..end], r, hand);
+pub fn on_desk(desk: &mut [u8], call: Call, r: &mut Numbers, handed: Option<&[u8]>) -> [u8; 36] {
+    match desk.get_mut(outset::place_of(r)) {
+        Some(book) => on_book(book, call, r, handed),
+        None => {
+            r.refuse();
+            [0; 36]
+        }
     }
-    let mut r = r;
-    r.refuse();
-    nothing(r)
-}
-
-pub fn on_desk(desk: &mut [u8], r: Numbers, hand: [u8; 40]) -> Came {
-    let r = outset::with_length(r);
-    on_place(desk, r, hand, r.get(OWN), r.get(BYTES))
 }

@@ -5,9 +5,8 @@
 ghost use Rattle.std.specs.Prelude.{◌<◌};
 
 use lot::Declaration;
-use message::Written;
-use octets::wide;
-use post::{byte, copy, put};
+use message::{Kind, ReadAnswer, Written};
+use post::byte;
 use script::{FREE, KIND, LENGTH, NUMBER, Numbers, SEASON, SENDER, TEXT};
 use std::io;
 use std::io::Write;
@@ -33,46 +32,58 @@ const READER: u8 = b'R';
 
 const WRITER: u8 = b'W';
 
+// What bytes read as.
+#[derive(Clone, Copy, PartialEq, Eq, Debug)]
+enum Reads {
+    Request = 0,
+    Message = 1,
+    Nothing = 2,
+}
+
+impl From<&ReadAnswer> for Reads {
+    fn from(m: &ReadAnswer) -> Reads {
+        match (m.answer, m.kind) {
+            (0, 9) => Reads::Request,
+            (0, _) => Reads::Message,
+            _ => Reads::Nothing,
+        }
+    }
+}
+
 // ---- readings, declarations
 
-// A reading's bits, by its number in the script.
+// The bits of each reading, by its number in the script; the first stands for every other.
+const READINGS: [u32; 13] = [
+    0x7f80_0000,
+    0x418c_0000,
+    0x4194_0000,
+    0,
+    0x8000_0000,
+    0x7fc0_0000,
+    0x41a0_0000,
+    1,
+    0xc040_0000,
+    0x8000_0001,
+    0xff80_0000,
+    0x3f00_0000,
+    0xc18c_0000,
+];
+
 fn bits_of(reading: u32) -> u32 {
-    match reading {
-        1 => 0x418c_0000,
-        2 => 0x4194_0000,
-        3 => 0,
-        4 => 0x8000_0000,
-        5 => 0x7fc0_0000,
-        6 => 0x41a0_0000,
-        7 => 1,
-        8 => 0xc040_0000,
-        9 => 0x8000_0001,
-        10 => 0xff80_0000,
-        11 => 0x3f00_0000,
-        12 => 0xc18c_0000,
-        _ => 0x7f80_0000,
-    }
+    READINGS
+        .get(reading as usize)
+        .copied()
+        .unwrap_or(READINGS[0])
 }
 
 pub fn reading_of(bits: u32) -> u32 {
-    match bits {
-        0x418c_0000 => 1,
-        0x4194_0000 => 2,
-        0 => 3,
-        0x8000_0000 => 4,
-        0x7fc0_0000 => 5,
-        0x41a0_0000 => 6,
-        1 => 7,
-        0xc040_0000 => 8,
-        0x8000_0001 => 9,
-        0xff80_0000 => 10,
-        0x3f00_0000 => 11,
-        0xc18c_0000 => 12,
-        _ => 0,
+    match READINGS.iter().position(|b| *b == bits) {
+        Some(reading) => reading as u32,
+        None => 0,
     }
 }
 
-pub fn declaration_of(r: Numbers) -> Declaration {
+pub fn declaration_of(r: &Numbers) -> Declaration {
     Declaration {
         lot: r.get(LOT),
         colonies: r.get(COLONIES),
@@ -84,9 +95,9 @@ pub fn declaration_of(r: Numbers) -> Declaration {
 
 // ---- messages
 
-fn written(r: Numbers, kind: u32) -> Written {
+fn written(r: &Numbers, kind: u8) -> Written {
     writer::write_message(
-        byte(kind),
+        kind,
         r.get(SEASON),
         byte(r.get(SENDER)),
         byte(r.get(NUMBER)),
@@ -95,115 +106,78 @@ fn written(r: Numbers, kind: u32) -> Written {
 }
 
 // A message as it is written; with a kind that is none, a SEND.
-fn message_of(r: Numbers) -> [u8; 36] {
-    let w = written(r, r.get(KIND));
-    if w.answer == 0 {
-        return w.message;
+fn message_of(r: &Numbers) -> [u8; 36] {
+    let as_told = written(r, byte(r.get(KIND)));
+    if as_told.answer == 0 {
+        return as_told.message;
     }
-    let send = written(r, 1);
-    send.message
+    written(r, u8::from(Kind::Send)).message
 }
 
 // The bytes of a message, or of a request where there are to be fewer than 13, with this kind, and zeros after them.
-pub fn lay(r: Numbers) -> [u8; 40] {
+pub fn lay(r: &Numbers) -> [u8; 40] {
     let mut hand: [u8; 40] = [0; 40];
     if r.get(LENGTH) < 13 {
-        copy(&mut hand, 0, &writer::write_request(r.get(SEASON)), 0);
-        put(&mut hand, 3, 0, r.get(KIND));
-        return hand;
+        hand[..11].copy_from_slice(&writer::write_request(r.get(SEASON)));
+    } else {
+        hand[..36].copy_from_slice(&message_of(r));
     }
-    copy(&mut hand, 0, &message_of(r), 0);
-    put(&mut hand, 3, 0, r.get(KIND));
+    hand[3] = byte(r.get(KIND));
     hand
 }
 
-fn read_lot(r: Numbers, declaration: [u8; 20]) -> Numbers {
-    let mut r = r;
-    let d = octets::declaration_at(&declaration, 0);
+fn read_declaration(r: &mut Numbers, declaration: &[u8; 20]) {
+    let d = octets::declaration_at(declaration, 0);
     r.set(LOT, d.lot);
     r.set(COLONIES, d.colonies);
     r.set(KILOGRAMS, d.kilograms);
     r.set(MOISTURE, reading_of(d.moisture));
     r.set(CONDUCTIVITY, reading_of(d.conductivity));
-    r
 }
 
-// What bytes read as: a request (0), a message (1) or nothing (2), with the numbers in it.
-pub fn read(r: Numbers, bytes: &[u8]) -> Numbers {
-    let mut r = r;
+// What bytes read as, with the numbers in it.
+// Kept: by the answer and the kind that the reader gives to C, since these are told.
+pub fn read(r: &mut Numbers, bytes: &[u8]) {
     let m = reader::parts_of(bytes);
-    r.set(READER, wide(m.answer));
-    r.set(READS, 2);
-    if m.answer == 0 {
-        r.set(SEASON, m.season);
-        r.set(READS, 0);
-        if m.kind != 9 {
-            r.set(READS, 1);
-            r.set(KIND, wide(m.kind));
-            r.set(SENDER, wide(m.sender));
-            r.set(NUMBER, wide(m.number));
-            let declaration = m.declaration;
-            return read_lot(r, declaration);
+    let reads = Reads::from(&m);
+    r.set(READER, u32::from(m.answer));
+    r.set(READS, reads as u32);
+    match reads {
+        Reads::Request => r.set(SEASON, m.season),
+        Reads::Message => {
+            r.set(SEASON, m.season);
+            r.set(KIND, u32::from(m.kind));
+            r.set(SENDER, u32::from(m.sender));
+            r.set(NUMBER, u32::from(m.number));
+            read_declaration(r, &m.declaration);
         }
+        Reads::Nothing => {}
     }
-    r
 }
 
-// The same of what is handed in, and what the writer answers for its kind.
-pub fn read_hand(r: Numbers, hand: [u8; 40]) -> Numbers {
-    let first = 0;
-    let end = r.get(LENGTH) as usize;
-    let w = written(r, r.get(KIND));
-    let mut r = r;
-    r.set(WRITER, wide(w.answer));
-    if end <= 40 {
-        return read(r, &hand[first..end]);
+// What is handed in, which is as much as the numbers say: what it reads as, and what the writer answers for its kind. There are 40 bytes.
+pub fn read_hand<'a>(r: &mut Numbers, hand: &'a [u8; 40]) -> Option<&'a [u8]> {
+    let writes = written(r, byte(r.get(KIND)));
+    r.set(WRITER, u32::from(writes.answer));
+    let handed = hand.get(..r.get(LENGTH) as usize);
+    match handed {
+        Some(bytes) => read(r, bytes),
+        None => r.refuse(),
     }
-    r.refuse();
-    r
+    handed
 }
 
 // ---- what came of a call
 
-// The numbers, and the bytes given.
-#[derive(Clone, Copy)]
-pub struct Came {
-    pub r: Numbers,
-    pub message: [u8; 36],
-}
-
-pub fn answered(r: Numbers, answer: u8) -> Numbers {
-    let mut r = r;
-    r.set(ANSWER, wide(answer));
-    r
-}
-
-pub fn nothing(r: Numbers) -> Came {
-    Came {
-        r,
-        message: [0; 36],
-    }
-}
-
-// Nothing (0), a message (1), help (2); a refusal (3) gives nothing, and this is not said.
-pub fn given(answer: u8, gives: bool, helps: bool) -> u32 {
-    if answer != 0 {
-        return 3;
-    }
-    if gives {
-        return 1;
-    }
-    if helps {
-        return 2;
-    }
-    0
+pub fn answered(r: &mut Numbers, answer: u8) {
+    r.set(ANSWER, u32::from(answer));
 }
 
 // Bytes laid as the numbers say: what they read as, in the line's own words, and the bytes from number x on.
-pub fn show<W: Write>(t: &mut Teller<'_, W>, r: Numbers) -> io::Result<()> {
-    let hand = lay(r);
-    let r = read_hand(r, hand);
-    t.tell(t.script.text_at(r.get(TEXT)), &r)?;
-    t.say_bytes(&hand, r.get(FREE), r.get(LENGTH))?;
-    t.end_line()
+pub fn show<W: Write>(teller: &mut Teller<'_, W>, mut r: Numbers) -> io::Result<()> {
+    let hand = lay(&r);
+    let _ = read_hand(&mut r, &hand);
+    teller.tell(teller.script.text_at(r.get(TEXT)), &r)?;
+    teller.say_bytes(&hand, r.get(FREE), r.get(LENGTH))?;
+    teller.end_line()
 }

@@ -1,13 +1,15 @@
 // The calls that are made before there is a book to call on, with the numbers that a script set: the wall card's column, a book's length,
-// a lot judged by the sheet, and opening.
+// a lot judged by the sheet, and opening; and where on the desk a book stands.
 #![tactic(auto)]
 
-ghost use Rattle.std.specs.Prelude.{◌<◌};
+ghost use Rattle.std.specs.Prelude.{◌≡◌, ◌+◌, ◌*◌, ◌<◌, slice_index};
 
 use card::Counts;
-use hand::{Came, answered, declaration_of, nothing};
-use script::{BYTES, CALL, HELP_LIMIT, HOUSES, Numbers, OWN, SEASON, TAIL};
+use hand::{answered, declaration_of};
+use post::{APART, BOOKS};
+use script::{BYTES, Call, HELP_LIMIT, HOUSES, Numbers, OWN, SEASON, TAIL};
 use sheet::Kept;
+use std::ops::Range;
 
 // ---- the numbers, by their letters
 
@@ -27,12 +29,6 @@ const AMPLIFY: u8 = b'A';
 
 const DELIVER: u8 = b'V';
 
-// ---- the calls, by their numbers in the script
-
-const CARD: u32 = 2;
-
-const LENGTH: u32 = 3;
-
 // ---- the sheet
 
 fn kept(kind: u8, low: u32, high: u32) -> Kept {
@@ -40,6 +36,7 @@ fn kept(kind: u8, low: u32, high: u32) -> Kept {
 }
 
 // A gate, by its number in the script. 3, 7, 8 and 9 are not legal.
+// Kept: by the number, which is read at this one place.
 fn gate_of(gate: u32) -> Kept {
     match gate {
         1 => kept(1, 0, 0x41a0_0000),
@@ -56,86 +53,81 @@ fn gate_of(gate: u32) -> Kept {
 }
 
 // The sheet, with the conductivity's gate open.
-fn sheet_of(r: Numbers) -> [u8; 22] {
+fn sheet_of(r: &Numbers) -> [u8; 22] {
     judge::lay_sheet(r.get(CAP), gate_of(r.get(GATE)), gate_of(0))
 }
 
 // ---- the calls
 
-// A number as the script has them, or 0.
-fn narrow(x: u64) -> u32 {
-    if x <= 4294967295 {
-        return x as u32;
-    }
-    0
-}
-
-fn length(r: Numbers) -> Numbers {
+fn length(r: &mut Numbers) {
     let found = sizes::length_of(r.get(HOUSES), r.get(NUMBERS));
-    let mut r = answered(r, found.answer);
-    r.set(TAIL, 2 * u32::from(found.answer == 0));
-    r.set(BYTES, narrow(found.length));
-    r
+    answered(r, found.answer);
+    r.set(TAIL, if found.answer == 0 { 2 } else { 0 });
+    r.set(BYTES, u32::try_from(found.length).unwrap_or(0));
 }
 
 // Unless the script has set it, a book has the length that is right for it.
-pub fn with_length(r: Numbers) -> Numbers {
+fn with_length(r: &mut Numbers) {
     if r.get(BYTES) == 0 {
-        let mut r = length(r);
+        length(r);
         r.set(TAIL, 0);
-        return r;
     }
-    r
 }
 
-// The wall card's column, or zeros where it has none.
-fn counts_of(n: u32, f: u32) -> Counts {
-    if counts::is_houses(n) {
-        if counts::is_down(n, f) {
-            return counts::counts_of(n as usize, f as usize);
+// Where the book of house `own` stands, of the length that the numbers say. The desk may end before.
+pub fn place_of(r: &mut Numbers) -> Range<usize>
+    ensures first { result.start ≡ BOOKS + APART * slice_index r.old OWN }
+    ensures length { result.end ≡ result.start + slice_index r.new BYTES }
+{
+    let first = BOOKS + APART * r.get(OWN) as usize;
+    with_length(r);
+    first..first + r.get(BYTES) as usize
+}
+
+// The wall card's column, if it has one.
+fn counts_of(n: u32, f: u32) -> Option<Counts> {
+    if counts::is_houses(n) && counts::is_down(n, f) {
+        return Some(counts::counts_of(n as usize, f as usize));
+    }
+    None
+}
+
+// With no column the line is not understood, and its numbers are zeros.
+fn column(r: &mut Numbers) {
+    let Some(counts) = counts_of(r.get(HOUSES), r.get(DOWN_LIMIT)) else {
+        for letter in [T, QUORUM, AMPLIFY, DELIVER] {
+            r.set(letter, 0);
         }
-    }
-    Counts {
-        t: 0,
-        quorum: 0,
-        amplify: 0,
-        deliver: 0,
-    }
-}
-
-fn column(r: Numbers) -> Numbers {
-    let counts = counts_of(r.get(HOUSES), r.get(DOWN_LIMIT));
-    let mut r = r;
-    r.set(T, narrow(counts.t as u64));
-    r.set(QUORUM, narrow(counts.quorum as u64));
-    r.set(AMPLIFY, narrow(counts.amplify as u64));
-    r.set(DELIVER, narrow(counts.deliver as u64));
-    if counts.deliver == 0 {
         r.refuse();
+        return;
+    };
+    for (letter, count) in [
+        (T, counts.t),
+        (QUORUM, counts.quorum),
+        (AMPLIFY, counts.amplify),
+        (DELIVER, counts.deliver),
+    ] {
+        r.set(letter, u32::try_from(count).unwrap_or(0));
     }
-    r
 }
 
 // The end of what is told: the answer and why (0), or that the lot is plausible (1).
-fn judge(r: Numbers) -> Numbers {
-    let sheet = sheet_of(r);
+fn judge(r: &mut Numbers) {
     let declaration = octets::bytes_of(declaration_of(r));
-    let answer = judge::judge(&sheet, &declaration);
-    let mut r = answered(r, answer);
+    let answer = judge::judge(&sheet_of(r), &declaration);
+    answered(r, answer);
     r.set(TAIL, u32::from(answer == 0));
-    r
 }
 
-pub fn on_nothing(r: Numbers) -> Numbers {
-    match r.get(CALL) {
-        CARD => column(r),
-        LENGTH => length(r),
+pub fn on_nothing(call: Call, r: &mut Numbers) {
+    match call {
+        Call::Card => column(r),
+        Call::Length => length(r),
         _ => judge(r),
     }
 }
 
-pub fn open(book: &mut [u8], r: Numbers) -> Came {
-    let sheet = sheet_of(r);
+pub fn open(book: &mut [u8], r: &mut Numbers) {
     let answer = opening::open_book(
         book,
         r.get(HOUSES),
@@ -144,7 +136,7 @@ pub fn open(book: &mut [u8], r: Numbers) -> Came {
         r.get(DOWN_LIMIT),
         r.get(HELP_LIMIT),
         r.get(SEASON),
-        &sheet,
+        &sheet_of(r),
     );
-    nothing(answered(r, answer))
+    answered(r, answer);
 }

@@ -4,15 +4,14 @@
 
 ghost use Rattle.std.specs.Prelude.{◌+◌, ◌*◌, ◌<◌, ◌≤◌};
 
-use octets::wide;
 use post::{
     BOOKS, DELIVERED, DOWN, List, RETURNS, byte, copy, count, count_if, has, is_left, listed,
     post_all, put,
 };
-use script::{CALL, DELIVERS, FREE, FROM, GIVES, HELP_LIMIT, HONEST, HOUSES, LENGTH, Numbers, OWN};
+use script::{Call, DELIVERS, FREE, FROM, GIVES, HELP_LIMIT, HONEST, HOUSES, LENGTH, Numbers, OWN};
 use std::io;
 use std::io::Write;
-use std::num::wrapping_add_u32;
+use std::ops::Range;
 use telling::Teller;
 
 // The number of the last of several copies or requests; how a copy fares; a bound; whether a house is down, whether it has delivered;
@@ -31,23 +30,6 @@ const SOME_WRONG: u8 = b'I';
 
 const BECOMES: u8 = b'r';
 
-// The steps, by their numbers in the script.
-const BEGIN: u32 = 20;
-
-pub const COPY: u32 = 21;
-
-pub const COPIES_ON: u32 = 22;
-
-pub const REQUEST: u32 = 23;
-
-const GO_DOWN: u32 = 24;
-
-const STAND: u32 = 25;
-
-const BOUNDS: u32 = 26;
-
-const SPOIL: u32 = 28;
-
 // What is told beside the calls, by its number in the script.
 const TO_ONE: u32 = 30;
 
@@ -57,171 +39,75 @@ const ASKS: u32 = 33;
 
 const READYS: u32 = 34;
 
-// ---- what is posted
+// What calls and steps are made with: the teller, and the desk, on which the post and the books lie.
+#[derive(Drop)]
+pub struct Scene<'a, W> {
+    pub teller: Teller<'a, W>,
+    pub desk: &'a mut [u8],
+}
 
-fn to_whom(first: u32, end: u32) -> u32 {
-    if wrapping_add_u32(first, 1) == end {
-        return TO_ONE;
+// What a call gives, by its number in the script. Of a refusal this is not told.
+// Kept: the number is set and read back among the numbers, and the bytes stand beside it, since a script may set g itself.
+#[derive(Clone, Copy, PartialEq, Eq, Debug)]
+pub enum Gives {
+    Nothing = 0,
+    Message = 1,
+    Help = 2,
+    Refusal = 3,
+}
+
+// How a copy fares: it is received; lost, where the house is down, which the post has by any number but 0; of no interest, where the
+// house is wrong.
+#[derive(Clone, Copy, PartialEq, Eq, Debug)]
+pub enum Fares {
+    Received,
+    Lost(u32),
+    OfNoInterest,
+}
+
+// What is taken from a list, and how it fares.
+#[derive(Clone, Copy)]
+pub struct Taken {
+    pub hand: [u8; 40],
+    pub fares: Fares,
+}
+
+// Kept: by the answer and two flags, as C has them.
+pub fn given(answer: u8, gives: bool, helps: bool) -> Gives {
+    match (answer, gives, helps) {
+        (0, true, _) => Gives::Message,
+        (0, false, true) => Gives::Help,
+        (0, false, false) => Gives::Nothing,
+        _ => Gives::Refusal,
     }
-    TO_ALL
+}
+
+// The list that a call takes from, and how many bytes it has of each.
+fn list_of(call: Call) -> (List, u32) {
+    match call {
+        Call::Request => (List::Requests, 11),
+        _ => (List::Copies, 36),
+    }
 }
 
 // To whom they go, and their numbers, which follow those that there are.
-fn numbered(r: Numbers, first: u32, so_far: u32, end: u32) -> Numbers {
-    let mut r = r;
-    r.set(FROM, first);
-    r.set(FREE, wrapping_add_u32(so_far, 1));
-    r.set(LAST, wrapping_add_u32(so_far, end));
-    r
+fn number(r: &mut Numbers, to: &Range<u32>, so_far: u32) {
+    r.set(FROM, to.start);
+    r.set(FREE, so_far.wrapping_add(1));
+    r.set(LAST, so_far.wrapping_add(to.end));
 }
 
-fn post_to(desk: &mut [u8], r: Numbers, list: List, first: u32, end: u32, message: [u8; 36]) {
-    post_all(desk, list, r.get(OWN), r.get(HONEST), first, end, message);
-}
-
-// A message that was sent is sent again to the houses from `first` to before `end`.
-pub fn send_again<W: Write>(
-    t: &mut Teller<'_, W>,
-    desk: &mut [u8],
-    r: Numbers,
-    message: [u8; 36],
-    first: u32,
-    end: u32,
-) -> io::Result<()> {
-    let r = numbered(r, first, has(desk, List::Copies.place(), 0), end);
-    t.say_line(to_whom(first, end), &r)?;
-    post_to(desk, r, List::Copies, first, end, message);
-    Ok(())
-}
-
-// A request goes to all.
-pub fn ask_all<W: Write>(
-    t: &mut Teller<'_, W>,
-    desk: &mut [u8],
-    r: Numbers,
-    request: [u8; 36],
-) -> io::Result<()> {
-    let houses = r.get(HOUSES);
-    let r = numbered(r, 0, has(desk, List::Requests.place(), 0), houses);
-    t.tell_phrase(ASKS, &r)?;
-    t.say_bytes(&request, 0, 11)?;
-    t.end_line()?;
-    post_to(desk, r, List::Requests, 0, houses, request);
-    Ok(())
-}
-
-// What came of a call in a season: a delivery is noted, and a message given goes to all.
-pub fn give(desk: &mut [u8], r: Numbers, message: [u8; 36]) {
-    count_if(desk, DELIVERED, r.get(OWN), r.get(DELIVERS) == 1);
-    if r.get(GIVES) == 1 {
-        post_to(desk, r, List::Copies, 0, r.get(HOUSES), message);
-    }
-}
-
-// ---- what comes
-
-// What is taken from a list, with its numbers, and whether the house that it goes to receives it.
-#[derive(Clone, Copy)]
-pub struct Taken {
-    pub r: Numbers,
-    pub hand: [u8; 40],
-    pub is_received: bool,
-}
-
-// It is received (0); lost, where the house is down (1); of no interest, where the house is wrong (2).
-fn fares(desk: &[u8], r: Numbers) -> u32 {
-    if r.get(OWN) < r.get(HONEST) {
-        return has(desk, DOWN, r.get(OWN));
-    }
-    2
-}
-
-fn arrive(desk: &[u8], r: Numbers, at: u32, length: u32) -> Taken
-    requires { at + 40 ≤ 6000 }
-{
-    let mut hand: [u8; 40] = [0; 40];
-    copy(&mut hand, 0, desk, at + 3);
-    let mut r = r;
-    r.set(FROM, has(desk, at, 0));
-    r.set(OWN, has(desk, at, 1));
-    r.set(LENGTH, length);
-    let how = fares(desk, r);
-    r.set(FARES, how);
-    Taken {
-        r,
-        hand,
-        is_received: how == 0,
-    }
-}
-
-fn list_of(call: u32) -> List {
-    if call == REQUEST {
-        return List::Requests;
-    }
-    List::Copies
-}
-
-// A request has 11 bytes.
-fn length_of(call: u32) -> u32 {
-    if call == REQUEST {
-        return 11;
-    }
-    36
-}
-
-// Number x of its list, which has to be left.
-pub fn take(desk: &mut [u8], r: Numbers) -> Taken {
-    let list = list_of(r.get(CALL));
-    let mut r = r;
-    if is_left(desk, list, r.get(FREE)) {
-        let at = listed(list, r.get(FREE));
-        put(desk, at, 2, 1);
-        return arrive(desk, r, at, length_of(r.get(CALL)));
-    }
-    r.refuse();
-    Taken {
-        r,
-        hand: [0; 40],
-        is_received: false,
-    }
-}
-
-// ---- down and back
-
-// Byte x of the book of house 0 becomes another.
-fn spoil<W: Write>(t: &mut Teller<'_, W>, desk: &mut [u8], r: Numbers) -> io::Result<()> {
-    put(desk, BOOKS as u32, r.get(FREE), r.get(BECOMES));
-    t.told(&r)
-}
-
-fn go_down<W: Write>(t: &mut Teller<'_, W>, desk: &mut [u8], r: Numbers) -> io::Result<()> {
-    put(desk, DOWN, r.get(OWN), 1);
-    t.told(&r)
-}
-
-pub fn go_up(desk: &mut [u8], own: u32) {
-    put(desk, DOWN, own, 0);
-    count(desk, RETURNS, own);
-}
-
-// ---- what is told
-
-fn stand<W: Write>(t: &mut Teller<'_, W>, desk: &[u8], r: Numbers) -> io::Result<()> {
-    let mut r = r;
-    r.set(IS_DOWN, has(desk, DOWN, r.get(OWN)));
-    r.set(FREE, has(desk, RETURNS, r.get(OWN)));
-    r.set(HAS_DELIVERED, has(desk, DELIVERED, r.get(OWN)));
-    t.told(&r)
-}
+// ---- bounds
 
 // A product, with a bound by which sums of it fit.
 fn times(a: u32, b: u8) -> u32
     requires { a < 65536 }
     ensures { result ≤ a * 255 }
 {
-    a * b as u32
+    a * u32::from(b)
 }
 
+// How many copies and how many READYs may be sent at most.
 #[derive(Clone, Copy)]
 struct Bounds {
     copies: u32,
@@ -229,47 +115,170 @@ struct Bounds {
 }
 
 // With h honest houses of n, each back at most d times.
-fn bounds_of(n: u32, h: u32, d: u32) -> Bounds {
-    let n = wide(byte(n));
-    let hn = times(n, byte(h));
-    let hnd = times(hn, byte(d));
+fn bounds_of(n: u8, h: u8, d: u8) -> Bounds {
+    let n = u32::from(n);
+    let hn = times(n, h);
+    let hnd = times(hn, d);
     Bounds {
         copies: n + 2 * hn + 6 * hnd,
         readys: hn + 2 * hnd,
     }
 }
 
-// The copies sent, those between honest houses where some are not, the READYs, and the bounds.
-fn bound<W: Write>(t: &mut Teller<'_, W>, desk: &[u8], r: Numbers) -> io::Result<()> {
-    let bounds = bounds_of(r.get(HOUSES), r.get(HONEST), r.get(HELP_LIMIT));
-    let mut r = r;
-    r.set(FREE, has(desk, List::Copies.place(), 0));
-    r.set(LAST, has(desk, List::Copies.place(), 1));
-    r.set(SOME_WRONG, u32::from(r.get(LAST) < r.get(FREE)));
-    r.set(BOUND, bounds.copies);
-    t.told(&r)?;
-    r.set(FREE, has(desk, List::Copies.place(), 2));
-    r.set(BOUND, bounds.readys);
-    t.say_line(READYS, &r)
-}
+impl<W: Write> Scene<'_, W> {
+    // ---- what is posted
 
-fn refuse<W: Write>(t: &mut Teller<'_, W>, r: Numbers) -> io::Result<()> {
-    let mut r = r;
-    r.refuse();
-    t.told(&r)
-}
+    fn post_to(&mut self, r: &Numbers, list: List, to: &Range<u32>, message: [u8; 36]) {
+        post_all(
+            self.desk,
+            list,
+            r.get(OWN),
+            r.get(HONEST),
+            to.start,
+            to.end,
+            message,
+        );
+    }
 
-// A step that calls on no book, or a call that there is not.
-pub fn take_step<W: Write>(t: &mut Teller<'_, W>, desk: &mut [u8], r: Numbers) -> io::Result<()> {
-    match r.get(CALL) {
-        BEGIN => {
-            post::begin(desk);
-            Ok(())
+    // A message that was sent is sent again. That it goes to one house alone is told where it goes to a single one.
+    pub fn send_again(
+        &mut self,
+        mut r: Numbers,
+        message: [u8; 36],
+        to: &Range<u32>,
+    ) -> io::Result<()> {
+        number(&mut r, to, has(self.desk, List::Copies.place(), 0));
+        let phrase = if to.start.wrapping_add(1) == to.end {
+            TO_ONE
+        } else {
+            TO_ALL
+        };
+        self.teller.say_line(phrase, &r)?;
+        self.post_to(&r, List::Copies, to, message);
+        Ok(())
+    }
+
+    // A request goes to all.
+    pub fn ask_all(&mut self, mut r: Numbers, request: [u8; 36]) -> io::Result<()> {
+        let all = 0..r.get(HOUSES);
+        number(&mut r, &all, has(self.desk, List::Requests.place(), 0));
+        self.teller.tell_phrase(ASKS, &r)?;
+        self.teller.say_bytes(&request, 0, 11)?;
+        self.teller.end_line()?;
+        self.post_to(&r, List::Requests, &all, request);
+        Ok(())
+    }
+
+    // What came of a call in a season: a delivery is noted, and a message given goes to all.
+    pub fn give(&mut self, r: &Numbers, message: [u8; 36]) {
+        count_if(self.desk, DELIVERED, r.get(OWN), r.get(DELIVERS) == 1);
+        if r.get(GIVES) == Gives::Message as u32 {
+            self.post_to(r, List::Copies, &(0..r.get(HOUSES)), message);
         }
-        GO_DOWN => go_down(t, desk, r),
-        STAND => stand(t, desk, r),
-        BOUNDS => bound(t, desk, r),
-        SPOIL => spoil(t, desk, r),
-        _ => refuse(t, r),
+    }
+
+    // ---- what comes
+
+    fn fares(&self, r: &Numbers) -> Fares {
+        if r.get(OWN) < r.get(HONEST) {
+            return match has(self.desk, DOWN, r.get(OWN)) {
+                0 => Fares::Received,
+                down => Fares::Lost(down),
+            };
+        }
+        Fares::OfNoInterest
+    }
+
+    // Number x of the call's list, if it is left, with the numbers that tell of it.
+    pub fn take(&mut self, call: Call, r: &mut Numbers) -> Option<Taken> {
+        let (list, length) = list_of(call);
+        if !is_left(self.desk, list, r.get(FREE)) {
+            return None;
+        }
+        let at = listed(list, r.get(FREE));
+        put(self.desk, at, 2, 1);
+        let mut hand: [u8; 40] = [0; 40];
+        copy(&mut hand, 0, self.desk, at + 3);
+        r.set(FROM, has(self.desk, at, 0));
+        r.set(OWN, has(self.desk, at, 1));
+        r.set(LENGTH, length);
+        let fares = self.fares(r);
+        r.set(
+            FARES,
+            match fares {
+                Fares::Received => 0,
+                Fares::Lost(down) => down,
+                Fares::OfNoInterest => 2,
+            },
+        );
+        Some(Taken { hand, fares })
+    }
+
+    // ---- down and back
+
+    // Byte x of the book of house 0 becomes another.
+    fn spoil(&mut self, r: Numbers) -> io::Result<()> {
+        put(self.desk, BOOKS as u32, r.get(FREE), r.get(BECOMES));
+        self.teller.told(&r)
+    }
+
+    fn go_down(&mut self, r: Numbers) -> io::Result<()> {
+        put(self.desk, DOWN, r.get(OWN), 1);
+        self.teller.told(&r)
+    }
+
+    pub fn go_up(&mut self, own: u32) {
+        put(self.desk, DOWN, own, 0);
+        count(self.desk, RETURNS, own);
+    }
+
+    // ---- what is told
+
+    fn stand(&mut self, mut r: Numbers) -> io::Result<()> {
+        let own = r.get(OWN);
+        r.set(IS_DOWN, has(self.desk, DOWN, own));
+        r.set(FREE, has(self.desk, RETURNS, own));
+        r.set(HAS_DELIVERED, has(self.desk, DELIVERED, own));
+        self.teller.told(&r)
+    }
+
+    // The copies sent, those between honest houses where some are not, the READYs, and the bounds.
+    fn bound(&mut self, mut r: Numbers) -> io::Result<()> {
+        let bounds = bounds_of(
+            byte(r.get(HOUSES)),
+            byte(r.get(HONEST)),
+            byte(r.get(HELP_LIMIT)),
+        );
+        let sent = has(self.desk, List::Copies.place(), 0);
+        let between_honest = has(self.desk, List::Copies.place(), 1);
+        r.set(FREE, sent);
+        r.set(LAST, between_honest);
+        r.set(SOME_WRONG, u32::from(between_honest < sent));
+        r.set(BOUND, bounds.copies);
+        self.teller.told(&r)?;
+        r.set(FREE, has(self.desk, List::Copies.place(), 2));
+        r.set(BOUND, bounds.readys);
+        self.teller.say_line(READYS, &r)
+    }
+
+    // A line that asks for no call or step that there is.
+    pub fn refuse(&mut self, mut r: Numbers) -> io::Result<()> {
+        r.refuse();
+        self.teller.told(&r)
+    }
+
+    // A step that calls on no book.
+    pub fn take_step(&mut self, call: Call, r: Numbers) -> io::Result<()> {
+        match call {
+            Call::Begin => {
+                post::begin(self.desk);
+                Ok(())
+            }
+            Call::GoDown => self.go_down(r),
+            Call::Stand => self.stand(r),
+            Call::Bounds => self.bound(r),
+            Call::Spoil => self.spoil(r),
+            _ => self.refuse(r),
+        }
     }
 }
