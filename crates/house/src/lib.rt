@@ -135,7 +135,7 @@ pub extern "C" fn gm_roll_line(declaration: &[u8; 20]) -> Line
     Line::from(d)
 }
 
-// Entering a line on the roll, the totals brought up to date: 20, 21, 22, 23.
+// Entering a line on the roll, the totals brought up to date: 20, 21, 22, 23. Kept: the answer is a number, since C takes it so.
 #[unsafe(no_mangle)]
 pub extern "C" fn gm_roll_insert(roll: &mut [Line], totals: &mut Totals, line: Line) -> u8
     ensures { outcome result roll.new totals.new ≡ entered roll.old totals.old line }
@@ -143,7 +143,7 @@ pub extern "C" fn gm_roll_insert(roll: &mut [Line], totals: &mut Totals, line: L
     answer_of(sweep::change(roll, totals, Ask::Enter(line)))
 }
 
-// Striking a lot from the roll, the totals brought up to date: 20, 24.
+// Striking a lot from the roll, the totals brought up to date: 20, 24. Kept: the answer is a number, since C takes it so.
 #[unsafe(no_mangle)]
 pub extern "C" fn gm_roll_strike(roll: &mut [Line], totals: &mut Totals, lot: u32) -> u8
     ensures { outcome result roll.new totals.new ≡ struck roll.old totals.old lot }

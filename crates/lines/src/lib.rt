@@ -19,6 +19,7 @@ pub struct Top {
 
 // What a look has seen: whether all was fine, and the least lot that may come next; how many lots are below the one looked for, and its
 // kilograms where it was found; the kilograms of all lines; the highest moisture of all, and of the others, or none.
+// Kept: no search by the order of the lots, since the look that tells whether all is sound goes over every line, and finds the lot on it.
 #[derive(Clone, Copy, PartialEq, Eq, Debug)]
 pub struct Seen {
     pub fine: bool,

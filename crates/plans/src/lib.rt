@@ -38,6 +38,7 @@ pub enum Way {
 
 // The lines at some places move by one, over the last of them or over the first, and a line is laid down in the place that is left; and the
 // totals afterwards.
+// Kept: that the places are of the roll (`WithinRoll`) is a clause, and no invariant here, since the roll's length is no part of a plan.
 #[derive(Drop)]
 pub struct Plan {
     pub places: Range<usize>,

@@ -33,6 +33,7 @@ impl From<Declaration> for Line {
 }
 
 // The season's totals: kilograms, lines in use, and the highest moisture's bits; measured is 1, or 0 where there is none.
+// Kept: the number of lines in use is beside the lent roll, and the flag beside the moisture, since the C interface has them so.
 #[repr(C)]
 #[derive(Clone, Copy, PartialEq, Eq, Debug)]
 pub struct Totals {
