@@ -10,6 +10,7 @@ use borrow.Author.Tests.{eqb-true, le-ltb, ne_eqb}
 use Rattle.std.specs.Prelude.{Option, None, Some, is_some}
 use Rattle.roll.specs.declared.Line.{Line}
 use Rattle.roll.specs.Roll.{finite_readings, ordered_from, ordered, all_finite, has, weight, zero_line}
+use Rattle.std.proofs.Math.Bool.{and-true, or-false}
 use Rattle.roll.proofs.Tests.{bcase, or_then}
 use Rattle.roll.proofs.Lines.{rest, weighs}
 use Rattle.lines.specs.declared.Seen.{Seen}
@@ -42,13 +43,9 @@ mixed true true true o r = refl
 mixed true true false true r = refl
 mixed true true false false r = refl
 
-ends : (f : Bool) → f ≡ f && (true && true)
-ends true = refl
-ends false = refl
-
 pub sees_fine : (ls : List Line) (lot : ℕ) (s : Seen) → (scanned lot s ls).fine ≡ s.fine && (ordered_from s.next ls && all_finite ls)
 unfolding looked fine_next
-sees_fine [] lot s = ends s.fine
+sees_fine [] lot s = sym (and-true s.fine)
 sees_fine (l ∷ ls) lot s =
     sees_fine ls lot (looked lot s l)
     ∙ mixed s.fine (leb s.next l.lot) (finite_readings l) (ordered_from (l.lot + 1) ls) (all_finite ls)
@@ -60,13 +57,9 @@ found_or true k (Some w) b = refl
 found_or true k None b = refl
 found_or false k f b = refl
 
-or_none : (f : Bool) → f ≡ f || false
-or_none true = refl
-or_none false = refl
-
 pub sees_found : (ls : List Line) (lot : ℕ) (s : Seen) → is_some (scanned lot s ls).found ≡ is_some s.found || has lot ls
 unfolding looked
-sees_found [] lot s = or_none (is_some s.found)
+sees_found [] lot s = sym (or-false (is_some s.found))
 sees_found (l ∷ ls) lot s = sees_found ls lot (looked lot s l) ∙ found_or (eqb l.lot lot) l.kilograms s.found (has lot ls)
 
 -- how many lots are below

@@ -16,7 +16,8 @@ use Rattle.roll.specs.declared.Line.{Line}
 use Rattle.roll.specs.Rank.{rank}
 use Rattle.roll.specs.Roll.{moisture_of, finite_readings, ordered_from, ordered, all_finite, has, better, best, highest, enters, strikes}
 use Rattle.roll.specs.Plain.{Among}
-use Rattle.roll.proofs.Tests.{bcase, and_left, and_right}
+use Rattle.std.proofs.lemmas.Bool.{and_parts}
+use Rattle.roll.proofs.Tests.{bcase}
 use Rattle.roll.proofs.Ranks.{lt_rank}
 use Rattle.roll.proofs.Lines.{rest, enters_ordered, enters_finite, among_enters, enters_among}
 use Rattle.roll.proofs.Highest.{r, moisture_finite, Top, top_is, is_top, highest_none}
@@ -63,11 +64,12 @@ sees_all : (ls : List Line) (lot : ℕ) (s : Seen) (b : Option Line) → s.all �
 unfolding looked
 sees_all [] lot s b e f a = e
 sees_all (l ∷ ls) lot s b e f a =
-    sees_all ls lot (looked lot s l) (better b l) (ap (λ (t : Mark). Some (raised t (top_of l))) e ∙ raised_is b l f g) (better_finite b l f g)
-    (and_right (finite_readings l) (all_finite ls) a)
+    sees_all ls lot (looked lot s l) (better b l) (ap (λ (t : Mark). Some (raised t (top_of l))) e ∙ raised_is b l f g)
+    (better_finite b l f g)
+    (and_parts (finite_readings l) (all_finite ls) a).1
   where
     g : finite (moisture_of l) ≡ true
-    g = moisture_finite l (and_left (finite_readings l) (all_finite ls) a)
+    g = moisture_finite l (and_parts (finite_readings l) (all_finite ls) a).0
 
 pub all_is : (lot : ℕ) (ls : List Line) → all_finite ls ≡ true → (seen_in lot ls).all ≡ mark_of (highest ls)
 all_is lot ls a = sees_all ls lot nothing_seen none refl tt a
@@ -90,10 +92,10 @@ others_past (l ∷ ls) lot k s b h o e f a =
     let c = rest k l ls o in
     others_past ls lot (l.lot + 1) (looked lot s l) (better b l) (past h c.0) c.1
     (other lot s l (ne_eqb l.lot lot (λ x. differs h c.0 x)) ∙ ap (λ (t : Mark). Some (raised t (top_of l))) e ∙ raised_is b l f g)
-    (better_finite b l f g) (and_right (finite_readings l) (all_finite ls) a)
+    (better_finite b l f g) (and_parts (finite_readings l) (all_finite ls) a).1
   where
     g : finite (moisture_of l) ≡ true
-    g = moisture_finite l (and_left (finite_readings l) (all_finite ls) a)
+    g = moisture_finite l (and_parts (finite_readings l) (all_finite ls) a).0
 
     past : lot < k → k ≤ l.lot → lot < l.lot + 1
     past x y = omega arith
@@ -114,10 +116,10 @@ sees_others (l ∷ ls) lot k s b o e f a =
     ∙ ap (λ (x : Bool). mark_of (best b (cond x ls (l ∷ strikes lot ls)))) (sym t))
   where
     g : finite (moisture_of l) ≡ true
-    g = moisture_finite l (and_left (finite_readings l) (all_finite ls) a)
+    g = moisture_finite l (and_parts (finite_readings l) (all_finite ls) a).0
 
     more : all_finite ls ≡ true
-    more = and_right (finite_readings l) (all_finite ls) a
+    more = (and_parts (finite_readings l) (all_finite ls) a).1
 
     here : l.lot ≡ lot → lot < l.lot + 1
     here x = omega arith

@@ -21,6 +21,7 @@ use Rattle.roll.specs.Roll.{refused, entered, struck, changed}
 use Rattle.roll.specs.Plain.{Among, Finite, There, Sound}
 use Rattle.roll.specs.Season.{empty, season}
 use Rattle.roll.specs.Claims.{used_in, Entering, Striking, Entered, Struck, Claims}
+use Rattle.std.proofs.lemmas.Bool.{false_from_ne_true}
 use Rattle.roll.proofs.Tests.{bcase}
 use Rattle.roll.proofs.Ranks.{lt_rank}
 use Rattle.roll.proofs.Lines.{length_enters, strikes_length, take_within, weight_enters, among_enters, enters_among}
@@ -33,10 +34,6 @@ use Rattle.roll.proofs.Season.{season_sound, kilograms_are, struck_within}
 
 -- ---- each answer
 
-not_true : (b : Bool) → (b ≡ true → ⊥) → b ≡ false
-not_true true f = absurd (f refl)
-not_true false f = refl
-
 module _ (roll : List Line) (t : Totals) where
   used : List Line
   used = in_use roll t
@@ -45,10 +42,10 @@ module _ (roll : List Line) (t : Totals) where
   is_sound s = (sound_exactly roll t).1 s
 
   unsound : (Sound roll t → ⊥) → sound roll t ≡ false
-  unsound f = not_true (sound roll t) (λ e. f ((sound_exactly roll t).0 e))
+  unsound f = false_from_ne_true (sound roll t) (λ e. f ((sound_exactly roll t).0 e))
 
   is_new : (lot : ℕ) → (There lot (in_use roll t) → ⊥) → has lot (in_use roll t) ≡ false
-  is_new lot f = not_true (has lot (in_use roll t)) (λ e. f (has_there lot (in_use roll t) e))
+  is_new lot f = false_from_ne_true (has lot (in_use roll t)) (λ e. f (has_there lot (in_use roll t) e))
 
   entering : (l : Line) → Entering roll t l
   unfolding entered
@@ -61,7 +58,7 @@ module _ (roll : List Line) (t : Totals) where
   }
     where
       rough : (Finite l → ⊥) → finite_readings l ≡ false
-      rough f = not_true (finite_readings l) (λ e. f (both l e))
+      rough f = false_from_ne_true (finite_readings l) (λ e. f (both l e))
 
   striking : (lot : ℕ) → Striking roll t lot
   unfolding struck

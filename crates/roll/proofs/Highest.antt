@@ -14,7 +14,8 @@ use Rattle.roll.specs.declared.Line.{Line}
 use Rattle.roll.specs.Rank.{rank}
 use Rattle.roll.specs.Roll.{moisture_of, finite_readings, ordered_from, ordered, all_finite, better, best, highest}
 use Rattle.roll.specs.Plain.{Among, Highest}
-use Rattle.roll.proofs.Tests.{bcase, and_left, and_right}
+use Rattle.std.proofs.lemmas.Bool.{and_parts}
+use Rattle.roll.proofs.Tests.{bcase}
 use Rattle.roll.proofs.Ranks.{lt_rank, equal_not_below, neither_is_equal}
 use Rattle.roll.proofs.Lines.{Rest, rest, same_lot}
 
@@ -24,13 +25,13 @@ r l = rank l.moisture
 
 pub moisture_finite : (l : Line) → finite_readings l ≡ true → finite (moisture_of l) ≡ true
 unfolding finite_readings
-moisture_finite l e = and_left (finite (moisture_of l)) (finite (of_bits binary32 l.conductivity)) e
+moisture_finite l e = (and_parts (finite (moisture_of l)) (finite (of_bits binary32 l.conductivity)) e).0
 
 pub among_finite : (ls : List Line) → all_finite ls ≡ true → (x : Line) → Among x ls → finite (moisture_of x) ≡ true
 among_finite [] a x x4 = elim x4 [ ]
 among_finite (l ∷ ls) a x (inl e) =
-    subst (λ (m : Line). finite (moisture_of m) ≡ true) (sym e) (moisture_finite l (and_left (finite_readings l) (all_finite ls) a))
-among_finite (l ∷ ls) a x (inr p) = among_finite ls (and_right (finite_readings l) (all_finite ls) a) x p
+    subst (λ (m : Line). finite (moisture_of m) ≡ true) (sym e) (moisture_finite l (and_parts (finite_readings l) (all_finite ls) a).0)
+among_finite (l ∷ ls) a x (inr p) = among_finite ls (and_parts (finite_readings l) (all_finite ls) a).1 x p
 
 -- ---- the highest by rank
 
@@ -167,10 +168,10 @@ best_is (l ∷ ls) P b k met h o a =
     c = rest k l ls o
 
     f : finite (moisture_of l) ≡ true
-    f = moisture_finite l (and_left (finite_readings l) (all_finite ls) a)
+    f = moisture_finite l (and_parts (finite_readings l) (all_finite ls) a).0
 
     g : all_finite ls ≡ true
-    g = and_right (finite_readings l) (all_finite ls) a
+    g = (and_parts (finite_readings l) (all_finite ls) a).1
 
     more : Met (l.lot + 1) (with P l)
     more = met_more P k l met c.0 f
@@ -209,10 +210,10 @@ highest_is l ls o a =
       none_higher = λ x p. subst (λ (y : Line). r y ≤ r l) (sym p) (self (r l));
       lowest_lot = λ x p q. subst (λ (y : Line). l.lot ≤ y.lot) (sym p) (self l.lot);
     })
-    (rest 0 l ls o).1 (and_right (finite_readings l) (all_finite ls) a)
+    (rest 0 l ls o).1 (and_parts (finite_readings l) (all_finite ls) a).1
   where
     f : finite (moisture_of l) ≡ true
-    f = moisture_finite l (and_left (finite_readings l) (all_finite ls) a)
+    f = moisture_finite l (and_parts (finite_readings l) (all_finite ls) a).0
 
     self : (k : ℕ) → k ≤ k
     self k = omega arith

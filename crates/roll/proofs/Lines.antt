@@ -11,7 +11,8 @@ use borrow.Author.Tests.{leb-true, ltb-true, ltb-false, eqb-true, eqb-false, le-
 use Rattle.roll.specs.declared.Line.{Line}
 use Rattle.roll.specs.Roll.{finite_readings, ordered_from, all_finite, has, weight, enters, strikes}
 use Rattle.roll.specs.Plain.{Among}
-use Rattle.roll.proofs.Tests.{bcase, and_left, and_right, or_left, or_right, or_then}
+use Rattle.std.proofs.lemmas.Bool.{and_parts, or_parts}
+use Rattle.roll.proofs.Tests.{bcase, or_then}
 
 -- ---- order
 
@@ -21,8 +22,8 @@ Rest k l ls = (k ≤ l.lot) × (ordered_from (l.lot + 1) ls ≡ true)
 
 pub rest : (k : ℕ) (l : Line) (ls : List Line) → ordered_from k (l ∷ ls) ≡ true → Rest k l ls
 rest k l ls o = (
-  leb-true k l.lot (and_left (leb k l.lot) (ordered_from (l.lot + 1) ls) o),
-  and_right (leb k l.lot) (ordered_from (l.lot + 1) ls) o,
+  leb-true k l.lot (and_parts (leb k l.lot) (ordered_from (l.lot + 1) ls) o).0,
+  (and_parts (leb k l.lot) (ordered_from (l.lot + 1) ls) o).1,
 )
 
 weaker : (j k : ℕ) (ls : List Line) → j ≤ k → ordered_from k ls ≡ true → ordered_from j ls ≡ true
@@ -39,12 +40,12 @@ enters_ordered l k (m ∷ ms) a o h =
     let c = rest k m ms o in
     bcase (ltb m.lot l.lot)
     (λ t. rw (t, le-leb k m.lot c.0) (enters_ordered l (m.lot + 1) ms (on (ltb-true m.lot l.lot t)) c.1
-    (or_right (eqb m.lot l.lot) (has l.lot ms) h)))
+    (or_parts (eqb m.lot l.lot) (has l.lot ms) h).1))
     (λ f. rw (
       f,
       le-leb k l.lot a,
       le-leb (l.lot + 1) m.lot
-          (off (ltb-false m.lot l.lot f) (eqb-false m.lot l.lot (or_left (eqb m.lot l.lot) (has l.lot ms) h))),
+          (off (ltb-false m.lot l.lot f) (eqb-false m.lot l.lot (or_parts (eqb m.lot l.lot) (has l.lot ms) h).0)),
       c.1,
     ))
   where
@@ -83,14 +84,16 @@ pub enters_finite : (l : Line) (ls : List Line) → finite_readings l ≡ true �
 enters_finite l [] e a = rw e
 enters_finite l (m ∷ ms) e a =
     bcase (ltb m.lot l.lot)
-    (λ t. rw (t, and_left (finite_readings m) (all_finite ms) a) (enters_finite l ms e (and_right (finite_readings m) (all_finite ms) a)))
+    (λ t. rw (t, (and_parts (finite_readings m) (all_finite ms) a).0)
+    (enters_finite l ms e (and_parts (finite_readings m) (all_finite ms) a).1))
     (λ f. rw (f, e) a)
 
 pub strikes_finite : (lot : ℕ) (ls : List Line) → all_finite ls ≡ true → all_finite (strikes lot ls) ≡ true
 strikes_finite lot [] a = refl
 strikes_finite lot (m ∷ ms) a =
-    bcase (eqb m.lot lot) (λ t. rw t (and_right (finite_readings m) (all_finite ms) a))
-    (λ f. rw (f, and_left (finite_readings m) (all_finite ms) a) (strikes_finite lot ms (and_right (finite_readings m) (all_finite ms) a)))
+    bcase (eqb m.lot lot) (λ t. rw t (and_parts (finite_readings m) (all_finite ms) a).1)
+    (λ f. rw (f, (and_parts (finite_readings m) (all_finite ms) a).0)
+    (strikes_finite lot ms (and_parts (finite_readings m) (all_finite ms) a).1))
 
 -- ---- number
 
@@ -155,7 +158,7 @@ weighs_enters x l (m ∷ ms) =
 weighs_none : (x : ℕ) (ls : List Line) → has x ls ≡ false → weighs x ls ≡ 0
 weighs_none x [] h = refl
 weighs_none x (l ∷ ls) h =
-    rw (or_left (eqb l.lot x) (has x ls) h) (weighs_none x ls (or_right (eqb l.lot x) (has x ls) h))
+    rw (or_parts (eqb l.lot x) (has x ls) h).0 (weighs_none x ls (or_parts (eqb l.lot x) (has x ls) h).1)
 
 pub weighs_strikes : (x lot k : ℕ) (ls : List Line) → ordered_from k ls ≡ true
     → weighs x (strikes lot ls) ≡ cond (eqb lot x) 0 (weighs x ls)

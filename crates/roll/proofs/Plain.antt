@@ -15,7 +15,8 @@ use Rattle.roll.specs.declared.Totals.{Totals}
 use Rattle.roll.specs.Roll.{moisture_of, finite_readings, ordered_from, all_finite, has, totals_of}
 use Rattle.roll.specs.Roll.{most_lines, in_use, sound}
 use Rattle.roll.specs.Plain.{Among, lot_at, Finite, There, Sound}
-use Rattle.roll.proofs.Tests.{bcase, and_left, and_right, or_then}
+use Rattle.std.proofs.lemmas.Bool.{and_parts}
+use Rattle.roll.proofs.Tests.{bcase, or_then}
 use Rattle.roll.proofs.Lines.{rest, has_among}
 use Rattle.roll.proofs.Sound.{same_are, are_same, parts}
 
@@ -60,8 +61,8 @@ pub both : (l : Line) → finite_readings l ≡ true → Finite l
 unfolding finite_readings
 both l e =
     record {
-      moisture = and_left (finite (moisture_of l)) (finite (of_bits binary32 l.conductivity)) e;
-      conductivity = and_right (finite (moisture_of l)) (finite (of_bits binary32 l.conductivity)) e;
+      moisture = (and_parts (finite (moisture_of l)) (finite (of_bits binary32 l.conductivity)) e).0;
+      conductivity = (and_parts (finite (moisture_of l)) (finite (of_bits binary32 l.conductivity)) e).1;
     }
 
 pub finite_both : (l : Line) → Finite l → finite_readings l ≡ true
@@ -70,8 +71,9 @@ finite_both l f = rw f.moisture f.conductivity
 
 each_finite : (ls : List Line) → all_finite ls ≡ true → (x : Line) → Among x ls → finite_readings x ≡ true
 each_finite [] a x x4 = elim x4 [ ]
-each_finite (l ∷ ls) a x (inl e) = subst (λ (m : Line). finite_readings m ≡ true) (sym e) (and_left (finite_readings l) (all_finite ls) a)
-each_finite (l ∷ ls) a x (inr p) = each_finite ls (and_right (finite_readings l) (all_finite ls) a) x p
+each_finite (l ∷ ls) a x (inl e) =
+    subst (λ (m : Line). finite_readings m ≡ true) (sym e) (and_parts (finite_readings l) (all_finite ls) a).0
+each_finite (l ∷ ls) a x (inr p) = each_finite ls (and_parts (finite_readings l) (all_finite ls) a).1 x p
 
 all_finite_lem : (ls : List Line) → ((x : Line) → Among x ls → finite_readings x ≡ true) → all_finite ls ≡ true
 all_finite_lem [] f = refl

@@ -1,6 +1,6 @@
 -- Float comparison of finite readings is comparison of the ranks of their bits.
 use Prim.Native.Nat.{ℕ, ◌+◌, ◌-◌, ◌%◌, ◌^◌, ◌≤◌, ◌<◌}
-use mathlib.Core.Path.{◌≡◌, refl, sym, ap, ◌∙◌, subst}
+use mathlib.Core.Path.{◌≡◌, refl, sym, ap, ◌∙◌}
 use mathlib.Core.Bool.{Bool, true, false, not, ◌||◌, true≢false}
 use native.Mathlib.Omega.{arith}
 use lib.Dec.{leb, ltb}
@@ -8,9 +8,9 @@ use lib.Pow.{pow_pos}
 use lib.Ieee.{Float, binary32, of_bits, below, lt, le, eq}
 use borrow.Author.Tests.{le-leb, lt-leb, le-ltb, ltb-true, ltb-false}
 use Rattle.sheet.specs.Sheet.{finite}
-use Rattle.sheet.proofs.Finite.{finite_bits}
 use Rattle.sheet.proofs.Order.{same_ltb, units_of, units, units_mono, units_back, sized, lt_sized, le_is}
 use Rattle.roll.specs.Rank.{rank}
+use Rattle.std.proofs.Math.Bool.{or-true}
 use Rattle.roll.proofs.Tests.{bcase}
 
 -- ---- the rank of a sign and a size
@@ -88,23 +88,11 @@ lt_rank a b h k =
     ∙ below_ranked (leb 0x8000_0000 a) (leb 0x8000_0000 b) (a % 0x8000_0000) (b % 0x8000_0000) (without_sign a) (without_sign b)
     ∙ λ i. ltb (sym (rank_is a) i) (sym (rank_is b) i)
 
--- the rank of a finite reading is not 0
-pub rank_there : (b : ℕ) → finite (of_bits binary32 b) ≡ true → 0 < rank b
-rank_there b h = subst (λ (k : ℕ). 0 < k) (sym (rank_is b)) (go (leb 0x8000_0000 b) (ltb-true _ _ (sym (finite_bits b) ∙ h)))
-  where
-    go : (s : Bool) → b % 0x8000_0000 < 0x7f80_0000 → 0 < ranked s (b % 0x8000_0000)
-    go true l = omega arith
-    go false l = omega arith
-
 -- ---- equal is neither below nor above
-
-or_true : (a : Bool) → a || true ≡ true
-or_true true = refl
-or_true false = refl
 
 pub equal_not_below : (x y : Float) → finite x ≡ true → finite y ≡ true → eq x y ≡ true → lt y x ≡ false
 unfolding le
-equal_not_below x y h k e = turned (lt y x) (sym (le_is x y h k) ∙ ap (λ (b : Bool). lt x y || b) e ∙ or_true (lt x y))
+equal_not_below x y h k e = turned (lt y x) (sym (le_is x y h k) ∙ ap (λ (b : Bool). lt x y || b) e ∙ or-true (lt x y))
   where
     turned : (b : Bool) → not b ≡ true → b ≡ false
     turned true f = absurd (true≢false (sym f))

@@ -15,7 +15,8 @@ use Rattle.roll.specs.declared.Ask.{Ask}
 use Rattle.roll.specs.declared.Ask.TheVariants.{Enter, Strike}
 use Rattle.roll.specs.Roll.{finite_readings, ordered, all_finite, has, totals_of, no_totals, same_totals, most_lines, in_use, sound}
 use Rattle.roll.specs.Roll.{enters, strikes, zero_line, Changed, refused, accepted, entered, struck, changed}
-use Rattle.roll.proofs.Tests.{bcase, and_left, and_right}
+use Rattle.std.proofs.lemmas.Bool.{and_parts}
+use Rattle.roll.proofs.Tests.{bcase}
 use Rattle.roll.proofs.Lines.{enters_ordered, strikes_ordered, enters_finite, strikes_finite, length_enters, strikes_length}
 use Rattle.roll.proofs.Lines.{take_within}
 
@@ -35,10 +36,10 @@ pub same_are : (t u : Totals) → same_totals t u ≡ true → t ≡ u
 unfolding same_totals
 same_are t u e =
     λ i. record {
-      kilograms = eqb-true t.kilograms u.kilograms (and_left a (b && (c && d)) e) i;
-      lines = eqb-true t.lines u.lines (and_left b (c && d) (and_right a (b && (c && d)) e)) i;
-      moisture = eqb-true t.moisture u.moisture (and_left c d (and_right b (c && d) (and_right a (b && (c && d)) e))) i;
-      measured = eqb-true t.measured u.measured (and_right c d (and_right b (c && d) (and_right a (b && (c && d)) e))) i;
+      kilograms = eqb-true t.kilograms u.kilograms (and_parts a (b && (c && d)) e).0 i;
+      lines = eqb-true t.lines u.lines (and_parts b (c && d) (and_parts a (b && (c && d)) e).1).0 i;
+      moisture = eqb-true t.moisture u.moisture (and_parts c d (and_parts b (c && d) (and_parts a (b && (c && d)) e).1).1).0 i;
+      measured = eqb-true t.measured u.measured (and_parts c d (and_parts b (c && d) (and_parts a (b && (c && d)) e).1).1).1 i;
     }
   where
     a : Bool
@@ -68,10 +69,10 @@ pub record Parts (roll : List Line) (t : Totals) : Type 0 where
 pub parts : (roll : List Line) (t : Totals) → sound roll t ≡ true → Parts roll t
 unfolding sound
 parts roll t e = record {
-  short = and_left a (b && (c && d)) e;
-  in_order = and_left b (c && d) (and_right a (b && (c && d)) e);
-  all_finite_lem = and_left c d (and_right b (c && d) (and_right a (b && (c && d)) e));
-  those = and_right c d (and_right b (c && d) (and_right a (b && (c && d)) e));
+  short = (and_parts a (b && (c && d)) e).0;
+  in_order = (and_parts b (c && d) (and_parts a (b && (c && d)) e).1).0;
+  all_finite_lem = (and_parts c d (and_parts b (c && d) (and_parts a (b && (c && d)) e).1).1).0;
+  those = (and_parts c d (and_parts b (c && d) (and_parts a (b && (c && d)) e).1).1).1;
 }
   where
     a : Bool

@@ -16,7 +16,8 @@ use Rattle.roll.specs.declared.Ask.{Ask}
 use Rattle.roll.specs.declared.Ask.TheVariants.{Enter, Strike}
 use Rattle.roll.specs.Roll.{ordered, all_finite, weight, totals_of, same_totals, sound}
 use Rattle.roll.specs.Roll.{refused, entered, struck, lot_asked, changed}
-use Rattle.roll.proofs.Tests.{bcase, and_left, and_right}
+use Rattle.std.proofs.lemmas.Bool.{and_parts}
+use Rattle.roll.proofs.Tests.{bcase}
 use Rattle.lines.specs.declared.Seen.{Seen}
 use Rattle.lines.specs.Look.{nothing_seen, seen_in}
 use Rattle.lines.proofs.Scan.{sees_fine, sees_kilograms}
@@ -160,7 +161,7 @@ works ls t q =
     bcase (leb (length ls) 4096)
     (λ e. bcase (leb t.lines (length ls))
     (λ f. bcase (ordered lines && all_finite lines)
-    (λ g. sound_lines e f (and_left (ordered lines) (all_finite lines) g) (and_right (ordered lines) (all_finite lines) g))
+    (λ g. sound_lines e f (and_parts (ordered lines) (all_finite lines) g).0 (and_parts (ordered lines) (all_finite lines) g).1)
     (not_fine ls t q e f))
     (past ls t q e))
     (long ls t q)

@@ -15,7 +15,8 @@ use Rattle.roll.specs.declared.Line.{Line}
 use Rattle.roll.specs.declared.Totals.{Totals}
 use Rattle.roll.specs.Roll.{finite_readings, ordered, all_finite, has, weight, highest, totals_with, totals_of, same_totals, sound}
 use Rattle.roll.specs.Roll.{enters, strikes, zero_line, outcome, refused, accepted, entered, struck}
-use Rattle.roll.proofs.Tests.{bcase, or_left, or_right}
+use Rattle.std.proofs.lemmas.Bool.{or_parts}
+use Rattle.roll.proofs.Tests.{bcase}
 use Rattle.roll.proofs.Lines.{weighs, weight_enters, weight_strikes, length_enters, strikes_length}
 use Rattle.roll.proofs.Sound.{same_are}
 use Rattle.lines.specs.declared.Seen.{Seen}
@@ -41,8 +42,8 @@ marked k n ls ek en = with_mark k n (highest ls) ∙ λ i. totals_with (ek i) (e
 strikes_none : (lot : ℕ) (ls : List Line) → has lot ls ≡ false → strikes lot ls ≡ ls
 strikes_none lot [] h = refl
 strikes_none lot (l ∷ ls) h =
-    rw (or_left (eqb l.lot lot) (has lot ls) h)
-    (ap (λ (x : List Line). l ∷ x) (strikes_none lot ls (or_right (eqb l.lot lot) (has lot ls) h)))
+    rw (or_parts (eqb l.lot lot) (has lot ls) h).0
+    (ap (λ (x : List Line). l ∷ x) (strikes_none lot ls (or_parts (eqb l.lot lot) (has lot ls) h).1))
 
 module _ (ls : List Line) (t : Totals) (fits : leb t.lines (length ls) ≡ true) (o : ordered (take t.lines ls) ≡ true)
     (a : all_finite (take t.lines ls) ≡ true) (is_sound : sound ls t ≡ true)

@@ -49,5 +49,6 @@ pub returns : goal.returns
 returns c =
     let ls = c.args.roll.now in
     let t = c.args.totals.now in
-    ap (λ (x : List Line). outcome 0 x c.in_ok-plan.plan.totals) c.carry.ensures ∙ ap (settled ls t) (sym c.in_ok-plan.was ∙ c.decide.ensures.0)
+    ap (λ (x : List Line). outcome 0 x c.in_ok-plan.plan.totals) c.carry.ensures
+    ∙ ap (settled ls t) (sym c.in_ok-plan.was ∙ c.decide.ensures.0)
     ∙ settles ls t c.args.ask c.begin.result c.look_through-seen.result c.begin.ensures.0 c.look_through-seen.ensures.0
