@@ -53,17 +53,18 @@ pub fn is_sheet(bytes: &[u8]) -> bool
 }
 
 // A sheet's 22 bytes: the cap, and each gate as it is kept.
+#[tactic(auto, using(words::proofs::Laws::be32_to_be_bytes))]
 pub fn lay_sheet(cap: u32, m: Kept, c: Kept) -> [u8; 22]
     ensures { result ≡ laid cap m c }
 {
-    let k = octets::quad_of(cap);
-    let l = octets::quad_of(m.low);
-    let h = octets::quad_of(m.high);
-    let e = octets::quad_of(c.low);
-    let f = octets::quad_of(c.high);
+    let k = cap.to_be_bytes();
+    let l = m.low.to_be_bytes();
+    let h = m.high.to_be_bytes();
+    let e = c.low.to_be_bytes();
+    let f = c.high.to_be_bytes();
     [
-        k.a, k.b, k.c, k.d, m.kind, l.a, l.b, l.c, l.d, h.a, h.b, h.c, h.d, c.kind, e.a, e.b, e.c,
-        e.d, f.a, f.b, f.c, f.d,
+        k[0], k[1], k[2], k[3], m.kind, l[0], l[1], l[2], l[3], h[0], h[1], h[2], h[3], c.kind,
+        e[0], e[1], e[2], e[3], f[0], f[1], f[2], f[3],
     ]
 }
 

@@ -1,23 +1,11 @@
-// Numbers of 32 bits as four bytes, big-endian, a declaration as its 20, and 20 bytes as they stand.
+// The number whose four bytes stand at a place, big-endian, a declaration as its 20 bytes, and 20 bytes as they stand.
 #![tactic(auto)]
 
 ghost use Rattle.std.specs.Prelude.{◌≡◌, ◌+◌, ◌<◌, length, take, drop};
-ghost use Rattle.words.specs.Words.{quad_of, word_at};
+ghost use Rattle.words.specs.Words.{word_at};
 ghost use Rattle.lot.specs.Declaration.{declaration_at, bytes_of};
 
 use lot::Declaration;
-use words::Quad;
-
-pub fn quad_of(x: u32) -> Quad
-    ensures { result ≡ quad_of x }
-{
-    Quad {
-        a: (x / 16777216) as u8,
-        b: (x / 65536 % 256) as u8,
-        c: (x / 256 % 256) as u8,
-        d: (x % 256) as u8,
-    }
-}
 
 pub fn wide(x: u8) -> u32
     ensures { (result ≡ x) × (result < 256) }
@@ -30,13 +18,11 @@ pub fn word_at(bytes: &[u8], i: usize) -> u32
     requires { i + 3 < length bytes.now }
     ensures { result ≡ word_at bytes.now i }
 {
-    wide(bytes[i]) * 16777216
-        + wide(bytes[i + 1]) * 65536
-        + wide(bytes[i + 2]) * 256
-        + wide(bytes[i + 3])
+    u32::from_be_bytes([bytes[i], bytes[i + 1], bytes[i + 2], bytes[i + 3]])
 }
 
 // The declaration whose 20 bytes stand at i.
+#[tactic(auto, unfolding(lot::specs::Declaration::declaration_at))]
 pub fn declaration_at(bytes: &[u8], i: usize) -> Declaration
     requires { i + 19 < length bytes.now }
     ensures { result ≡ declaration_at bytes.now i }
@@ -51,17 +37,18 @@ pub fn declaration_at(bytes: &[u8], i: usize) -> Declaration
 }
 
 // The 20 bytes of a declaration.
+#[tactic(auto, using(words::proofs::Laws::be32_to_be_bytes), unfolding(lot::specs::Declaration::bytes_of))]
 pub fn bytes_of(d: Declaration) -> [u8; 20]
     ensures { result ≡ bytes_of d }
 {
-    let l = quad_of(d.lot);
-    let c = quad_of(d.colonies);
-    let k = quad_of(d.kilograms);
-    let m = quad_of(d.moisture);
-    let e = quad_of(d.conductivity);
+    let l = d.lot.to_be_bytes();
+    let c = d.colonies.to_be_bytes();
+    let k = d.kilograms.to_be_bytes();
+    let m = d.moisture.to_be_bytes();
+    let e = d.conductivity.to_be_bytes();
     [
-        l.a, l.b, l.c, l.d, c.a, c.b, c.c, c.d, k.a, k.b, k.c, k.d, m.a, m.b, m.c, m.d, e.a, e.b,
-        e.c, e.d,
+        l[0], l[1], l[2], l[3], c[0], c[1], c[2], c[3], k[0], k[1], k[2], k[3], m[0], m[1], m[2],
+        m[3], e[0], e[1], e[2], e[3],
     ]
 }
 
@@ -70,9 +57,7 @@ pub fn twenty_at(bytes: &[u8], i: usize) -> [u8; 20]
     requires { i + 19 < length bytes.now }
     ensures { result ≡ take 20 (drop i bytes.now) }
 {
-    let mut twenty: [u8; 20] = [0; 20];
-    for k in 0..20 {
-        twenty[k] = bytes[i + k];
-    }
+    let mut twenty = [0; 20];
+    twenty.copy_from_slice(&bytes[i..i + 20]);
     twenty
 }

@@ -21,11 +21,12 @@ fn clear(b: &mut [u8])
 }
 
 // The bytes before the sheet: n, S, own number, season.
+#[tactic(auto, using(words::proofs::Laws::be32_to_be_bytes))]
 fn before_sheet(shape: Shape, own: u8, season: u32) -> [u8; 7]
     ensures { result ≡ shape.n ∷ shape.numbers ∷ own ∷ be32 season }
 {
-    let q = octets::quad_of(season);
-    [shape.n, shape.numbers, own, q.a, q.b, q.c, q.d]
+    let q = season.to_be_bytes();
+    [shape.n, shape.numbers, own, q[0], q[1], q[2], q[3]]
 }
 
 // Writes the whole buffer: the header, and every slot empty.

@@ -1,12 +1,13 @@
 // The reader: what a message or a request says, or that it is malformed.
 #![tactic(auto)]
 
-ghost use Rattle.std.specs.Prelude.{◌≡◌};
+ghost use Rattle.std.specs.Prelude.{◌≡◌, MatchOption};
+ghost use Rattle.std.proofs.Math.Option.{none, some};
 ghost use Rattle.message.specs.Message.{read_of, told, request_of};
 ghost use Rattle.message.specs.Read.{read_answer};
 
-use fields::MALFORMED;
 use message::{Kind, Message, ReadAnswer};
+use refusal::Refusal;
 
 // Where the kind, the season, the sender, the number and the declaration stand.
 const KIND: usize = 3;
@@ -37,36 +38,47 @@ pub fn read_message(bytes: &[u8]) -> Option<Message>
     })
 }
 
+// The season that the bytes ask for help in, if they are a request.
+#[tactic(auto, using(message::proofs::Request::request_long), unfolding(message::specs::Message::request_of))]
+pub fn read_request(bytes: &[u8]) -> Option<u32>
+    ensures { MatchOption result (request_of bytes.now ≡ none) (λ season. request_of bytes.now ≡ some season) }
+{
+    if !fields::is_request(bytes) {
+        return None;
+    }
+    Some(octets::word_at(bytes, SEASON))
+}
+
 // What reading gives, as numbers and bytes, for who reads and does not receive.
 pub fn parts_of(bytes: &[u8]) -> ReadAnswer
     ensures { result ≡ read_answer (request_of bytes.now) (read_of bytes.now) }
 {
-    if fields::is_request(bytes) {
+    if let Some(season) = read_request(bytes) {
         return ReadAnswer {
             answer: 0,
             kind: 9,
-            season: octets::word_at(bytes, SEASON),
+            season,
             sender: 0,
             number: 0,
             declaration: [0; 20],
         };
     }
-    if fields::is_well_formed(bytes) {
-        return ReadAnswer {
+    match read_message(bytes) {
+        Some(m) => ReadAnswer {
             answer: 0,
-            kind: bytes[KIND],
-            season: octets::word_at(bytes, SEASON),
-            sender: bytes[SENDER],
-            number: bytes[NUMBER],
-            declaration: octets::twenty_at(bytes, LOT),
-        };
-    }
-    ReadAnswer {
-        answer: MALFORMED,
-        kind: 0,
-        season: 0,
-        sender: 0,
-        number: 0,
-        declaration: [0; 20],
+            kind: u8::from(m.kind),
+            season: m.season,
+            sender: m.sender,
+            number: m.number,
+            declaration: octets::bytes_of(m.declaration),
+        },
+        None => ReadAnswer {
+            answer: u8::from(Refusal::Malformed),
+            kind: 0,
+            season: 0,
+            sender: 0,
+            number: 0,
+            declaration: [0; 20],
+        },
     }
 }

@@ -1,21 +1,13 @@
 -- A number of 32 bits as four bytes, big-endian, and the number that four bytes stand for.
 use Rattle.std.specs.Prelude.{ℕ, ◌+◌, ◌*◌, ◌/◌, ◌%◌, ◌<◌, List, [], ◌∷◌, get_or}
-use Rattle.words.specs.declared.Quad.{Quad}
 
 -- each element is a byte
 abbrev pub Bytes : List ℕ → Type 0
 Bytes bytes = (i : ℕ) → get_or bytes i 0 < 256
 
 -- the four bytes of a number, the highest first
-abbrev pub quad_of : ℕ → Quad
-quad_of n = record { a = n / 16777216; b = n / 65536 % 256; c = n / 256 % 256; d = n % 256 }
-
-abbrev pub list_of : Quad → List ℕ
-list_of q = q.a ∷ q.b ∷ q.c ∷ q.d ∷ []
-
--- a number, big-endian
 abbrev pub be32 : ℕ → List ℕ
-be32 n = list_of (quad_of n)
+be32 n = n / 16777216 ∷ n / 65536 % 256 ∷ n / 256 % 256 ∷ n % 256 ∷ []
 
 -- the number whose four bytes are these
 abbrev pub word : ℕ → ℕ → ℕ → ℕ → ℕ

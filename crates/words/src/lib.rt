@@ -1,11 +1,2 @@
-// A number of 32 bits as four bytes, big-endian: the type that holds them.
+// No code: a number of 32 bits as four bytes, big-endian, and the number that four bytes stand for.
 #![tactic(auto)]
-
-// The four bytes of a number, the highest first.
-#[derive(Clone, Copy)]
-pub struct Quad {
-    pub a: u8,
-    pub b: u8,
-    pub c: u8,
-    pub d: u8,
-}

@@ -1,23 +1,24 @@
 -- The bytes laid are the message's three fields.
 use Rattle.std.proofs.Common.{◌≡◌, ℕ, ◌/◌, ◌%◌, List, ◌∷◌, ◌++◌, length, get_or, sym, ◌∙◌}
-use Rattle.words.specs.declared.Quad.{Quad}
-use Rattle.words.specs.Words.{quad_of, list_of}
+use Rattle.words.specs.Words.{be32}
+use Rattle.words.proofs.Laws.{be32_to_be_bytes}
 use Rattle.words.proofs.Listed.{listed, listed_is}
 use Rattle.message.specs.Message.{fields}
 use Rattle.writer.proofs.lay_message.Goals as goal
 
 -- the 36 bytes, with two for the length of the last field
-abbrev laid : (kind sender number high low : ℕ) → Quad → List ℕ → List ℕ
+abbrev laid : (kind sender number high low : ℕ) → List ℕ → List ℕ → List ℕ
 laid kind sender number high low season d =
-    1 ∷ 0 ∷ 1 ∷ kind ∷ 2 ∷ 0 ∷ 6 ∷ list_of season ++ (sender ∷ number ∷ 3 ∷ high ∷ low ∷ d)
+    1 ∷ 0 ∷ 1 ∷ kind ∷ 2 ∷ 0 ∷ 6 ∷ listed 4 (λ i. get_or season i 0) ++ (sender ∷ number ∷ 3 ∷ high ∷ low ∷ d)
 
-laid_is : (kind sender number season : ℕ) (q : Quad) (d : List ℕ) → q ≡ quad_of season → length d ≡ 20
+laid_is : (kind sender number season : ℕ) (q d : List ℕ) → q ≡ be32 season → length d ≡ 20
     → laid kind sender number 0 20 q (listed 20 (λ i. get_or d i 0)) ≡ fields kind season sender number d
 laid_is kind sender number season q d e l =
     (λ i. laid kind sender number 0 20 (e i) (sym (listed_is d 20 l) i))
-    ∙ (λ i. laid kind sender number (sym l i / 256) (sym l i % 256) (quad_of season) d)
+    ∙ (λ i. laid kind sender number (sym l i / 256) (sym l i % 256) (be32 season) d)
 
 pub returns : goal.returns
 returns c =
     let a = c.args in
-    laid_is a.kind a.sender a.number a.season c.quad_of-q.result a.d c.quad_of-q.ensures c.requires
+    laid_is a.kind a.sender a.number a.season c.to_be_bytes-q.result a.d
+    (c.to_be_bytes-q.ensures ∙ be32_to_be_bytes a.season c.ranges.season.fits) c.requires
