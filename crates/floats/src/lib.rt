@@ -22,13 +22,7 @@ pub fn float_of(bits: u32) -> f32
 pub fn is_measurable(bits: u32) -> bool
     ensures { result ≡ measurable (of_bits binary32 bits) }
 {
-    if bits < 0x7f80_0000 {
-        return true;
-    }
-    if bits == 0x8000_0000 {
-        return true;
-    }
-    false
+    bits < 0x7f80_0000 || bits == 0x8000_0000
 }
 
 // Float comparison, by the bits without the sign, which zero alone may have here: what a processor's compare says of the smallest floats
