@@ -146,6 +146,7 @@ impl<'a> Script<'a> {
     }
 
     // The first name that is this word.
+    // Kept: beside the one above, since one function that takes the test needs a bound and a clause, and is longer than both.
     fn name_of(self, word: &[u8]) -> Option<Name<'a>> {
         (0..self.size())
             .filter_map(|at| self.name_after(at))
@@ -201,8 +202,7 @@ impl<'a> Script<'a> {
     }
 
     // The words from a place to the end of the line, or to a bar, after which the line has its text; they have to end within 256 bytes.
-    pub fn words(self, at: u32, r: Numbers) -> Numbers {
-        let mut r = r;
+    pub fn words(self, at: u32, mut r: Numbers) -> Numbers {
         r.set(DONE, 0);
         for place in at..at.saturating_add(256) {
             if r.get(DONE) != 0 {
