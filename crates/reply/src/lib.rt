@@ -79,6 +79,7 @@ pub fn announce(season: u32, sender: u8, number: u8, d: [u8; 20]) -> Outcome
 }
 
 // The message with another kind.
+#[tactic(auto, using(crate::proofs::Whole::whole))]
 fn with_kind(message: &[u8], kind: u8) -> [u8; 36]
     requires { length message.now ≡ 36 }
     ensures { result ≡ with_kind kind message.now }
