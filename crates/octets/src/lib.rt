@@ -7,12 +7,6 @@ ghost use Rattle.lot.specs.Declaration.{declaration_at, bytes_of};
 
 use lot::Declaration;
 
-pub fn wide(x: u8) -> u32
-    ensures { (result ≡ x) × (result < 256) }
-{
-    x as u32
-}
-
 // The number whose four bytes stand at i.
 pub fn word_at(bytes: &[u8], i: usize) -> u32
     requires { i + 3 < length bytes.now }
