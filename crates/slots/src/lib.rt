@@ -9,8 +9,8 @@ ghost use Rattle.meaning.specs.Slot.{slot_at, slot_ok, put_slot};
 ghost use Rattle.meaning.specs.Legal.{row_ok};
 ghost use Rattle.slots.specs.Strays.{clear};
 
-// The bytes of a slot. Kept: a slot is named by its place in the book's bytes, as the definitions name it (`slot_at`, `put_slot`), and not by
-// a type of its own, which would ask for the same room where it is made.
+// The bytes of a slot. Kept: a slot is named by its place in the book's bytes, as the definitions name it (`slot_at`, `put_slot`), and not
+// by a type of its own, which would ask for the same room where it is made.
 pub const LENGTH: usize = 21;
 
 // The slots that one turn of the scan gathers.
@@ -104,8 +104,8 @@ pub fn lay_at(b: &mut [u8], at: usize, bytes: &[u8])
     requires { at + length bytes.now ≤ length b.old }
     ensures { b.new ≡ paste b.old at bytes.now (length bytes.now) }
 {
-    // Kept: tried as copy_from_slice, with `eight_at` by a copy too: a copy tests whether the two overlap, so that a count of vouchers took 65
-    // instructions for 53, and 91 for 79.
+    // Kept: tried as copy_from_slice, with `eight_at` by a copy too: a copy tests whether the two overlap, so that a count of vouchers took
+    // 65 instructions for 53, and 91 for 79.
     for i in 0..bytes.len() {
         b[at + i] = bytes[i];
     }
