@@ -16,6 +16,7 @@ fn readings_of(d: Declaration) -> Readings
     }
 }
 
+#[tactic(auto, using(sheet::proofs::Limits::both_measurable), unfolding(sheet::specs::Sheet::within, sheet::specs::Sheet::limits_measurable))]
 fn is_within(g: Gate, x: f32) -> bool
     requires { (limits_measurable g ≡ true) × (measurable x ≡ true) }
     ensures { result ≡ within g x }
@@ -23,60 +24,46 @@ fn is_within(g: Gate, x: f32) -> bool
     match g {
         Gate::Open => true,
         Gate::AtMost(high) => floats::is_at_most(x, high),
-        Gate::Between(low, high) => {
-            if floats::is_at_most(low, x) {
-                return floats::is_at_most(x, high);
-            }
-            false
-        }
+        Gate::Between(low, high) => floats::is_at_most(low, x) && floats::is_at_most(x, high),
     }
 }
 
 // No low exceeds its high, no limit being NaN, infinite or below zero.
+#[tactic(auto, using(crate::proofs::Ordered::low_at_most, sheet::proofs::Limits::both_measurable), unfolding(sheet::specs::Sheet::ordered))]
 pub fn is_ordered(g: Gate) -> bool
     requires { limits_measurable g ≡ true }
     ensures { result ≡ ordered g }
 {
     match g {
-        Gate::Open => true,
-        Gate::AtMost(_) => true,
+        Gate::Open | Gate::AtMost(_) => true,
         Gate::Between(low, high) => floats::is_at_most(low, high),
     }
 }
 
 // Each reading is within its gate.
+#[tactic(auto, using(sheet::proofs::Limits::gates_limits), unfolding(sheet::specs::Sheet::admitted, sheet::specs::Sheet::passes))]
 fn admits(sheet: Sheet, r: Readings) -> bool
     requires { (sheet_legal sheet ≡ true) × (measurable r.moisture ≡ true) × (measurable r.conductivity ≡ true) }
     ensures { result ≡ admitted sheet r }
 {
-    let m = sheet.moisture;
-    let c = sheet.conductivity;
-    if is_within(m, r.moisture) {
-        return is_within(c, r.conductivity);
-    }
-    false
+    is_within(sheet.moisture, r.moisture) && is_within(sheet.conductivity, r.conductivity)
 }
 
 // The most kilograms that so many colonies may give: the exact product.
 fn most(colonies: u32, cap: u32) -> u64
     ensures { result ≡ colonies * cap }
 {
-    (colonies as u64) * (cap as u64)
+    u64::from(colonies) * u64::from(cap)
 }
 
-#[tactic(auto, using(sheet::proofs::Exactly::no_colonies))]
+#[tactic(auto, unfolding(sheet::specs::Sheet::plausible, sheet::specs::Sheet::admitted, sheet::specs::Sheet::passes))]
 pub fn is_plausible(sheet: Sheet, d: Declaration) -> bool
     requires { sheet_legal sheet ≡ true }
     ensures { result ≡ plausible sheet d }
 {
-    if d.colonies >= 1 {
-        if d.kilograms as u64 <= most(d.colonies, sheet.cap) {
-            if floats::is_measurable(d.moisture) {
-                if floats::is_measurable(d.conductivity) {
-                    return admits(sheet, readings_of(d));
-                }
-            }
-        }
-    }
-    false
+    d.colonies >= 1
+        && u64::from(d.kilograms) <= most(d.colonies, sheet.cap)
+        && floats::is_measurable(d.moisture)
+        && floats::is_measurable(d.conductivity)
+        && admits(sheet, readings_of(d))
 }
