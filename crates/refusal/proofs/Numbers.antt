@@ -1,12 +1,12 @@
 -- A number tells its refusal: the refusal is found again from it.
 use mathlib.Core.Path.{refl, sym, ap, ◌∙◌}
 use native.Mathlib.Omega.{arith}
-use Rattle.std.specs.Prelude.{ℕ, ◌≡◌, cond, eqb}
+use Rattle.std.specs.Prelude.{ℕ, ◌≡◌, cond, eqb, Result, Ok, Err}
 use Rattle.refusal.specs.declared.Refusal.{Refusal}
 use Rattle.refusal.specs.declared.Refusal.TheVariants.{NotLegal, Malformed, OtherSeason, NotThere, NotPlausible, NotFromSender, SaidBefore}
 use Rattle.refusal.specs.declared.Refusal.TheVariants.{PublishedBefore, NotAllowed, NotASheet, OtherLength, SaidOtherwise, HelpedEnough}
 use Rattle.refusal.specs.declared.Refusal.TheVariants.{NotSound, NotFinite, LotThere, NoneFree, LotNotThere}
-use Rattle.refusal.specs.Answer.{number_of}
+use Rattle.refusal.specs.Answer.{number_of, answer_of}
 
 abbrev refusal_of : ℕ → Refusal
 refusal_of n =
@@ -54,3 +54,10 @@ number_injective x y e = sym (found_again x) ∙ (ap refusal_of e ∙ found_agai
 
 pub never_accepted : (x : Refusal) → number_of x ≡ 0 → ⊥
 never_accepted x = grind arith
+
+-- so an answer tells its outcome
+pub answer_injective : (r s : Result Unit Refusal) → answer_of r ≡ answer_of s → r ≡ s
+answer_injective (Ok x) (Ok y) e = refl
+answer_injective (Ok x) (Err y) e = absurd (never_accepted y (sym e))
+answer_injective (Err x) (Ok y) e = absurd (never_accepted x e)
+answer_injective (Err x) (Err y) e = ap Err (number_injective x y e)
