@@ -1,24 +1,53 @@
 // The sheet's 22 bytes, and judging a declaration at the bytes.
 #![tactic(auto)]
 
-ghost use Rattle.std.specs.Prelude.{◌≡◌, ◌+◌, ◌<◌, length};
-ghost use Rattle.sheet.specs.Kept.{kept_legal, laid, sheet_at, sheet_legal_at, is_sheet, judged};
+ghost use Rattle.std.specs.Prelude.{◌≡◌, ◌+◌, ◌<◌, if◌then◌else◌, length};
+ghost use Rattle.refusal.specs.Answer.{answer_of};
+ghost use Rattle.sheet.specs.Kept.{gate_of, kept_legal, laid, sheet_at, sheet_legal_at, is_sheet, judged};
 
-use sheet::{Kept, Sheet};
+use refusal::Refusal;
+use sheet::{Gate, Kept, Sheet};
 
-// The one form of a legal gate.
-fn is_legal_kept(k: Kept) -> bool
-    ensures { result ≡ kept_legal k }
+// The legal gate that they are the one form of, if they are one's.
+#[tactic(auto, unfolding(sheet::specs::Kept::kept_legal, sheet::specs::Sheet::gate_legal))]
+fn legal_gate(k: Kept) -> Option<Gate>
+    ensures { result ≡ (if kept_legal k then Some (gate_of k) else None) }
 {
-    if kept::is_form(k) {
-        if kept::has_measurable_limits(k) {
-            return gates::is_ordered(kept::gate_of(k));
-        }
+    let gate = kept::form_of(k)?;
+    if kept::has_measurable_limits(k) && gates::is_ordered(gate) {
+        Some(gate)
+    } else {
+        None
     }
-    false
 }
 
-// The sheet whose 22 bytes stand at i.
+// The legal sheet whose one form stands in the 22 bytes at i, if one's does.
+#[tactic(auto, unfolding(sheet::specs::Kept::sheet_at, sheet::specs::Kept::sheet_legal_at))]
+fn legal_sheet_at(bytes: &[u8], i: usize) -> Option<Sheet>
+    requires { i + 21 < length bytes.now }
+    ensures { result ≡ (if sheet_legal_at bytes.now i then Some (sheet_at bytes.now i) else None) }
+{
+    Some(Sheet {
+        cap: octets::word_at(bytes, i),
+        moisture: legal_gate(kept::kept_at(bytes, i + 4))?,
+        conductivity: legal_gate(kept::kept_at(bytes, i + 13))?,
+    })
+}
+
+// The legal sheet whose one form these bytes are, if they are one's.
+#[tactic(auto, unfolding(sheet::specs::Kept::is_sheet))]
+fn legal_sheet(bytes: &[u8]) -> Option<Sheet>
+    ensures { result ≡ (if is_sheet bytes.now then Some (sheet_at bytes.now 0) else None) }
+{
+    if bytes.len() == 22 {
+        legal_sheet_at(bytes, 0)
+    } else {
+        None
+    }
+}
+
+// The sheet whose 22 bytes stand at i, whatever they are.
+#[tactic(auto, unfolding(sheet::specs::Kept::sheet_at))]
 pub fn sheet_at(bytes: &[u8], i: usize) -> Sheet
     requires { i + 21 < length bytes.now }
     ensures { result ≡ sheet_at bytes.now i }
@@ -35,21 +64,14 @@ pub fn is_sheet_at(bytes: &[u8], i: usize) -> bool
     requires { i + 21 < length bytes.now }
     ensures { result ≡ sheet_legal_at bytes.now i }
 {
-    if is_legal_kept(kept::kept_at(bytes, i + 4)) {
-        return is_legal_kept(kept::kept_at(bytes, i + 13));
-    }
-    false
+    legal_sheet_at(bytes, i).is_some()
 }
 
 // These bytes are the one form of a legal sheet.
-#[tactic(auto, unfolding(sheet::specs::Kept::is_sheet))]
 pub fn is_sheet(bytes: &[u8]) -> bool
     ensures { result ≡ is_sheet bytes.now }
 {
-    if bytes.len() == 22 {
-        return is_sheet_at(bytes, 0);
-    }
-    false
+    legal_sheet(bytes).is_some()
 }
 
 // A sheet's 22 bytes: the cap, and each gate as it is kept.
@@ -68,15 +90,16 @@ pub fn lay_sheet(cap: u32, m: Kept, c: Kept) -> [u8; 22]
     ]
 }
 
-// Judging: 10, then 5, else 0.
-pub fn judge(sheet: &[u8], declaration: &[u8; 20]) -> u8
-    ensures { result ≡ judged sheet.now declaration.now }
+// Judging: 10, then 5.
+#[tactic(auto, using(crate::proofs::Judged::judging))]
+pub fn judge(sheet: &[u8], declaration: &[u8; 20]) -> Result<(), Refusal>
+    ensures { answer_of result ≡ judged sheet.now declaration.now }
 {
-    if is_sheet(sheet) {
-        if gates::is_plausible(sheet_at(sheet, 0), octets::declaration_at(declaration, 0)) {
-            return 0;
-        }
-        return 5;
+    let Some(sheet) = legal_sheet(sheet) else {
+        return Err(Refusal::NotASheet);
+    };
+    if !gates::is_plausible(sheet, octets::declaration_at(declaration, 0)) {
+        return Err(Refusal::NotPlausible);
     }
-    10
+    Ok(())
 }
