@@ -1,3 +1,4 @@
 pub mod Sizes
+pub mod Told
 pub mod Claims
 pub mod Settled

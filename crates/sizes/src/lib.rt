@@ -5,8 +5,10 @@ ghost use Rattle.std.specs.Prelude.{◌≡◌, ◌&&◌};
 ghost use Rattle.card.specs.Card.{houses_ok};
 ghost use Rattle.meaning.specs.Layout.{numbers_ok};
 ghost use Rattle.meaning.specs.Opening.{Length, allowed, length_answer};
+ghost use Rattle.sizes.specs.Answer.{told};
 
 use layout::Shape;
+use refusal::Refusal;
 
 // Entry numbers S: 1 to 4 per sender.
 const MOST_NUMBERS: u32 = 4;
@@ -26,10 +28,7 @@ fn is_numbers(numbers: u32) -> bool
 fn is_size(n: u32, numbers: u32) -> bool
     ensures { result ≡ houses_ok n && numbers_ok numbers }
 {
-    if counts::is_houses(n) {
-        return is_numbers(numbers);
-    }
-    false
+    counts::is_houses(n) && is_numbers(numbers)
 }
 
 // n, S, own number, f and d are allowed.
@@ -37,17 +36,25 @@ fn is_size(n: u32, numbers: u32) -> bool
 pub fn is_allowed(n: u32, numbers: u32, own: u32, f: u32, d: u32) -> bool
     ensures { result ≡ allowed n numbers own f d }
 {
-    if is_size(n, numbers) {
-        if own < n {
-            if counts::is_down(n, f) {
-                return d <= MOST_LIMIT;
-            }
-        }
-    }
-    false
+    is_size(n, numbers) && own < n && counts::is_down(n, f) && d <= MOST_LIMIT
 }
 
-// Answer 0 and a book's length, or answer 9 and 0.
+// The public answer for a length that depends on n and S only: 9.
+#[tactic(auto, using(crate::proofs::Sizes::n_byte, crate::proofs::Sizes::numbers_byte), unfolding(meaning::specs::Opening::length_answer))]
+pub fn length_of(n: u32, numbers: u32) -> Result<u64, Refusal>
+    ensures { ◌≡◌ {A = Length} (told result) (length_answer n numbers) }
+{
+    if !is_size(n, numbers) {
+        return Err(Refusal::NotAllowed);
+    }
+    let shape = Shape {
+        n: n as u8,
+        numbers: numbers as u8,
+    };
+    Ok(shape.book_length() as u64)
+}
+
+// Answer 0 and a book's length, or why not and 0: what C is given of a length.
 #[repr(C)]
 #[derive(Clone, Copy)]
 pub struct LengthAnswer {
@@ -55,23 +62,16 @@ pub struct LengthAnswer {
     pub length: u64,
 }
 
-// The public answer for a length that depends on n and S only.
-#[tactic(auto, using(crate::proofs::Sizes::n_byte, crate::proofs::Sizes::numbers_byte), unfolding(meaning::specs::Opening::length_answer))]
-pub fn length_of(n: u32, numbers: u32) -> LengthAnswer
-    ensures { ◌≡◌ {A = Length} (record { answer = result.answer; length = result.length }) (length_answer n numbers) }
-{
-    if is_size(n, numbers) {
-        let shape = Shape {
-            n: n as u8,
-            numbers: numbers as u8,
-        };
-        return LengthAnswer {
-            answer: 0,
-            length: shape.book_length() as u64,
-        };
-    }
-    LengthAnswer {
-        answer: 9,
-        length: 0,
+impl From<Result<u64, Refusal>> for LengthAnswer {
+    ghost from_gives = { λ length given. ◌≡◌ {A = Length} (record { answer = given.answer; length = given.length }) (told length) };
+
+    fn from(length: Result<u64, Refusal>) -> LengthAnswer {
+        match length {
+            Ok(length) => LengthAnswer { answer: 0, length },
+            Err(refusal) => LengthAnswer {
+                answer: u8::from(refusal),
+                length: 0,
+            },
+        }
     }
 }
