@@ -16,6 +16,7 @@ ghost use Rattle.roll.specs.Roll.{line_of, outcome, entered, struck};
 
 use calls::{Outcome, Returned, Sent, Waiting};
 use message::{ReadAnswer, Written};
+use opening::Asked;
 use refusal::answer_of;
 use roll::{Ask, Line, Totals};
 use sizes::LengthAnswer;
@@ -25,7 +26,7 @@ use sizes::LengthAnswer;
 pub extern "C" fn gm_length(n: u32, numbers: u32) -> LengthAnswer
     ensures { ◌≡◌ {A = Length} (record { answer = result.answer; length = result.length }) (length_answer n numbers) }
 {
-    sizes::length_of(n, numbers)
+    LengthAnswer::from(sizes::length_of(n, numbers))
 }
 
 // Opening: 9, 10, 11; else the whole buffer is written.
@@ -43,7 +44,15 @@ pub extern "C" fn gm_open(
     ensures { ◌≡◌ {A = Opened} (record { answer = result; book = book.new })
         (opened book.old n numbers own f d season sheet.now) }
 {
-    opening::open_book(book, n, numbers, own, f, d, season, sheet)
+    let asked = Asked {
+        n,
+        numbers,
+        own,
+        f,
+        d,
+        season,
+    };
+    answer_of(opening::open_book(book, asked, sheet))
 }
 
 // Publishing: 1, 4, 5, 8.
@@ -100,7 +109,7 @@ pub extern "C" fn gm_sent(book: &[u8], kind: u8, sender: u32, number: u32) -> Se
 pub extern "C" fn gm_judge(sheet: &[u8], declaration: &[u8; 20]) -> u8
     ensures { result ≡ judged sheet.now declaration.now }
 {
-    judge::judge(sheet, declaration)
+    answer_of(judge::judge(sheet, declaration))
 }
 
 // The 36 bytes of a message, or answer 2.

@@ -1,11 +1,10 @@
 -- A buffer that is cleared, and then laid over with a header, is blank.
 use Prim.Native.Nat.{ℕ, ◌+◌, ◌-◌, ◌<◌, ◌≤◌}
-use mathlib.Core.Path.{◌≡◌, sym, ap, ap₂, ◌∙◌}
-use mathlib.Core.List.{List, [], ◌∷◌, ◌++◌, append-nil, append_assoc}
+use mathlib.Core.Path.{◌≡◌, sym, ap, ◌∙◌}
+use mathlib.Core.List.{List, [], ◌∷◌, ◌++◌, append_assoc}
 use native.Mathlib.Omega.{arith}
-use native.Mathlib.Numerals.{add-one}
-use lib.ListN.{length, take, drop, length-take, set, replicate, length-drop, length-replicate, get_or-replicate, drop_of_length-le}
-use lib.Seq.{paste, paste-suc, take_all, drop-drop, drop-append-add, get_or-drop, ext_get_or}
+use lib.ListN.{length, take, drop, length-take, replicate, length-drop, length-replicate, get_or-replicate}
+use lib.Seq.{paste, take_all, drop-drop, drop-append-add, get_or-drop, ext_get_or}
 use Rattle.words.specs.Words.{be32}
 use Rattle.sheet.specs.Kept.{sheet_length}
 use Rattle.meaning.specs.Layout.{sheet_place, down_place, limit_place, helped_place}
@@ -19,23 +18,6 @@ drop_replicate m k =
     let l' : i < k - m = omega (arith, length-drop {A = ℕ} m (replicate k 0), length-replicate {A = ℕ} k 0) in
     get_or-drop {A = ℕ} m (replicate k 0) i 0 ∙ get_or-replicate {A = ℕ} k (m + i) 0 0 (omega arith)
     ∙ sym (get_or-replicate {A = ℕ} (k - m) i 0 0 l'))
-
--- the bytes before i are zero: one more, and all
-module _ (b₀ b : List ℕ) (i : ℕ) (e : b ≡ paste b₀ 0 (replicate (length b₀) 0) i) where
-  pub zero_more : i < length b₀ → set b i 0 ≡ paste b₀ 0 (replicate (length b₀) 0) (i + 1)
-  zero_more l =
-      let zeros : List ℕ = replicate (length b₀) 0 in
-      let k : i ≡ 0 + i = omega arith in
-      let v = get_or-replicate {A = ℕ} (length b₀) i 0 0 l in
-      rw (e, add-one i)
-      (ap₂ (λ (j x : ℕ). set (paste b₀ 0 zeros i) j x) k (sym v)
-      ∙ paste-suc b₀ 0 zeros i 0 (omega arith) (omega (arith, length-replicate {A = ℕ} (length b₀) 0)))
-
-  pub zeros_all : length b₀ ≤ i → b ≡ replicate (length b₀) 0
-  zeros_all l =
-      let n : length (replicate {A = ℕ} (length b₀) 0) ≤ i = omega (arith, length-replicate {A = ℕ} (length b₀) 0) in
-      let o : length b₀ ≤ 0 + i = omega arith in
-      e ∙ rw (take_all i (replicate (length b₀) 0) n, drop_of_length-le b₀ o) (append-nil (replicate (length b₀) 0))
 
 -- where the help given begins
 abbrev helps : ℕ

@@ -1,6 +1,6 @@
 -- A blank buffer of the book's length is a fresh book; what opening answers.
 use Prim.Native.Nat.{ℕ, ◌+◌, ◌*◌, ◌-◌, ◌<◌}
-use mathlib.Core.Path.{◌≡◌, sym, ap, ◌∙◌}
+use mathlib.Core.Path.{◌≡◌, refl, sym, ap, ◌∙◌}
 use mathlib.Core.Bool.{Bool, true, false}
 use mathlib.Core.List.{List, [], ◌∷◌, ◌++◌, append_assoc}
 use native.Mathlib.Omega.{arith}
@@ -14,7 +14,18 @@ use Rattle.meaning.specs.Book.{rows, help_bytes, head, write}
 use Rattle.meaning.proofs.Rows.{rows_zeros}
 use Rattle.meaning.specs.Opening.{headed, fresh_book, Opened, allowed, opened}
 use Rattle.meaning.proofs.Opening.{allowed_facts, fresh_written}
+use Rattle.sizes.proofs.Sizes.{allowed_n, allowed_numbers, allowed_own, allowed_down, allowed_limit}
 use Rattle.opening.specs.Parts.{blank}
+
+-- what is allowed is written in a byte each
+pub allowed_bytes : (n s own f d : ℕ) → allowed n s own f d ≡ true → (n < 256) × (s < 256) × (own < 256) × (f < 256) × (d < 256)
+allowed_bytes n s own f d t = (
+  allowed_n n s own f d _ refl t,
+  allowed_numbers n s own f d _ refl t,
+  allowed_own n s own f d _ refl t,
+  allowed_down n s own f d _ refl t,
+  allowed_limit n s own f d _ refl t,
+)
 
 module _ (b : List ℕ) (n s own f d season : ℕ) (sheet : List ℕ) where
   blank_fresh : own < n → Bytes sheet → is_sheet sheet ≡ true → length b ≡ length_of n s

@@ -6,9 +6,12 @@ ghost use Rattle.std.specs.Prelude.{◌≡◌, ◌+◌, ◌*◌, ◌<◌, slice_
 
 use card::Counts;
 use hand::{answered, declaration_of};
+use opening::Asked;
 use post::{APART, BOOKS};
+use refusal::answer_of;
 use script::{BYTES, Call, HELP_LIMIT, HOUSES, Numbers, OWN, SEASON, TAIL};
 use sheet::Kept;
+use sizes::LengthAnswer;
 use std::ops::Range;
 
 // ---- the numbers, by their letters
@@ -60,7 +63,7 @@ fn sheet_of(r: &Numbers) -> [u8; 22] {
 // ---- the calls
 
 fn length(r: &mut Numbers) {
-    let found = sizes::length_of(r.get(HOUSES), r.get(NUMBERS));
+    let found = LengthAnswer::from(sizes::length_of(r.get(HOUSES), r.get(NUMBERS)));
     answered(r, found.answer);
     r.set(TAIL, if found.answer == 0 { 2 } else { 0 });
     r.set(BYTES, u32::try_from(found.length).unwrap_or(0));
@@ -114,9 +117,9 @@ fn column(r: &mut Numbers) {
 // The end of what is told: the answer and why (0), or that the lot is plausible (1).
 fn judge(r: &mut Numbers) {
     let declaration = octets::bytes_of(declaration_of(r));
-    let answer = judge::judge(&sheet_of(r), &declaration);
-    answered(r, answer);
-    r.set(TAIL, u32::from(answer == 0));
+    let judged = judge::judge(&sheet_of(r), &declaration);
+    answered(r, answer_of(judged));
+    r.set(TAIL, u32::from(judged.is_ok()));
 }
 
 pub fn on_nothing(call: Call, r: &mut Numbers) {
@@ -128,15 +131,14 @@ pub fn on_nothing(call: Call, r: &mut Numbers) {
 }
 
 pub fn open(book: &mut [u8], r: &mut Numbers) {
-    let answer = opening::open_book(
-        book,
-        r.get(HOUSES),
-        r.get(NUMBERS),
-        r.get(OWN),
-        r.get(DOWN_LIMIT),
-        r.get(HELP_LIMIT),
-        r.get(SEASON),
-        &sheet_of(r),
-    );
-    answered(r, answer);
+    let asked = Asked {
+        n: r.get(HOUSES),
+        numbers: r.get(NUMBERS),
+        own: r.get(OWN),
+        f: r.get(DOWN_LIMIT),
+        d: r.get(HELP_LIMIT),
+        season: r.get(SEASON),
+    };
+    let opened = opening::open_book(book, asked, &sheet_of(r));
+    answered(r, answer_of(opened));
 }
