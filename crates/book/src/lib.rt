@@ -29,19 +29,17 @@ fn are_helps_ok(b: &[u8], d: u8, k: u8) -> bool
 fn is_sized(b: &[u8]) -> bool
     ensures { result ≡ sized b.now }
 {
-    if layout::LIMIT < b.len() {
-        let shape = layout::shape_of(b);
-        if sizes::is_allowed(
-            u32::from(shape.n),
-            u32::from(shape.numbers),
-            u32::from(layout::own_of(b)),
-            u32::from(layout::down_of(b)),
-            u32::from(layout::limit_of(b)),
-        ) {
-            return b.len() == shape.book_length();
-        }
+    if b.len() <= layout::LIMIT {
+        return false;
     }
-    false
+    let shape = layout::shape_of(b);
+    sizes::is_allowed(
+        u32::from(shape.n),
+        u32::from(shape.numbers),
+        u32::from(layout::own_of(b)),
+        u32::from(layout::down_of(b)),
+        u32::from(layout::limit_of(b)),
+    ) && b.len() == shape.book_length()
 }
 
 // Whether the head is a legal book's: all but the slots.
@@ -49,12 +47,9 @@ fn is_sized(b: &[u8]) -> bool
 pub fn is_head_legal(b: &[u8]) -> bool
     ensures { result ≡ head_legal b.now }
 {
-    if is_sized(b) {
-        if are_helps_ok(b, layout::limit_of(b), layout::n_of(b)) {
-            return judge::is_sheet_at(b, layout::SHEET);
-        }
-    }
-    false
+    is_sized(b)
+        && are_helps_ok(b, layout::limit_of(b), layout::n_of(b))
+        && judge::is_sheet_at(b, layout::SHEET)
 }
 
 // Whether the bytes are a legal book.
@@ -62,11 +57,11 @@ pub fn is_head_legal(b: &[u8]) -> bool
 pub fn is_legal(b: &[u8]) -> bool
     ensures { result ≡ legal b.now }
 {
-    if is_head_legal(b) {
-        let shape = layout::shape_of(b);
-        return slots::are_slots_ok(b, shape.slot_place(0), shape.slot_count());
+    if !is_head_legal(b) {
+        return false;
     }
-    false
+    let shape = layout::shape_of(b);
+    slots::are_slots_ok(b, shape.slot_place(0), shape.slot_count())
 }
 
 // Whether each slot of the entry has its one form.
