@@ -35,7 +35,8 @@ twenty_at-requires-then-answer-eq0-3 c = omega (arith, sized c.args.message.now 
 
 pub mark-requires : goal.mark-requires
 mark-requires c =
-    omega (arith, ready_sent_room _ _ (lies _ c.args.entry c.requires.2 c.requires.0.begins.within), c.ready_sent.ensures, c.put_slot.auto.b)
+    let room = ready_sent_room _ _ (lies _ c.args.entry c.requires.2 c.requires.0.begins.within) in
+    omega (arith, room, c.ready_sent.ensures, c.put_slot.auto.b)
 
 pub returns-then-answer-eq0 : goal.returns-then-answer-eq0
 returns-then-answer-eq0 c =
