@@ -261,8 +261,7 @@ impl<W: Write> Scene<'_, W> {
         self.teller.say_line(READYS, &r)
     }
 
-    // A line that asks for no call or step that there is.
-    pub fn refuse(&mut self, mut r: Numbers) -> io::Result<()> {
+    fn refuse(&mut self, mut r: Numbers) -> io::Result<()> {
         r.refuse();
         self.teller.told(&r)
     }

@@ -98,7 +98,10 @@ fn call_line<W: Write>(scene: &mut Scene<'_, W>, base: &mut Numbers, at: u32) ->
             Ok(())
         }
         Ok(call) => make(scene, call, r),
-        Err(_) => scene.refuse(r),
+        Err(_) => {
+            r.refuse();
+            scene.teller.told(&r)
+        }
     }
 }
 
