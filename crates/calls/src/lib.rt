@@ -1,4 +1,5 @@
 // What each call hands back, laid out as C and Rust see it.
+// Kept: answers and flags as numbers beside the bytes, each in a struct of its own, since the C interface has them so.
 #![tactic(auto)]
 
 // What publishing and receiving give. An absent message or declaration is zeros; `helps` says that an asker is to be helped.

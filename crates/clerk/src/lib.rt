@@ -15,6 +15,7 @@ use std::ops::Range;
 const WAITS: u8 = b'e';
 
 // What is told where nothing was sent, by its number in the script.
+// Kept: a number, as those of `stage` are.
 const NOTHING: u32 = 32;
 
 // Which entry is told as the earliest that waits, by its number in the script.
@@ -36,7 +37,7 @@ impl From<&Waiting> for Waits {
 }
 
 // ---- the calls, each with the message that it gives, which is zeros where it gives none
-// Kept: zeros in place of None, since they are posted where the script sets g itself.
+// Kept: zeros in place of None, and 36 bytes for a request's 11, since they are posted where the script sets g itself.
 
 fn come_back(book: &[u8], r: &mut Numbers) -> [u8; 36] {
     let back = again::come_back(book);
@@ -71,6 +72,7 @@ fn on_book(book: &[u8], call: Call, r: &mut Numbers) -> [u8; 36] {
 }
 
 // A call on the book of a house, where the desk has it.
+// Kept: beside `on_desk` of `desk`, since the one reads a book and the other changes it, and no function is over both loans.
 fn look_up(desk: &[u8], call: Call, r: &mut Numbers) -> [u8; 36] {
     match desk.get(outset::place_of(r)) {
         Some(book) => on_book(book, call, r),
@@ -90,7 +92,7 @@ fn send_kind<W: Write>(
     kind: Kind,
     to: &Range<u32>,
 ) -> io::Result<()> {
-    r.set(CALL, Call::Sent as u32);
+    r.set(CALL, u32::from(Call::Sent));
     r.set(KIND, u32::from(u8::from(kind)));
     let message = look_up(scene.desk, Call::Sent, &mut r);
     if r.get(GIVES) == Gives::Message as u32 {

@@ -95,6 +95,7 @@ pub fn declaration_of(r: &Numbers) -> Declaration {
 
 // ---- messages
 
+// Kept: the kind and the answer as numbers, since what is no kind is handed to the writer too, and its answer is told.
 fn written(r: &Numbers, kind: u8) -> Written {
     writer::write_message(
         kind,

@@ -1,4 +1,5 @@
 // The fourteen calls that a house links, as they are exported to C and Rust.
+// Kept: answers and kinds are numbers here, and receiving and the roll have two exports each, since the C interface has them so.
 #![tactic(auto)]
 
 ghost use Rattle.std.specs.Prelude.{◌≡◌};

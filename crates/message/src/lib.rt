@@ -55,6 +55,7 @@ pub struct Message {
 }
 
 // What writing gives: answer 0 and the message, or answer 2 and zeros.
+// Kept, and the one below: the answer as a number beside the bytes, since the C interface has it so.
 #[repr(C)]
 #[derive(Clone, Copy)]
 pub struct Written {

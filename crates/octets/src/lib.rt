@@ -8,6 +8,8 @@ ghost use Rattle.lot.specs.Declaration.{declaration_at, bytes_of};
 use lot::Declaration;
 
 // The number whose four bytes stand at i.
+// Kept, here, below and in `fields`, `kept`, `judge` and `slots`: bytes and a place in them, with the clause that so many stand there, as
+// the definitions read them (`word_at`, `declaration_at`); a slice of as many, made by each caller, would ask the same there.
 pub fn word_at(bytes: &[u8], i: usize) -> u32
     requires { i + 3 < length bytes.now }
     ensures { result ≡ word_at bytes.now i }
@@ -31,6 +33,8 @@ pub fn declaration_at(bytes: &[u8], i: usize) -> Declaration
 }
 
 // The 20 bytes of a declaration.
+// Kept: element by element, as `write_request`, `lay_message`, `lay_sheet` and `before_sheet` lay theirs: each is one list of what the
+// document lays out; pieces that are copied into zeros would each need a range, and are no plainer.
 #[tactic(auto, using(words::proofs::Laws::be32_to_be_bytes), unfolding(lot::specs::Declaration::bytes_of))]
 pub fn bytes_of(d: Declaration) -> [u8; 20]
     ensures { result ≡ bytes_of d }

@@ -39,7 +39,7 @@ fn kept(kind: u8, low: u32, high: u32) -> Kept {
 }
 
 // A gate, by its number in the script. 3, 7, 8 and 9 are not legal.
-// Kept: by the number, which is read at this one place.
+// Kept: by the number: an enum of the ten would need a match from the number to it and one from it to the gate.
 fn gate_of(gate: u32) -> Kept {
     match gate {
         1 => kept(1, 0, 0x41a0_0000),
@@ -62,6 +62,7 @@ fn sheet_of(r: &Numbers) -> [u8; 22] {
 
 // ---- the calls
 
+// Kept: 0 for a length that is not set, since a script may set b to 0, and is then given the right one; the answer is C's number.
 fn length(r: &mut Numbers) {
     let found = LengthAnswer::from(sizes::length_of(r.get(HOUSES), r.get(NUMBERS)));
     answered(r, found.answer);

@@ -23,6 +23,7 @@ pub struct Before {
 }
 
 // So many lines are looked through, for a lot.
+// Kept: that so many lines are there, and 4,096 at most, is a clause of its users, since the roll's length is no part of a look.
 #[derive(Clone, Copy, PartialEq, Eq, Debug)]
 pub struct Look {
     pub n: usize,

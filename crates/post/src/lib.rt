@@ -54,6 +54,7 @@ pub fn byte(x: u32) -> u8 {
 }
 
 // Puts a number into a byte, so far from a place; and has it from there.
+// Kept, here and below: a place in two parts, since their sum may be more than 32 bits hold; and a byte as a number, as the script's are.
 pub fn put(to: &mut [u8], at: u32, off: u32, x: u32) {
     if let Some(b) = to.get_mut(at as usize + off as usize) {
         *b = byte(x);
@@ -68,6 +69,7 @@ pub fn has(s: &[u8], at: u32, off: u32) -> u32
 }
 
 // Copies 36 bytes from one place to another, with zeros for what is past the end.
+// Kept: byte by byte, since some may have room where others have none.
 pub fn copy(to: &mut [u8], at: u32, from: &[u8], first: u32) {
     for i in 0..36 {
         put(to, at, i, has(from, first, i));
@@ -107,6 +109,7 @@ fn lay(desk: &mut [u8], at: u32, from: u32, to: u32, message: [u8; 36])
 }
 
 // One more on a list, to a house that is honest or not.
+// Kept: a READY by its number 3 in the message's byte, since this crate is of bytes alone, and stands on no other.
 fn post_one(desk: &mut [u8], list: List, from: u32, to: u32, is_honest: bool, message: [u8; 36]) {
     let counts = list.place();
     count(desk, counts, 0);

@@ -21,7 +21,7 @@ const NUMBER: usize = 12;
 const LOT: usize = 16;
 
 // The message that the bytes are, if they are one.
-#[tactic(auto, using(message::proofs::Form::sized, message::proofs::Form::known_kind), unfolding(message::specs::Message::read_of, message::specs::Message::five_at))]
+#[tactic(auto, using(crate::proofs::Reading::message_rules), unfolding(message::specs::Message::read_of, message::specs::Message::five_at))]
 pub fn read_message(bytes: &[u8]) -> Option<Message>
     ensures { told result ≡ read_of bytes.now }
 {
@@ -50,7 +50,7 @@ pub fn read_request(bytes: &[u8]) -> Option<u32>
 }
 
 // What reading gives, as numbers and bytes, for who reads and does not receive.
-#[tactic(auto, using(message::proofs::Form::sized, message::proofs::RoundTrip::lot_bytes), unfolding(message::specs::Message::read_of, message::specs::Message::five_at))]
+#[tactic(auto, using(crate::proofs::Reading::parts_rules), unfolding(message::specs::Message::read_of, message::specs::Message::five_at))]
 pub fn parts_of(bytes: &[u8]) -> ReadAnswer
     ensures { result ≡ read_answer (request_of bytes.now) (read_of bytes.now) }
 {

@@ -7,6 +7,7 @@ ghost use Rattle.roll.specs.Roll.{line_of};
 use lot::Declaration;
 
 // A lot's line: a declaration's five numbers, the readings as their bits. The default is the line zeroed.
+// Kept: beside `Declaration`, whose five numbers it has, since the C interface has this layout.
 #[repr(C)]
 #[derive(Clone, Copy, PartialEq, Eq, Default, Debug)]
 pub struct Line {

@@ -29,6 +29,7 @@ impl Numbers {
         }
     }
 
+    // Kept: 0 for what is no letter, since a script may tell such a number, and is told 0.
     pub fn get(&self, letter: u8) -> u32
         ensures { result ≡ slice_index self.now letter }
     {

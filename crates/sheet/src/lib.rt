@@ -24,6 +24,7 @@ pub struct Sheet {
     pub conductivity: Gate,
 }
 
+// Kept: kind and limits as the bytes have them, since bytes of any kind are read so (`kept_at`, `laid`), and those of no kind refused.
 // A gate as it is kept: its kind (0 open, 1 at most, 2 between) and two limits as bits, 0 where there is none.
 #[derive(Clone, Copy)]
 pub struct Kept {

@@ -9,8 +9,9 @@ ghost use Rattle.meaning.specs.Slot.{slot_at, slot_ok, put_slot};
 ghost use Rattle.meaning.specs.Legal.{row_ok};
 ghost use Rattle.slots.specs.Strays.{clear};
 
-// The bytes of a slot. Kept: a slot is named by its place in the book's bytes, as the definitions name it (`slot_at`, `put_slot`), and not
-// by a type of its own, which would ask for the same room where it is made.
+// The bytes of a slot.
+// Kept, here and in `vouchers`: a slot, and a row of them by its first, is named by its place in the book's bytes, as the definitions name
+// it (`slot_at`, `put_slot`, `row_ok`), and not by a type of its own, which would ask for the same room where it is made.
 pub const LENGTH: usize = 21;
 
 // The slots that one turn of the scan gathers.

@@ -31,6 +31,7 @@ const SOME_WRONG: u8 = b'I';
 const BECOMES: u8 = b'r';
 
 // What is told beside the calls, by its number in the script.
+// Kept: numbers, since the script looks a phrase up by its number, as it does a call's own.
 const TO_ONE: u32 = 30;
 
 const TO_ALL: u32 = 31;
@@ -66,6 +67,7 @@ pub enum Fares {
 }
 
 // What is taken from a list, and how it fares.
+// Kept: forty bytes, with their length among the numbers, since a script may set that itself, and so many are handed in.
 #[derive(Clone, Copy)]
 pub struct Taken {
     pub hand: [u8; 40],
@@ -217,6 +219,7 @@ impl<W: Write> Scene<'_, W> {
     // ---- down and back
 
     // Byte x of the book of house 0 becomes another.
+    // Kept, this and the one below: a put and what is told; one function of both would take all that differs.
     fn spoil(&mut self, r: Numbers) -> io::Result<()> {
         put(self.desk, BOOKS as u32, r.get(FREE), r.get(BECOMES));
         self.teller.told(&r)

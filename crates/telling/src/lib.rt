@@ -16,6 +16,7 @@ pub struct Teller<'a, W> {
 }
 
 // Where it goes on, and where after the name that is being told, and after the one around that, and so on; no text is nowhere.
+// Kept: four fields and no stack, since four are kept and what is around more is forgotten: `transcript` tells what it told on each script.
 #[derive(Clone, Copy)]
 struct Spot<'a> {
     at: &'a [u8],
@@ -78,6 +79,7 @@ impl<'a, W: Write> Teller<'a, W> {
     }
 
     // Tells a text to the end of its line.
+    // Kept, these four: by text or by phrase, with the line's end or without; each that calls another is two calls long.
     pub fn tell(&mut self, text: &[u8], r: &Numbers) -> io::Result<()> {
         let mut p = Spot {
             at: text,
@@ -131,6 +133,7 @@ impl<'a, W: Write> Teller<'a, W> {
     // ---- bytes
 
     // Bytes from a place to before another, in hexadecimal, with zeros for what is past their end.
+    // Kept: by their places, since those past the end are told as well.
     pub fn say_bytes(&mut self, bytes: &[u8], first: u32, end: u32) -> io::Result<()> {
         for at in first..end {
             let c = bytes.get(at as usize).copied().unwrap_or(0);

@@ -52,7 +52,7 @@ fn come_from<W: Write>(scene: &mut Scene<'_, W>, r: Numbers) -> io::Result<()> {
     for k in r.get(FREE)..64 {
         if post::is_left(scene.desk, List::Copies, k) {
             let mut r = r;
-            r.set(CALL, Call::Copy as u32);
+            r.set(CALL, u32::from(Call::Copy));
             r.set(FREE, k);
             come(scene, Call::Copy, r)?;
         }

@@ -17,7 +17,8 @@ pub fn write_request(season: u32) -> [u8; 11]
 }
 
 // The 36 bytes of a message, the declaration as its bytes.
-// Kept: the kind as a number, since the clause promises the bytes of each; the pages name this function.
+// Kept: five arguments, the kind as a number, and no Message, since the clause promises the bytes of each number; the pages name this
+// function, and `gm_write` hands C's numbers on.
 pub fn lay_message(kind: u8, season: u32, sender: u8, number: u8, d: [u8; 20]) -> [u8; 36]
     requires { length d ≡ 20 }
     ensures { result ≡ fields kind season sender number d }
