@@ -11,4 +11,5 @@ is_full-requires c =
 pub is_full-requires-then-is_full : goal.is_full-requires-then-is_full
 is_full-requires-then-is_full c =
     let e = c.entry_at-entry.ensures in
-    omega (arith, delivered_room _ _ (lies _ _ e.n e.begins.within), c.delivered.ensures)
+    let room = delivered_room _ _ (lies _ _ e.n e.begins.within) in
+    omega arith
