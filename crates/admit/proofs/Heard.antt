@@ -5,7 +5,6 @@ use mathlib.Core.Bool.{Bool, true, false, cond}
 use mathlib.Core.List.{List}
 use mathlib.Core.Logic.{inr}
 use mathlib.Core.Option.{Option, some}
-use native.Mathlib.Omega.{arith}
 use lib.ListN.{get_or}
 use borrow.Author.Tests.{lt-ltb, le-ltb}
 use Rattle.lot.specs.declared.Declaration.{Declaration}
@@ -18,17 +17,23 @@ use Rattle.message.proofs.Form.{known_kind}
 use Rattle.message.proofs.RoundTrip.{lot_bytes}
 use Rattle.entry.specs.Entry.{Decl, Kind, SEND, ECHO, READY}
 use Rattle.meaning.specs.Book.{n_of, numbers_of, sheet_of}
-use Rattle.meaning.specs.Legal.{IsDecl, Has, entry_legal}
+use Rattle.meaning.specs.Legal.{IsDecl, Has, entry_legal, head_legal}
 use Rattle.calls.specs.Entered.{Result, result_of, ok_by, kind_of, kind_number}
 use Rattle.calls.specs.Call.{refusal, asked_as}
 use Rattle.calls.specs.ByEntry.{called_in, answering_in, heard_on}
-use Rattle.calls.proofs.KindNumber.{kind_known, kind_send, kind_echo, kind_ready, no_kind}
+use Rattle.calls.proofs.KindNumber.{kind_known, kind_send, kind_echo, kind_ready}
 use Rattle.calls.proofs.Declarations.{read_decl, plausible_ok}
 use Rattle.calls.proofs.Checking.{missing_refused, implausible_refused, another_refused}
+use Rattle.layout.specs.declared.EntryAt.{EntryAt}
+use Rattle.layout.specs.Places.{Opens}
 use Rattle.reply.specs.declared.Step.{Step}
 use Rattle.reply.specs.Handed.{sender_in, number_in, lot_in, outcome_of, refused_by}
 use Rattle.step.specs.Carries.{asked_by, Comes}
 use Rattle.admit.specs.Heard.{heard_as, heard_at}
+use Rattle.admit.specs.Tested.{Shows}
+use Rattle.admit.specs.declared.Tested.{Tested}
+use Rattle.admit.specs.declared.Tested.TheVariants.{Whole, Head}
+use Rattle.meaning.proofs.Legality.{legal_head}
 
 module _ (b m : List ℕ) (C : Comes b m) where
   abbrev j : ℕ
@@ -78,14 +83,6 @@ module _ (b m : List ℕ) (C : Comes b m) where
           another_refused b j c p v has hp ok (λ x. f (x ∙ sym es)) (outcome_of s m) (ap (λ (x : Step). outcome_of x m) q)
           ∙ sym (heard_is SEND (kind_send (get_or m 3 0) (sym ek ∙ e)))
 
-      -- what is well formed has a kind
-      pub no_other_kind : (kind ≡ 1 → ⊥) → (kind ≡ 2 → ⊥) → (kind ≡ 3 → ⊥) → ⊥
-      no_other_kind f₁ f₂ f₃ =
-          let k = kind_known (get_or m 3 0) (known_kind m C.formed) in
-          let z = sym (no_kind (get_or m 3 0) (λ e. f₁ (ek ∙ e)) (λ e. f₂ (ek ∙ e)) (λ e. f₃ (ek ∙ e))) ∙ k.1 in
-          let w : ◌≡◌ {A = ℕ} 0 1 = cc in
-          omega arith
-
     -- ---- before it
 
     known : (k : Kind) × (kind_of (get_or m 3 0) ≡ some k) × (kind_number k ≡ get_or m 3 0)
@@ -131,3 +128,12 @@ module _ (b m : List ℕ) (C : Comes b m) where
           (q
           ∙ ap (λ (d : Decl). cond (entry_legal b j c) (answering_in b (asked_as p j c d (kind_of (get_or m 3 0)))) (refusal 1 b))
           (lot_bytes m C.bytes C.formed))
+
+-- the entry that the letter's numbers name is the one that its bytes name
+pub opens_along : (b : List ℕ) (j j' c c' : ℕ) (e : EntryAt) → j ≡ j' → c ≡ c' → Opens b j c e → Opens b j' c' e
+opens_along b j j' c c' e ej ec o = subst (λ (x : ℕ). Opens b x c' e) ej (subst (λ (x : ℕ). Opens b j x e) ec o)
+
+-- whatever of the book was found legal, its head is
+pub shown_head : (t : Tested) (b : List ℕ) → Shows t b → head_legal b ≡ true
+shown_head Whole b h = legal_head b h
+shown_head Head b h = h

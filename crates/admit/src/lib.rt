@@ -1,127 +1,83 @@
-// A message of the book's season: 4 for its entry, 1 for that entry's slots, 4 for the house, 5, 6, and then the step of its kind. Each
-// function makes the next test, refuses with its number, or goes on. What the reader read is handed on as numbers, and the message for its
-// declaration's bytes.
+// A message of the book's season: 4 for its entry, 1 for that entry's slots, 4 for the house, 5, 6, and then the step of its kind.
 #![tactic(auto)]
 
-ghost use Rattle.std.specs.Prelude.{◌≡◌, true, ◌<◌, get_or};
-ghost use Rattle.lot.specs.Declaration.{declaration_at};
+ghost use Rattle.std.specs.Prelude.{◌≡◌, ◌<◌};
 ghost use Rattle.message.specs.Message.{five_at};
 ghost use Rattle.meaning.specs.Book.{n_of};
-ghost use Rattle.meaning.specs.Legal.{legal, entry_legal, Has, Fits};
+ghost use Rattle.meaning.specs.Legal.{entry_legal, Has};
 ghost use Rattle.calls.specs.Entered.{result_of};
 ghost use Rattle.calls.specs.ByEntry.{heard_on};
 ghost use Rattle.layout.specs.Places.{Opens};
-ghost use Rattle.reply.specs.Handed.{sender_in, number_in, outcome_of};
+ghost use Rattle.reply.specs.Handed.{outcome_of};
 ghost use Rattle.step.specs.Carries.{Comes, Carries};
-ghost use Rattle.admit.specs.Heard.{heard_as, heard_at};
+ghost use Rattle.admit.specs.Heard.{heard_as};
+ghost use Rattle.admit.specs.Tested.{Shows};
 
 use layout::EntryAt;
-use lot::Declaration;
+use message::Kind;
 use reply::Step;
+use step::Letter;
 
-// 6, then the step of the kind, which answers 7 or 13 where its kind was heard before. No other kind comes this far: what is well formed
-// has a kind.
-fn take(book: &mut [u8], house: u8, kind: u8, sender: u8, entry: EntryAt, message: &[u8]) -> Step
-    requires { Carries book.old message.now entry.base × (house < n_of book.old) × (kind ≡ get_or message.now 3 0)
-        × (sender ≡ sender_in message.now) × (entry.n ≡ n_of book.old) }
-    ensures { result_of (outcome_of result message.now) book.new
-        ≡ heard_as book.old house message.now }
-{
-    match kind {
-        1 => {
-            if house == sender {
-                return step::hear_send(book, entry, message);
-            }
-            reply::refused(6)
-        }
-        2 => step::hear_echo(book, house, entry, message),
-        3 => step::hear_ready(book, house, entry, message),
-        _ => reply::refused(2),
-    }
+// What of the book was found legal: the whole, or its head alone.
+#[derive(Clone, Copy, PartialEq, Eq, Debug)]
+pub enum Tested {
+    Whole,
+    Head,
 }
 
-// 4 for the house, 5, then 6 and on.
-fn weigh(
-    book: &mut [u8],
-    house: u32,
-    kind: u8,
-    sender: u8,
-    entry: EntryAt,
-    d: Declaration,
-    message: &[u8],
-) -> Step
-    requires { Comes book.old message.now × Fits book.old (sender_in message.now) (number_in message.now)
-        × Opens book.old (sender_in message.now) (number_in message.now) entry × (kind ≡ get_or message.now 3 0)
-        × (sender ≡ sender_in message.now) × (d ≡ declaration_at message.now 16) }
-    ensures { result_of (outcome_of result message.now) book.new
-        ≡ heard_as book.old house message.now }
+// 6, then the step of the kind, which answers 7 or 13 where its kind was heard before.
+fn take(book: &mut [u8], house: u8, entry: EntryAt, letter: &Letter) -> Step
+    requires { Carries book.old letter.now.bytes.now entry.base × (house < n_of book.old) × (entry.n ≡ n_of book.old) }
+    ensures { result_of (outcome_of result letter.now.bytes.now) book.new
+        ≡ heard_as book.old house letter.now.bytes.now }
 {
-    if house < u32::from(layout::n_of(book)) {
-        if gates::is_plausible(layout::sheet_of(book), d) {
-            return take(book, house as u8, kind, sender, entry, message);
+    match letter.message.kind {
+        Kind::Send => {
+            if house != letter.message.sender {
+                return reply::refused(6);
+            }
+            step::hear_send(book, entry, letter)
         }
-        return reply::refused(5);
+        Kind::Echo => step::hear_echo(book, house, entry, letter),
+        Kind::Ready => step::hear_ready(book, house, entry, letter),
     }
-    reply::refused(4)
 }
 
 // Whether each slot of the entry has its one form; where the whole book was found legal, it has.
 #[tactic(auto, using(meaning::proofs::Legality::legal_entry, meaning::proofs::Legality::entry_row))]
-fn is_entry_legal(book: &[u8], whole: bool, sender: u8, number: u8, entry: EntryAt) -> bool
-    requires { Has book.now sender number × Opens book.now sender number entry × (whole ≡ true → legal book.now ≡ true) }
+fn is_entry_legal(book: &[u8], tested: Tested, sender: u8, number: u8, entry: EntryAt) -> bool
+    requires { Has book.now sender number × Opens book.now sender number entry × Shows tested book.now }
     ensures { result ≡ entry_legal book.now sender number }
 {
-    if whole {
+    if matches!(tested, Tested::Whole) {
         return true;
     }
     book::is_entry_ok(book, entry)
 }
 
-// 1 for the entry's slots, then 4 and on.
-fn open_entry(
-    book: &mut [u8],
-    house: u32,
-    whole: bool,
-    kind: u8,
-    sender: u8,
-    number: u8,
-    d: Declaration,
-    message: &[u8],
-) -> Step
-    requires { Comes book.old message.now × Has book.old (sender_in message.now) (number_in message.now)
-        × (whole ≡ true → legal book.old ≡ true) × (kind ≡ get_or message.now 3 0) × (sender ≡ sender_in message.now)
-        × (number ≡ number_in message.now) × (d ≡ declaration_at message.now 16) }
-    ensures { result_of (outcome_of result message.now) book.new
-        ≡ heard_at book.old house message.now }
+// 4 for the entry, 1 for its slots, 4 for the house, 5, then 6 and on.
+pub fn find(book: &mut [u8], house: u32, tested: Tested, letter: &Letter) -> Step
+    requires { Comes book.old letter.now.bytes.now × Shows tested book.old }
+    ensures { result_of (outcome_of result letter.now.bytes.now) book.new
+        ≡ heard_on book.old house (five_at letter.now.bytes.now) }
 {
-    let entry = layout::entry_at(book, sender, number);
-    if is_entry_legal(book, whole, sender, number, entry) {
-        return weigh(book, house, kind, sender, entry, d, message);
-    }
-    reply::refused(1)
-}
-
-// 4 for the entry, then 1 and on. `whole` says that the whole book was found legal, and not its head alone.
-pub fn find(
-    book: &mut [u8],
-    house: u32,
-    whole: bool,
-    kind: u8,
-    sender: u8,
-    number: u8,
-    d: Declaration,
-    message: &[u8],
-) -> Step
-    requires { Comes book.old message.now × (whole ≡ true → legal book.old ≡ true) × (kind ≡ get_or message.now 3 0)
-        × (sender ≡ sender_in message.now) × (number ≡ number_in message.now) × (d ≡ declaration_at message.now 16) }
-    ensures { result_of (outcome_of result message.now) book.new
-        ≡ heard_on book.old house (five_at message.now) }
-{
-    if sender < layout::n_of(book) {
-        if number < layout::numbers_of(book) {
-            return open_entry(book, house, whole, kind, sender, number, d, message);
-        }
+    let sender = letter.message.sender;
+    let number = letter.message.number;
+    if sender >= layout::n_of(book) {
         return reply::refused(4);
     }
-    reply::refused(4)
+    if number >= layout::numbers_of(book) {
+        return reply::refused(4);
+    }
+    let entry = layout::entry_at(book, sender, number);
+    if !is_entry_legal(book, tested, sender, number, entry) {
+        return reply::refused(1);
+    }
+    if house >= u32::from(layout::n_of(book)) {
+        return reply::refused(4);
+    }
+    if !gates::is_plausible(layout::sheet_of(book), letter.message.declaration) {
+        return reply::refused(5);
+    }
+    take(book, house as u8, entry, letter)
 }

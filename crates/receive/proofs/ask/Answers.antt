@@ -7,7 +7,7 @@ use Rattle.receive.proofs.ask.Goals as goal
 pub season_of-requires : goal.season_of-requires
 season_of-requires c = let h = head_room _ c.requires in omega arith
 
-pub returns : goal.returns
-returns c =
+pub returns-then-named-season_of : goal.returns-then-named-season_of
+returns-then-named-season_of c =
     let a = c.args in
-    request_other a.book.now a.house a.named _ c.season_of.ensures c.if-named-season_of.false _ c.refuse.ensures
+    request_other a.book.now a.house a.named _ c.season_of.ensures c.if-named-season_of.true _ c.refuse.ensures

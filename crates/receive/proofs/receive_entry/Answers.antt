@@ -2,12 +2,12 @@
 use Rattle.receive.proofs.Heard.{head_refused, head_heard}
 use Rattle.receive.proofs.receive_entry.Goals as goal
 
-pub returns-then-is_head_legal : goal.returns-then-is_head_legal
-returns-then-is_head_legal c =
+pub returns-then-not-is_head_legal : goal.returns-then-not-is_head_legal
+returns-then-not-is_head_legal c =
     let a = c.args in
-    head_heard a.book.now a.message.now a.house _ c.is_head_legal.ensures c.if-is_head_legal.true _ c.answer.ensures
+    head_refused a.book.now a.message.now a.house _ c.is_head_legal.ensures c.if-not-is_head_legal.true _ c.refuse.ensures
 
 pub returns : goal.returns
 returns c =
     let a = c.args in
-    head_refused a.book.now a.message.now a.house _ c.is_head_legal.ensures c.if-is_head_legal.false _ c.refuse.ensures
+    head_heard a.book.now a.message.now a.house _ c.is_head_legal.ensures c.if-not-is_head_legal.false _ c.answer.ensures

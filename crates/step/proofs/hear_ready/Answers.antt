@@ -1,45 +1,29 @@
 -- A READY: the slots lie within the book, and what is recorded, marked, given and delivered is the protocol's step.
 use Rattle.std.proofs.Common.{rules, ℕ, refl, arith, get_or, Fits, w8}
-use Rattle.message.proofs.Form.{sized}
 use Rattle.layout.proofs.Begins.{lies, ready_room, ready_sent_room, delivered_room}
 use Rattle.step.proofs.Heard.{ready_refused, ready_lies, ready_heard}
 use Rattle.step.proofs.hear_ready.Goals as goal
-
-pub twenty_at-requires : goal.twenty_at-requires
-twenty_at-requires c = omega (arith, sized c.args.message.now c.requires.0.comes.formed)
 
 pub record_answer-answer-requires : goal.record_answer-answer-requires
 record_answer-answer-requires c =
     omega (arith, ready_room _ _ (lies _ c.args.entry c.requires.2 c.requires.0.begins.within) _ c.requires.1, c.ready-at.ensures)
 
-pub twenty_at-requires-then-answer-eq0 : goal.twenty_at-requires-then-answer-eq0
-twenty_at-requires-then-answer-eq0 c = omega (arith, sized c.args.message.now c.requires.0.comes.formed)
-
 pub put_slot-requires : goal.put_slot-requires
 put_slot-requires c =
     omega (arith, ready_room _ _ (lies _ c.args.entry c.requires.2 c.requires.0.begins.within) _ c.requires.1, c.ready-at.ensures)
-
-pub twenty_at-requires-then-answer-eq0-2 : goal.twenty_at-requires-then-answer-eq0-2
-twenty_at-requires-then-answer-eq0-2 c = omega (arith, sized c.args.message.now c.requires.0.comes.formed)
 
 pub ready_marks-m-requires : goal.ready_marks-m-requires
 ready_marks-m-requires c =
     let a = c.args in
     let bytes : (i : ℕ) → Fits w8 (get_or a.book.now i 0) = λ i. search rules in
-    ready_lies a.book.now a.message.now a.entry.base c.requires.0 a.house c.requires.1 _ _ _ _ c.requires.2
-    c.twenty_at.ensures c.record_answer-answer.ensures (λ i. (bytes i).fits) _
-    c.twenty_at-then-answer-eq0.ensures _ c.put_slot.ensures c.ready-at.ensures a.entry refl c.requires.2
-
-pub twenty_at-requires-then-answer-eq0-3 : goal.twenty_at-requires-then-answer-eq0-3
-twenty_at-requires-then-answer-eq0-3 c = omega (arith, sized c.args.message.now c.requires.0.comes.formed)
+    ready_lies a.book.now a.letter.now.bytes.now a.entry.base c.requires.0 a.house c.requires.1 _ _ _ _ c.requires.2
+    c.lot.ensures c.record_answer-answer.ensures (λ i. (bytes i).fits) _
+    c.lot-then-answer-eq0.ensures _ c.put_slot.ensures c.ready-at.ensures a.entry refl c.requires.2
 
 pub mark-requires : goal.mark-requires
 mark-requires c =
     let room = ready_sent_room _ _ (lies _ c.args.entry c.requires.2 c.requires.0.begins.within) in
     omega (arith, room, c.ready_sent.ensures, c.put_slot.auto.b)
-
-pub twenty_at-requires-then-answer-eq0-4 : goal.twenty_at-requires-then-answer-eq0-4
-twenty_at-requires-then-answer-eq0-4 c = omega (arith, sized c.args.message.now c.requires.0.comes.formed)
 
 pub mark-requires-then-answer-eq0 : goal.mark-requires-then-answer-eq0
 mark-requires-then-answer-eq0 c =
@@ -50,16 +34,16 @@ pub returns-then-answer-eq0 : goal.returns-then-answer-eq0
 returns-then-answer-eq0 c =
     let a = c.args in
     let bytes : (i : ℕ) → Fits w8 (get_or a.book.now i 0) = λ i. search rules in
-    ready_heard a.book.now a.message.now a.entry.base c.requires.0 a.house c.requires.1 _ _ _ _ c.requires.2
-    c.twenty_at.ensures c.record_answer-answer.ensures (λ i. (bytes i).fits) _
-    c.twenty_at-then-answer-eq0.ensures _ c.put_slot.ensures _ c.ready_sent.ensures _ _ c.twenty_at-then-answer-eq0-2.ensures
-    c.twenty_at-then-answer-eq0-3.ensures _ c.if-answer-eq0.true c.ready-at.ensures _ c.ready_marks-m.ensures c.mark.ensures _
+    ready_heard a.book.now a.letter.now.bytes.now a.entry.base c.requires.0 a.house c.requires.1 _ _ _ _ c.requires.2
+    c.lot.ensures c.record_answer-answer.ensures (λ i. (bytes i).fits) _
+    c.lot-then-answer-eq0.ensures _ c.put_slot.ensures _ c.ready_sent.ensures _ _ c.lot-then-answer-eq0-2.ensures
+    c.lot-then-answer-eq0-3.ensures _ c.if-answer-eq0.true c.ready-at.ensures _ c.ready_marks-m.ensures c.mark.ensures _
     c.delivered.ensures _
-    c.twenty_at-then-answer-eq0-4.ensures _ c.mark-then-answer-eq0.ensures
+    c.lot-then-answer-eq0-4.ensures _ c.mark-then-answer-eq0.ensures
 
 pub returns : goal.returns
 returns c =
     let a = c.args in
-    ready_refused a.book.now a.message.now a.entry.base c.requires.0 a.house c.requires.1 _ _ _ _ c.requires.2
-    c.twenty_at.ensures c.record_answer-answer.ensures c.ready-at.ensures
+    ready_refused a.book.now a.letter.now.bytes.now a.entry.base c.requires.0 a.house c.requires.1 _ _ _ _ c.requires.2
+    c.lot.ensures c.record_answer-answer.ensures c.ready-at.ensures
     c.if-answer-eq0.false _ c.refused.ensures
