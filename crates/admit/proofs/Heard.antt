@@ -1,10 +1,11 @@
 -- A message, test by test as the code makes them: each refusal, and past them the step of its kind.
 use Prim.Native.Nat.{ℕ, ◌≤◌, ◌<◌}
-use mathlib.Core.Path.{◌≡◌, sym, ap, ◌∙◌, subst}
+use mathlib.Core.Path.{◌≡◌, refl, sym, ap, ◌∙◌, subst}
 use mathlib.Core.Bool.{Bool, true, false, cond}
 use mathlib.Core.List.{List}
 use mathlib.Core.Logic.{inr}
-use mathlib.Core.Option.{Option, some}
+use mathlib.Core.Option.{Option, some, none}
+use native.Mathlib.Omega.{arith}
 use lib.ListN.{get_or}
 use borrow.Author.Tests.{lt-ltb, le-ltb}
 use Rattle.lot.specs.declared.Declaration.{Declaration}
@@ -18,7 +19,7 @@ use Rattle.message.proofs.RoundTrip.{lot_bytes}
 use Rattle.entry.specs.Entry.{Decl, Kind, SEND, ECHO, READY}
 use Rattle.meaning.specs.Book.{n_of, numbers_of, sheet_of}
 use Rattle.meaning.specs.Legal.{IsDecl, Has, entry_legal, head_legal}
-use Rattle.calls.specs.Entered.{Result, result_of, ok_by, kind_of, kind_number}
+use Rattle.calls.specs.Entered.{Result, handed, result_of, ok_by, kind_of, kind_number}
 use Rattle.calls.specs.Call.{refusal, asked_as}
 use Rattle.calls.specs.ByEntry.{called_in, answering_in, heard_on}
 use Rattle.calls.proofs.KindNumber.{kind_known, kind_send, kind_echo, kind_ready}
@@ -26,8 +27,7 @@ use Rattle.calls.proofs.Declarations.{read_decl, plausible_ok}
 use Rattle.calls.proofs.Checking.{missing_refused, implausible_refused, another_refused}
 use Rattle.layout.specs.declared.EntryAt.{EntryAt}
 use Rattle.layout.specs.Places.{Opens}
-use Rattle.reply.specs.declared.Step.{Step}
-use Rattle.reply.specs.Handed.{sender_in, number_in, lot_in, outcome_of, refused_by}
+use Rattle.reply.specs.Handed.{sender_in, number_in, lot_in}
 use Rattle.step.specs.Carries.{asked_by, Comes}
 use Rattle.admit.specs.Heard.{heard_as, heard_at}
 use Rattle.admit.specs.Tested.{Shows}
@@ -78,9 +78,9 @@ module _ (b m : List ℕ) (C : Comes b m) where
 
       -- 6
       pub another_heard : Has b j c → p < n_of b → ok_by (sheet_of b) v ≡ true → (sender : ℕ) → sender ≡ j → kind ≡ 1 → (p ≡ sender → ⊥)
-          → (s : Step) → s ≡ refused_by 6 → result_of (outcome_of s m) b ≡ heard_as b p m
-      another_heard has hp ok sender es e f s q =
-          another_refused b j c p v has hp ok (λ x. f (x ∙ sym es)) (outcome_of s m) (ap (λ (x : Step). outcome_of x m) q)
+          → result_of (handed 6 none none) b ≡ heard_as b p m
+      another_heard has hp ok sender es e f =
+          another_refused b j c p v has hp ok (λ x. f (x ∙ sym es)) (handed 6 none none) refl
           ∙ sym (heard_is SEND (kind_send (get_or m 3 0) (sym ek ∙ e)))
 
     -- ---- before it
@@ -89,37 +89,36 @@ module _ (b m : List ℕ) (C : Comes b m) where
     known = kind_known (get_or m 3 0) (known_kind m C.formed)
 
     -- 4
-    pub stranger_heard : n_of b ≤ p → (s : Step) → s ≡ refused_by 4 → result_of (outcome_of s m) b ≡ heard_as b p m
-    stranger_heard l s q =
-        missing_refused b j c p known.0 v (inr (inr l)) (outcome_of s m) (ap (λ (x : Step). outcome_of x m) q)
+    pub stranger_heard : n_of b ≤ p → result_of (handed 4 none none) b ≡ heard_as b p m
+    stranger_heard l =
+        missing_refused b j c p known.0 v (inr (inr l)) (handed 4 none none) refl
         ∙ sym (heard_is known.0 known.1)
 
     -- 5
-    pub implausible_heard : Has b j c → p < n_of b → ok_by (sheet_of b) v ≡ false → (s : Step) → s ≡ refused_by 5
-        → result_of (outcome_of s m) b ≡ heard_as b p m
-    implausible_heard has hp f s q =
-        implausible_refused b j c p known.0 v has hp f (outcome_of s m) (ap (λ (x : Step). outcome_of x m) q)
+    pub implausible_heard : Has b j c → p < n_of b → ok_by (sheet_of b) v ≡ false → result_of (handed 5 none none) b ≡ heard_as b p m
+    implausible_heard has hp f =
+        implausible_refused b j c p known.0 v has hp f (handed 5 none none) refl
         ∙ sym (heard_is known.0 known.1)
 
     -- 1
     module _ (t : Bool) (e : t ≡ entry_legal b j c) where
-      pub entry_refused : t ≡ false → (s : Step) → s ≡ refused_by 1 → result_of (outcome_of s m) b ≡ heard_at b p m
+      pub entry_refused : t ≡ false → result_of (handed 1 none none) b ≡ heard_at b p m
       unfolding heard_at
-      entry_refused f s q = rw (sym e ∙ f) (ap (λ (x : Step). result_of (outcome_of x m) b) q)
+      entry_refused f = rw (sym e ∙ f)
 
       pub entry_heard : t ≡ true → (x : Result) → x ≡ heard_as b p m → x ≡ heard_at b p m
       unfolding heard_at
       entry_heard f x q = rw (sym e ∙ f) q
 
     -- 4
-    pub sender_missing : n_of b ≤ j → (s : Step) → s ≡ refused_by 4 → result_of (outcome_of s m) b ≡ heard_on b p (five_at m)
+    pub sender_missing : n_of b ≤ j → result_of (handed 4 none none) b ≡ heard_on b p (five_at m)
     unfolding heard_on five_at
-    sender_missing l s q = rw (le-ltb j (n_of b) l) (ap (λ (x : Step). result_of (outcome_of x m) b) q)
+    sender_missing l = rw (le-ltb j (n_of b) l)
 
     module _ (hj : j < n_of b) where
-      pub number_missing : numbers_of b ≤ c → (s : Step) → s ≡ refused_by 4 → result_of (outcome_of s m) b ≡ heard_on b p (five_at m)
+      pub number_missing : numbers_of b ≤ c → result_of (handed 4 none none) b ≡ heard_on b p (five_at m)
       unfolding heard_on five_at
-      number_missing l s q = rw (lt-ltb j (n_of b) hj, le-ltb c (numbers_of b) l) (ap (λ (x : Step). result_of (outcome_of x m) b) q)
+      number_missing l = rw (lt-ltb j (n_of b) hj, le-ltb c (numbers_of b) l)
 
       pub entry_found : c < numbers_of b → (x : Result) → x ≡ heard_at b p m → x ≡ heard_on b p (five_at m)
       unfolding heard_on heard_at heard_as five_at

@@ -15,6 +15,7 @@ ghost use Rattle.admit.specs.Tested.{Shows};
 
 use layout::EntryAt;
 use message::Kind;
+use refusal::Refusal;
 use reply::Step;
 use step::Letter;
 
@@ -26,7 +27,7 @@ pub enum Tested {
 }
 
 // 6, then the step of the kind, which answers 7 or 13 where its kind was heard before.
-fn take(book: &mut [u8], house: u8, entry: EntryAt, letter: &Letter) -> Step
+fn take(book: &mut [u8], house: u8, entry: EntryAt, letter: &Letter) -> Result<Step, Refusal>
     requires { Carries book.old letter.now.bytes.now entry.base × (house < n_of book.old) × (entry.n ≡ n_of book.old) }
     ensures { result_of (outcome_of result letter.now.bytes.now) book.new
         ≡ heard_as book.old house letter.now.bytes.now }
@@ -34,7 +35,7 @@ fn take(book: &mut [u8], house: u8, entry: EntryAt, letter: &Letter) -> Step
     match letter.message.kind {
         Kind::Send => {
             if house != letter.message.sender {
-                return reply::refused(6);
+                return Err(Refusal::NotFromSender);
             }
             step::hear_send(book, entry, letter)
         }
@@ -56,7 +57,7 @@ fn is_entry_legal(book: &[u8], tested: Tested, sender: u8, number: u8, entry: En
 }
 
 // 4 for the entry, 1 for its slots, 4 for the house, 5, then 6 and on.
-pub fn find(book: &mut [u8], house: u32, tested: Tested, letter: &Letter) -> Step
+pub fn find(book: &mut [u8], house: u32, tested: Tested, letter: &Letter) -> Result<Step, Refusal>
     requires { Comes book.old letter.now.bytes.now × Shows tested book.old }
     ensures { result_of (outcome_of result letter.now.bytes.now) book.new
         ≡ heard_on book.old house (five_at letter.now.bytes.now) }
@@ -64,20 +65,20 @@ pub fn find(book: &mut [u8], house: u32, tested: Tested, letter: &Letter) -> Ste
     let sender = letter.message.sender;
     let number = letter.message.number;
     if sender >= layout::n_of(book) {
-        return reply::refused(4);
+        return Err(Refusal::NotThere);
     }
     if number >= layout::numbers_of(book) {
-        return reply::refused(4);
+        return Err(Refusal::NotThere);
     }
     let entry = layout::entry_at(book, sender, number);
     if !is_entry_legal(book, tested, sender, number, entry) {
-        return reply::refused(1);
+        return Err(Refusal::NotLegal);
     }
     if house >= u32::from(layout::n_of(book)) {
-        return reply::refused(4);
+        return Err(Refusal::NotThere);
     }
     if !gates::is_plausible(layout::sheet_of(book), letter.message.declaration) {
-        return reply::refused(5);
+        return Err(Refusal::NotPlausible);
     }
     take(book, house as u8, entry, letter)
 }

@@ -2,6 +2,7 @@
 #![tactic(auto)]
 
 ghost use Rattle.std.specs.Prelude.{◌≡◌, cond, ◌&&◌, ◌+◌, ◌<◌, ◌≤◌, leb, length};
+ghost use Rattle.refusal.specs.Answer.{answer_of};
 ghost use Rattle.card.specs.Card.{counts_of};
 ghost use Rattle.card.specs.Count.{count};
 ghost use Rattle.entry.specs.Entry.{is_none, holds};
@@ -14,6 +15,7 @@ ghost use Rattle.marks.specs.Marks.{echo_mark, ready_marks};
 
 use card::Counts;
 use layout::EntryAt;
+use refusal::Refusal;
 
 // Whether vouchers now make a READY, and deliver.
 #[derive(Clone, Copy, PartialEq, Eq, Debug)]
@@ -22,19 +24,19 @@ pub struct Marks {
     pub delivers: bool,
 }
 
-// 0, or this kind was already accepted from this house on this entry: 7, with the same declaration; 13, with a different one. The slot is
-// compared as vouchers are counted, so that declarations are compared in one place.
-pub fn record_answer(book: &[u8], at: usize, d: [u8; 20]) -> u8
+// Whether nothing was accepted of this kind from this house on this entry: 7, with the same declaration; 13, with a different one. The slot
+// is compared as vouchers are counted, so that declarations are compared in one place.
+pub fn record_answer(book: &[u8], at: usize, d: [u8; 20]) -> Result<(), Refusal>
     requires { at + slot_length ≤ length book.now }
-    ensures { result ≡ recording (slot_at book.now at) d }
+    ensures { answer_of result ≡ recording (slot_at book.now at) d }
 {
-    if slots::is_full(book, at) {
-        if vouchers::count_same(book, at, 1, d) == 1 {
-            return 7;
-        }
-        return 13;
+    if !slots::is_full(book, at) {
+        return Ok(());
     }
-    0
+    if vouchers::count_same(book, at, 1, d) == 1 {
+        return Err(Refusal::SaidBefore);
+    }
+    Err(Refusal::SaidOtherwise)
 }
 
 // Nothing is marked at `at` yet, and the vouchers are enough.

@@ -41,6 +41,6 @@ pub fn publish(book: &mut [u8], number: u32, declaration: &[u8; 20]) -> Outcome
 {
     match enter(book, number, declaration) {
         Ok(outcome) => outcome,
-        Err(refusal) => reply::refuse(refusal.into()),
+        Err(refusal) => reply::refuse(refusal),
     }
 }

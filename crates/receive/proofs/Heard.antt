@@ -21,8 +21,10 @@ use Rattle.calls.specs.Call.{request_answer, requested, received}
 use Rattle.calls.specs.ByEntry.{heard_on, heard_in, any_in, received_entry}
 use Rattle.meaning.proofs.Legality.{legal_head}
 use Rattle.calls.proofs.Claims.{claims}
+use Rattle.std.specs.Prelude as std
+use Rattle.refusal.specs.declared.Refusal.{Refusal}
 use Rattle.reply.specs.declared.Step.{Step}
-use Rattle.reply.specs.Handed.{sender_in, number_in, outcome_of, refused_by}
+use Rattle.reply.specs.Handed.{sender_in, number_in, outcome_of}
 
 -- ---- a request
 
@@ -37,11 +39,9 @@ module _ (b : List ℕ) (p season book_season : ℕ) (e : book_season ≡ season
 -- ---- a message
 
 module _ (b m : List ℕ) (p season book_season : ℕ) (es : season ≡ word_at m 7) (e : book_season ≡ season_of b) where
-  pub message_other : (season ≡ book_season → ⊥) → (s : Step) → s ≡ refused_by 3
-      → result_of (outcome_of s m) b ≡ heard_in b p (some (five_at m))
+  pub message_other : (season ≡ book_season → ⊥) → result_of (handed 3 none none) b ≡ heard_in b p (some (five_at m))
   unfolding heard_in five_at
-  message_other f s q =
-      rw (ne_eqb (word_at m 7) (season_of b) (λ x. f (es ∙ x ∙ sym e))) (ap (λ (x : Step). result_of (outcome_of x m) b) q)
+  message_other f = rw (ne_eqb (word_at m 7) (season_of b) (λ x. f (es ∙ x ∙ sym e)))
 
   pub message_found : season ≡ book_season → (x : Result) → x ≡ heard_on b p (five_at m) → x ≡ heard_in b p (some (five_at m))
   unfolding heard_in five_at
@@ -99,7 +99,8 @@ module _ (m : List ℕ) where
       unfolding heard_in
       malformed_any r o q = rw (no_request m (sym e ∙ h), sym r) (ap (λ (x : Outcome). result_of x b) q)
 
-      pub message_any : (f : Five) → Formed m f → (s : Step) (a : List ℕ) → result_of (outcome_of s m) a ≡ heard_in b p (some (five_at m))
+      pub message_any : (f : Five) → Formed m f → (s : std.Result Step Refusal) (a : List ℕ)
+          → result_of (outcome_of s m) a ≡ heard_in b p (some (five_at m))
           → (r : Outcome) → r ≡ outcome_of s m → result_of r a ≡ any_in b p (request_of m) (read_of m).five
       unfolding read_of
       message_any f F s a q r o = rw (no_request m (sym e ∙ h), F.formed) (ap (λ (x : Outcome). result_of x a) o ∙ q)

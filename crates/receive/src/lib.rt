@@ -10,11 +10,12 @@ ghost use Rattle.meaning.specs.Legal.{head_legal};
 ghost use Rattle.calls.specs.Entered.{result_of};
 ghost use Rattle.calls.specs.Call.{requested, received};
 ghost use Rattle.calls.specs.ByEntry.{heard_in, any_in, received_entry};
-ghost use Rattle.reply.specs.Handed.{outcome_of};
+ghost use Rattle.reply.specs.Handed.{help_of, outcome_of};
 ghost use Rattle.admit.specs.Tested.{Shows};
 
 use admit::Tested;
 use calls::Outcome;
+use refusal::Refusal;
 use reply::Step;
 use step::Letter;
 
@@ -22,24 +23,24 @@ use step::Letter;
 const SEASON: usize = 7;
 
 // A request, by the season that it names: 3, then 4 and 14.
-fn ask(book: &mut [u8], house: u32, named: u32) -> Outcome
+fn ask(book: &mut [u8], house: u32, named: u32) -> Result<(), Refusal>
     requires { head_legal book.old ≡ true }
-    ensures { result_of result book.new ≡ requested book.old house named }
+    ensures { result_of (help_of result) book.new ≡ requested book.old house named }
 {
     if named != layout::season_of(book) {
-        return reply::refuse(3);
+        return Err(Refusal::OtherSeason);
     }
     help::hear_request(book, house)
 }
 
 // A message: 3, then 4 and on.
-fn hear(book: &mut [u8], house: u32, tested: Tested, letter: &Letter) -> Step
+fn hear(book: &mut [u8], house: u32, tested: Tested, letter: &Letter) -> Result<Step, Refusal>
     requires { Shows tested book.old × Bytes letter.now.bytes.now }
     ensures { result_of (outcome_of result letter.now.bytes.now) book.new
         ≡ heard_in book.old house (some (five_at letter.now.bytes.now)) }
 {
     if letter.message.season != layout::season_of(book) {
-        return reply::refused(3);
+        return Err(Refusal::OtherSeason);
     }
     admit::find(book, house, tested, letter)
 }
@@ -51,11 +52,14 @@ fn answer(book: &mut [u8], house: u32, tested: Tested, bytes: &[u8]) -> Outcome
         ≡ any_in book.old house (request_of bytes.now) (read_of bytes.now).five }
 {
     if fields::is_request(bytes) {
-        return ask(book, house, octets::word_at(bytes, SEASON));
+        return match ask(book, house, octets::word_at(bytes, SEASON)) {
+            Ok(()) => reply::help(),
+            Err(refusal) => reply::refuse(refusal),
+        };
     }
     // Kept: document 01 names this form, let-else on what the reader gives; the else branch answers 2.
     let Some(message) = reader::read_message(bytes) else {
-        return reply::refuse(2);
+        return reply::refuse(Refusal::Malformed);
     };
     let letter = Letter { message, bytes };
     reply::hand(hear(book, house, tested, &letter), bytes)
@@ -66,7 +70,7 @@ pub fn receive(book: &mut [u8], house: u32, message: &[u8]) -> Outcome
     ensures { result_of result book.new ≡ received book.old house message.now }
 {
     if !book::is_legal(book) {
-        return reply::refuse(1);
+        return reply::refuse(Refusal::NotLegal);
     }
     answer(book, house, Tested::Whole, message)
 }
@@ -76,7 +80,7 @@ pub fn receive_entry(book: &mut [u8], house: u32, message: &[u8]) -> Outcome
     ensures { result_of result book.new ≡ received_entry book.old house message.now }
 {
     if !book::is_head_legal(book) {
-        return reply::refuse(1);
+        return reply::refuse(Refusal::NotLegal);
     }
     answer(book, house, Tested::Head, message)
 }

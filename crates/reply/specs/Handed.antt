@@ -1,10 +1,14 @@
 -- What is handed back of a step on the entry that a message names. A message given is the one that came, with another kind; what is
 -- delivered is its declaration.
-use Rattle.std.specs.Prelude.{ℕ, false, List, get_or, set, take, drop}
+use Rattle.std.specs.Prelude.{ℕ, List, get_or, set, take, drop, Result, Ok, Err}
+use Rattle.std.proofs.Math.Option.{none}
+use Rattle.refusal.specs.declared.Refusal.{Refusal}
+use Rattle.refusal.specs.Answer.{number_of}
+use Rattle.message.specs.Message as kinds
 use Rattle.entry.specs.Entry.{Decl}
 use Rattle.protocol.specs.Steps.{only_if}
 use Rattle.calls.specs.declared.Outcome.{Outcome}
-use Rattle.calls.specs.Entered.{handed}
+use Rattle.calls.specs.Entered.{handed, helping}
 use Rattle.reply.specs.declared.Step.{Step}
 
 -- the sender, the number and the declaration's bytes that stand in a message
@@ -21,9 +25,12 @@ lot_in m = take 20 (drop 16 m)
 abbrev pub with_kind : ℕ → List ℕ → List ℕ
 with_kind kind m = set m 3 kind
 
-abbrev pub outcome_of : Step → List ℕ → Outcome
-outcome_of s m = handed s.answer (only_if s.gives (with_kind s.kind m)) (only_if s.delivers (lot_in m))
+-- what the step gives and delivers, or the number of its refusal alone
+abbrev pub outcome_of : Result Step Refusal → List ℕ → Outcome
+outcome_of (Ok s) m = handed 0 (only_if s.gives (with_kind (kinds.number_of s.kind) m)) (only_if s.delivers (lot_in m))
+outcome_of (Err refusal) m = handed (number_of refusal) none none
 
--- no message and no delivery
-abbrev pub refused_by : ℕ → Step
-refused_by answer = record { answer = answer; gives = false; kind = 0; delivers = false }
+-- a request that is accepted, or the number of its refusal alone
+abbrev pub help_of : Result Unit Refusal → Outcome
+help_of (Ok done) = helping
+help_of (Err refusal) = handed (number_of refusal) none none

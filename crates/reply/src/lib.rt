@@ -7,39 +7,30 @@ ghost use Rattle.lot.specs.Declaration.{declaration_at};
 ghost use Rattle.protocol.specs.Steps.{only_if};
 ghost use Rattle.meaning.specs.Legal.{IsDecl};
 ghost use Rattle.calls.specs.Entered.{handed, helping, or_zeros, wired};
-ghost use Rattle.reply.specs.Handed.{lot_in, with_kind, outcome_of, refused_by};
+ghost use Rattle.message.specs.Message as kinds;
+ghost use Rattle.refusal.specs.Answer.{number_of};
+ghost use Rattle.reply.specs.Handed.{lot_in, with_kind, outcome_of};
 
 use calls::Outcome;
 use fields::SEND;
+use message::Kind;
+use refusal::Refusal;
 
-// What a step on a message's entry gives: the answer, whether a message and of which kind, whether the declaration is delivered. The bytes
-// of both stand in the message that came, so that they are laid once, at the end.
-#[derive(Clone, Copy)]
+// What a step on a message's entry gives: whether a message and of which kind, whether the declaration is delivered. The bytes of both
+// stand in the message that came, so that they are laid once, at the end.
+#[derive(Clone, Copy, PartialEq, Eq, Debug)]
 pub struct Step {
-    pub answer: u8,
     pub gives: bool,
-    pub kind: u8,
+    pub kind: Kind,
     pub delivers: bool,
 }
 
-// A step that is refused.
-pub fn refused(answer: u8) -> Step
-    ensures { result ≡ refused_by answer }
-{
-    Step {
-        answer,
-        gives: false,
-        kind: 0,
-        delivers: false,
-    }
-}
-
 // A refusal: the number, no message, no delivery.
-pub fn refuse(answer: u8) -> Outcome
-    ensures { result ≡ handed answer none none }
+pub fn refuse(refusal: Refusal) -> Outcome
+    ensures { result ≡ handed (number_of refusal) none none }
 {
     Outcome {
-        answer,
+        answer: refusal.into(),
         gives: false,
         message: [0; 36],
         delivers: false,
@@ -91,12 +82,12 @@ fn with_kind(message: &[u8], kind: u8) -> [u8; 36]
 }
 
 // The message with that kind, or none.
-fn letter_of(gives: bool, kind: u8, message: &[u8]) -> [u8; 36]
+fn letter_of(gives: bool, kind: Kind, message: &[u8]) -> [u8; 36]
     requires { length message.now ≡ 36 }
-    ensures { result ≡ or_zeros 36 (only_if gives (with_kind kind message.now)) }
+    ensures { result ≡ or_zeros 36 (only_if gives (with_kind (kinds.number_of kind) message.now)) }
 {
     if gives {
-        return with_kind(message, kind);
+        return with_kind(message, kind.into());
     }
     [0; 36]
 }
@@ -112,19 +103,24 @@ fn lot_of(delivers: bool, message: &[u8]) -> [u8; 20]
     [0; 20]
 }
 
-// A step on a message's entry, with the bytes that it gives and delivers.
-pub fn hand(step: Step, message: &[u8]) -> Outcome
+// A step on a message's entry, with the bytes that it gives and delivers, or its refusal.
+pub fn hand(step: Result<Step, Refusal>, message: &[u8]) -> Outcome
     requires { length message.now ≡ 36 }
     ensures { result ≡ outcome_of step message.now }
 {
-    let letter = letter_of(step.gives, step.kind, message);
-    let lot = lot_of(step.delivers, message);
-    Outcome {
-        answer: step.answer,
-        gives: step.gives,
-        message: letter,
-        delivers: step.delivers,
-        declaration: lot,
-        helps: false,
+    match step {
+        Ok(step) => {
+            let letter = letter_of(step.gives, step.kind, message);
+            let lot = lot_of(step.delivers, message);
+            Outcome {
+                answer: 0,
+                gives: step.gives,
+                message: letter,
+                delivers: step.delivers,
+                declaration: lot,
+                helps: false,
+            }
+        }
+        Err(refusal) => refuse(refusal),
     }
 }

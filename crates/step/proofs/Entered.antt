@@ -5,6 +5,8 @@ use mathlib.Core.Path.{◌≡◌, refl, sym, ap, ap₂, ◌∙◌, subst}
 use mathlib.Core.Bool.{Bool, true, false, cond}
 use mathlib.Core.List.{List}
 use mathlib.Core.Option.{Option, none}
+use Rattle.std.specs.Prelude.{Ok}
+use Rattle.message.specs.Message as kinds
 use Rattle.words.specs.Words.{Bytes, word_at}
 use Rattle.lot.specs.Declaration.{declaration_at}
 use Rattle.message.proofs.RoundTrip.{other_kind}
@@ -54,10 +56,10 @@ module _ (b m : List ℕ) (base : ℕ) (C : Carries b m base) where
       ∙ letter_bytes k (word_at m 7) (sender_in m) (number_in m) lot C.plausible.decl
       ∙ ap (λ (x : ℕ). wired k x (sender_in m) (number_in m) (declaration_at lot 0)) C.comes.season
 
-  pub outcome_wired : (s : Step) → outcome_of s m
-      ≡ handed s.answer (only_if s.gives (wired s.kind (season_of b) (sender_in m) (number_in m) (declaration_at lot 0)))
+  pub outcome_wired : (s : Step) → outcome_of (Ok s) m
+      ≡ handed 0 (only_if s.gives (wired (kinds.number_of s.kind) (season_of b) (sender_in m) (number_in m) (declaration_at lot 0)))
       (only_if s.delivers lot)
-  outcome_wired s = ap (λ (l : List ℕ). handed s.answer (only_if s.gives l) (only_if s.delivers lot)) (kind_wired s.kind)
+  outcome_wired s = ap (λ (l : List ℕ). handed 0 (only_if s.gives l) (only_if s.delivers lot)) (kind_wired (kinds.number_of s.kind))
 
 module _ (b : List ℕ) (bytes : Bytes b) (j c p : ℕ) (fits : Fits b j c) (hp : p < n_of b) (v : Decl) (dv : IsDecl v) where
   abbrev has : Has b j c

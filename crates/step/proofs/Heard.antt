@@ -12,13 +12,16 @@ use Rattle.meaning.specs.Layout.{heard_slot, send_slot, echo_slot, ready_slot, r
 use Rattle.meaning.specs.Book.{n_of, header_of, look}
 use Rattle.meaning.specs.Legal.{IsDecl, Fits}
 use Rattle.meaning.proofs.Seen.{from_base}
-use Rattle.calls.specs.Entered.{result_of, rules_by}
+use mathlib.Core.Option.{none}
+use Rattle.std.specs.Prelude.{Ok}
+use Rattle.message.specs.declared.Kind.TheVariants.{Echo, Ready}
+use Rattle.calls.specs.Entered.{handed, result_of, rules_by}
 use Rattle.calls.specs.ByEntry.{entered_in, called_in}
 use Rattle.calls.proofs.Checking.{recorded_refused, message_taken}
 use Rattle.layout.specs.declared.EntryAt.{EntryAt}
 use Rattle.layout.specs.Places.{Lies}
 use Rattle.reply.specs.declared.Step.{Step}
-use Rattle.reply.specs.Handed.{sender_in, number_in, lot_in, outcome_of, refused_by}
+use Rattle.reply.specs.Handed.{sender_in, number_in, lot_in, outcome_of}
 use Rattle.marks.specs.declared.Marks.{Marks}
 use Rattle.marks.specs.Marks.{echo_mark, ready_marks}
 use Rattle.step.specs.Carries.{Carries, asked_by}
@@ -47,9 +50,8 @@ module _ (b m : List ℕ) (base : ℕ) (C : Carries b m base) where
     checked = slot_checked b j c p k v fits.has hp base at r C.begins.is ea (er ∙ ap (recording (slot_at b at)) ed)
 
     -- 7 or 13
-    refused_heard : (r ≡ 0 → ⊥) → (s : Step) → s ≡ refused_by r → result_of (outcome_of s m) b ≡ called_in b (asked_by p k m)
-    refused_heard f s q =
-        recorded_refused b j c p k v fits.has hp C.plausible.ok from r checked f (outcome_of s m) (ap (λ (x : Step). outcome_of x m) q)
+    refused_heard : (r ≡ 0 → ⊥) → result_of (handed r none none) b ≡ called_in b (asked_by p k m)
+    refused_heard f = recorded_refused b j c p k v fits.has hp C.plausible.ok from r checked f (handed r none none) refl
 
     taken_heard : r ≡ 0 → entered_in b j c (takes (rules_by (header_of b)) k p v (look b j c)) ≡ called_in b (asked_by p k m)
     taken_heard z = message_taken b j c p k v fits.has hp C.plausible.ok from (sym checked ∙ z)
@@ -60,29 +62,29 @@ module _ (b m : List ℕ) (base : ℕ) (C : Carries b m base) where
     own_send : may j SEND j ≡ true
     own_send = eq-eqb j j refl
 
-    pub send_refused : (r ≡ 0 → ⊥) → (s : Step) → s ≡ refused_by r → result_of (outcome_of s m) b ≡ called_in b (asked_by j SEND m)
+    pub send_refused : (r ≡ 0 → ⊥) → result_of (handed r none none) b ≡ called_in b (asked_by j SEND m)
     send_refused = refused_heard SEND j fits.has.sender own_send at r d ea ed er
 
     pub send_heard : Bytes b → r ≡ 0 → (d₁ : Decl) → d₁ ≡ v → (b₁ : List ℕ) → b₁ ≡ put_slot b at d₁
-        → result_of (outcome_of (record { answer = 0; gives = true; kind = 2; delivers = false }) m) b₁ ≡ called_in b (asked_by j SEND m)
+        → result_of (outcome_of (Ok (record { gives = true; kind = Echo; delivers = false })) m) b₁ ≡ called_in b (asked_by j SEND m)
     send_heard bytes z d₁ e₁ b₁ q =
-        let s : Step = record { answer = 0; gives = true; kind = 2; delivers = false } in
-        send_entered b bytes j c j fits fits.has.sender v dv at b₁ (outcome_of s m)
+        let s : Step = record { gives = true; kind = Echo; delivers = false } in
+        send_entered b bytes j c j fits fits.has.sender v dv at b₁ (outcome_of (Ok s) m)
         (ea ∙ from_base b j c fits.has base C.begins.is send_slot) (q ∙ ap (put_slot b at) e₁) (outcome_wired b m base C s)
         ∙ taken_heard SEND j fits.has.sender own_send at r d ea ed er z
 
   -- ---- a voucher
 
   module _ (p : ℕ) (hp : p < n_of b) (n at r : ℕ) (d : Decl) (en : n ≡ n_of b) (ed : d ≡ v) (er : r ≡ recording (slot_at b at) d) where
-    pub echo_refused : at ≡ place_from base (echo_slot p) → (r ≡ 0 → ⊥) → (s : Step) → s ≡ refused_by r
-        → result_of (outcome_of s m) b ≡ called_in b (asked_by p ECHO m)
+    pub echo_refused : at ≡ place_from base (echo_slot p) → (r ≡ 0 → ⊥)
+        → result_of (handed r none none) b ≡ called_in b (asked_by p ECHO m)
     echo_refused ea = refused_heard ECHO p hp refl at r d ea ed er
 
     ready_place : at ≡ place_from base (ready_slot n p) → at ≡ place_from base (ready_slot (n_of b) p)
     ready_place ea = ea ∙ ap (λ (x : ℕ). place_from base (ready_slot x p)) en
 
-    pub ready_refused : at ≡ place_from base (ready_slot n p) → (r ≡ 0 → ⊥) → (s : Step) → s ≡ refused_by r
-        → result_of (outcome_of s m) b ≡ called_in b (asked_by p READY m)
+    pub ready_refused : at ≡ place_from base (ready_slot n p) → (r ≡ 0 → ⊥)
+        → result_of (handed r none none) b ≡ called_in b (asked_by p READY m)
     ready_refused ea = refused_heard READY p hp refl at r d (ready_place ea) ed er
 
     module _ (bytes : Bytes b) (d₁ : Decl) (e₁ : d₁ ≡ v) (b₁ : List ℕ) (q₁ : b₁ ≡ put_slot b at d₁) where
@@ -107,10 +109,10 @@ module _ (b m : List ℕ) (base : ℕ) (C : Carries b m base) where
       module _ (sent : ℕ) (et : sent ≡ place_from base (ready_sent_slot n)) (d₂ d₃ : Decl) (e₂ : d₂ ≡ v) (e₃ : d₃ ≡ v) (b₂ : List ℕ)
           (z : r ≡ 0) where
         pub echo_heard : at ≡ place_from base (echo_slot p) → (g : Bool) → g ≡ echo_mark b₁ base d₂ → b₂ ≡ cond g (put_slot b₁ sent d₃) b₁
-            → result_of (outcome_of (record { answer = 0; gives = g; kind = 3; delivers = false }) m) b₂ ≡ called_in b (asked_by p ECHO m)
+            → result_of (outcome_of (Ok (record { gives = g; kind = Ready; delivers = false })) m) b₂ ≡ called_in b (asked_by p ECHO m)
         echo_heard ea g eg q₂ =
-            let s : Step = record { answer = 0; gives = g; kind = 3; delivers = false } in
-            echo_entered b bytes j c p fits hp v dv base n at sent b₁ b₂ (outcome_of s m) C.begins en et ea stored g
+            let s : Step = record { gives = g; kind = Ready; delivers = false } in
+            echo_entered b bytes j c p fits hp v dv base n at sent b₁ b₂ (outcome_of (Ok s) m) C.begins en et ea stored g
             (eg ∙ ap (echo_mark b₁ base) e₂) (q₂ ∙ ap (λ (x : Decl). cond g (put_slot b₁ sent x) b₁) e₃) (outcome_wired b m base C s)
             ∙ taken_heard ECHO p hp refl at r d ea ed er z
 
@@ -118,11 +120,11 @@ module _ (b m : List ℕ) (base : ℕ) (C : Carries b m base) where
             → b₂ ≡ cond g.gives (put_slot b₁ sent d₃) b₁
             → (done : ℕ) → done ≡ place_from base (delivered_slot n) → (d₄ : Decl) → d₄ ≡ v
             → (b₃ : List ℕ) → b₃ ≡ cond g.delivers (put_slot b₂ done d₄) b₂
-            → result_of (outcome_of (record { answer = 0; gives = g.gives; kind = 3; delivers = g.delivers }) m) b₃
+            → result_of (outcome_of (Ok (record { gives = g.gives; kind = Ready; delivers = g.delivers })) m) b₃
             ≡ called_in b (asked_by p READY m)
         ready_heard ea g eg q₂ done eo d₄ e₄ b₃ q₃ =
-            let s : Step = record { answer = 0; gives = g.gives; kind = 3; delivers = g.delivers } in
-            ready_entered b bytes j c p fits hp v dv base n at sent b₁ b₂ (outcome_of s m) C.begins en et done eo ea stored g
+            let s : Step = record { gives = g.gives; kind = Ready; delivers = g.delivers } in
+            ready_entered b bytes j c p fits hp v dv base n at sent b₁ b₂ (outcome_of (Ok s) m) C.begins en et done eo ea stored g
             (eg ∙ ap (ready_marks b₁ base) e₂) (q₂ ∙ ap (λ (x : Decl). cond g.gives (put_slot b₁ sent x) b₁) e₃) b₃
             (q₃ ∙ ap (λ (x : Decl). cond g.delivers (put_slot b₂ done x) b₂) e₄) (outcome_wired b m base C s)
             ∙ taken_heard READY p hp refl at r d (ready_place ea) ed er z

@@ -13,7 +13,8 @@ ghost use Rattle.reply.specs.Handed.{sender_in, number_in, lot_in, outcome_of};
 ghost use Rattle.step.specs.Carries.{asked_by, Carries};
 
 use layout::EntryAt;
-use message::Message;
+use message::{Kind, Message};
+use refusal::Refusal;
 use reply::Step;
 
 // Where the declaration's 20 bytes stand in a message.
@@ -43,66 +44,64 @@ impl Letter<'_> {
 }
 
 // A SEND from the entry's sender: recorded, and answered with an ECHO of it.
-pub fn hear_send(book: &mut [u8], entry: EntryAt, letter: &Letter) -> Step
+pub fn hear_send(book: &mut [u8], entry: EntryAt, letter: &Letter) -> Result<Step, Refusal>
     requires { Carries book.old letter.now.bytes.now entry.base }
     ensures { result_of (outcome_of result letter.now.bytes.now) book.new
         ≡ called_in book.old (asked_by (sender_in letter.now.bytes.now) SEND letter.now.bytes.now) }
 {
     let at = entry.send();
-    let answer = marks::record_answer(book, at, letter.lot());
-    if answer == 0 {
-        slots::put_slot(book, at, letter.lot());
-        return Step {
-            answer: 0,
-            gives: true,
-            kind: fields::ECHO,
-            delivers: false,
-        };
-    }
-    reply::refused(answer)
+    marks::record_answer(book, at, letter.lot())?;
+    slots::put_slot(book, at, letter.lot());
+    Ok(Step {
+        gives: true,
+        kind: Kind::Echo,
+        delivers: false,
+    })
 }
 
 // An ECHO: recorded; at the quorum a READY is marked and given.
-pub fn hear_echo(book: &mut [u8], house: u8, entry: EntryAt, letter: &Letter) -> Step
+pub fn hear_echo(
+    book: &mut [u8],
+    house: u8,
+    entry: EntryAt,
+    letter: &Letter,
+) -> Result<Step, Refusal>
     requires { Carries book.old letter.now.bytes.now entry.base × (house < n_of book.old) × (entry.n ≡ n_of book.old) }
     ensures { result_of (outcome_of result letter.now.bytes.now) book.new
         ≡ called_in book.old (asked_by house ECHO letter.now.bytes.now) }
 {
     let at = entry.echo(house);
-    let answer = marks::record_answer(book, at, letter.lot());
-    if answer == 0 {
-        slots::put_slot(book, at, letter.lot());
-        let gives = marks::echo_mark(book, entry, letter.lot());
-        marks::mark(book, entry.ready_sent(), gives, letter.lot());
-        return Step {
-            answer: 0,
-            gives,
-            kind: fields::READY,
-            delivers: false,
-        };
-    }
-    reply::refused(answer)
+    marks::record_answer(book, at, letter.lot())?;
+    slots::put_slot(book, at, letter.lot());
+    let gives = marks::echo_mark(book, entry, letter.lot());
+    marks::mark(book, entry.ready_sent(), gives, letter.lot());
+    Ok(Step {
+        gives,
+        kind: Kind::Ready,
+        delivers: false,
+    })
 }
 
 // A READY: recorded; at t+1 a READY is marked and given, at 2t+f+1 the declaration marked and delivered.
-pub fn hear_ready(book: &mut [u8], house: u8, entry: EntryAt, letter: &Letter) -> Step
+pub fn hear_ready(
+    book: &mut [u8],
+    house: u8,
+    entry: EntryAt,
+    letter: &Letter,
+) -> Result<Step, Refusal>
     requires { Carries book.old letter.now.bytes.now entry.base × (house < n_of book.old) × (entry.n ≡ n_of book.old) }
     ensures { result_of (outcome_of result letter.now.bytes.now) book.new
         ≡ called_in book.old (asked_by house READY letter.now.bytes.now) }
 {
     let at = entry.ready(house);
-    let answer = marks::record_answer(book, at, letter.lot());
-    if answer == 0 {
-        slots::put_slot(book, at, letter.lot());
-        let m = marks::ready_marks(book, entry, letter.lot());
-        marks::mark(book, entry.ready_sent(), m.gives, letter.lot());
-        marks::mark(book, entry.delivered(), m.delivers, letter.lot());
-        return Step {
-            answer: 0,
-            gives: m.gives,
-            kind: fields::READY,
-            delivers: m.delivers,
-        };
-    }
-    reply::refused(answer)
+    marks::record_answer(book, at, letter.lot())?;
+    slots::put_slot(book, at, letter.lot());
+    let m = marks::ready_marks(book, entry, letter.lot());
+    marks::mark(book, entry.ready_sent(), m.gives, letter.lot());
+    marks::mark(book, entry.delivered(), m.delivers, letter.lot());
+    Ok(Step {
+        gives: m.gives,
+        kind: Kind::Ready,
+        delivers: m.delivers,
+    })
 }

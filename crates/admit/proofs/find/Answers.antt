@@ -18,7 +18,7 @@ returns-then-sender-n_of c =
     let l = a.letter.now in
     let m = l.bytes.now in
     let C = c.requires.0 in
-    sender_missing b m C a.house (omega (arith, l.of_sender)) _ c.refused.ensures
+    sender_missing b m C a.house (omega (arith, l.of_sender))
 
 pub numbers_of-requires : goal.numbers_of-requires
 numbers_of-requires c = let h = head_room _ c.requires.0.head in omega arith
@@ -30,8 +30,7 @@ returns-then-number-numbers_of c =
     let l = a.letter.now in
     let m = l.bytes.now in
     let C = c.requires.0 in
-    number_missing b m C a.house (omega (arith, l.of_sender)) (omega (arith, l.of_number)) _
-    c.refused-then-number-numbers_of.ensures
+    number_missing b m C a.house (omega (arith, l.of_sender)) (omega (arith, l.of_number))
 
 pub returns-then-not-is_entry_legal : goal.returns-then-not-is_entry_legal
 returns-then-not-is_entry_legal c =
@@ -42,7 +41,7 @@ returns-then-not-is_entry_legal c =
     let C = c.requires.0 in
     let t = c.is_entry_legal.ensures ∙ ap₂ (entry_legal b) l.of_sender l.of_number in
     entry_found b m C a.house (omega (arith, l.of_sender)) (omega (arith, l.of_number)) _
-    (entry_refused b m C a.house _ t c.if-not-is_entry_legal.true _ c.refused-then-not-is_entry_legal.ensures)
+    (entry_refused b m C a.house _ t c.if-not-is_entry_legal.true)
 
 pub returns-then-house-from : goal.returns-then-house-from
 returns-then-house-from c =
@@ -53,7 +52,7 @@ returns-then-house-from c =
     let C = c.requires.0 in
     let t = c.is_entry_legal.ensures ∙ ap₂ (entry_legal b) l.of_sender l.of_number in
     entry_found b m C a.house (omega (arith, l.of_sender)) (omega (arith, l.of_number)) _
-    (entry_heard b m C a.house _ t c.if-not-is_entry_legal.false _ (stranger_heard b m C a.house (omega arith) _ c.refused-then-house-from.ensures))
+    (entry_heard b m C a.house _ t c.if-not-is_entry_legal.false _ (stranger_heard b m C a.house (omega arith)))
 
 pub is_plausible-requires : goal.is_plausible-requires
 is_plausible-requires c = head_sheet c.args.book.now _ c.requires.0.head c.sheet_of.ensures
@@ -67,10 +66,11 @@ returns-then-not-is_plausible c =
     let C = c.requires.0 in
     let t = c.is_entry_legal.ensures ∙ ap₂ (entry_legal b) l.of_sender l.of_number in
     let ok = lot_plausible b m C _ _ _ c.sheet_of.ensures l.of_declaration c.is_plausible.ensures in
-    let has : Has b (sender_in m) (number_in m) = record { head = C.head; sender = omega (arith, l.of_sender); number = omega (arith, l.of_number) } in
+    let has : Has b (sender_in m) (number_in m) =
+    record { head = C.head; sender = omega (arith, l.of_sender); number = omega (arith, l.of_number) } in
     entry_found b m C a.house (omega (arith, l.of_sender)) (omega (arith, l.of_number)) _
     (entry_heard b m C a.house _ t c.if-not-is_entry_legal.false _ (implausible_heard b m C a.house has (omega arith)
-    (sym ok ∙ c.if-not-is_plausible.true) _ c.refused-then-not-is_plausible.ensures))
+    (sym ok ∙ c.if-not-is_plausible.true)))
 
 pub take-requires : goal.take-requires
 take-requires c =

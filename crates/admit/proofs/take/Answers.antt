@@ -10,7 +10,7 @@ returns-then-house-letter c =
     let l = a.letter.now in
     let r = c.requires in
     another_heard a.book.now l.bytes.now r.0.comes a.house _ l.of_kind r.0.fits.has r.1 r.0.plausible.ok _ l.of_sender
-    (ap number_of c.in-Send.is) c.if-house-letter.true _ c.refused.ensures
+    (ap number_of c.in-Send.is) c.if-house-letter.true
 
 pub returns-else-house-letter : goal.returns-else-house-letter
 returns-else-house-letter c =

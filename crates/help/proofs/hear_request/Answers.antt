@@ -1,5 +1,5 @@
 -- A legal head has room for what is read; then each return is what the tests before it say of the request.
-use Rattle.std.proofs.Common.{arith}
+use Rattle.std.proofs.Common.{arith, refl}
 use Rattle.meaning.proofs.Room.{head_room}
 use Rattle.calls.proofs.Requests.{asker_refused, enough_refused, request_helped, low_byte}
 use Rattle.help.proofs.hear_request.Goals as goal
@@ -19,12 +19,11 @@ count_help-requires c =
     let low = low_byte c.args.book.now c.args.house c.requires (omega arith) in
     (omega arith, low)
 
-pub returns-then-helped_at-limit_of : goal.returns-then-helped_at-limit_of
-returns-then-helped_at-limit_of c =
-    request_helped c.args.book.now c.args.house (omega arith) (omega arith) _ c.help.ensures _ c.count_help.ensures
-
 pub returns-then-house-from : goal.returns-then-house-from
-returns-then-house-from c = enough_refused c.args.book.now c.args.house (omega arith) (omega arith) _ c.refuse.ensures
+returns-then-house-from c = asker_refused c.args.book.now c.args.house (omega arith) _ refl
+
+pub returns-then-helped_at-limit_of : goal.returns-then-helped_at-limit_of
+returns-then-helped_at-limit_of c = enough_refused c.args.book.now c.args.house (omega arith) (omega arith) _ refl
 
 pub returns : goal.returns
-returns c = asker_refused c.args.book.now c.args.house (omega arith) _ c.refuse-2.ensures
+returns c = request_helped c.args.book.now c.args.house (omega arith) (omega arith) _ refl _ c.count_help.ensures

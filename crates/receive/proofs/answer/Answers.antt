@@ -1,5 +1,7 @@
 -- A request, bytes that are malformed, and a message that is well formed, whose five things are those that were read.
-use Rattle.std.proofs.Common.{arith}
+use Rattle.std.proofs.Common.{ap, ◌∙◌, arith}
+use Rattle.calls.specs.declared.Outcome.{Outcome}
+use Rattle.calls.specs.Entered.{result_of}
 use Rattle.admit.proofs.Heard.{shown_head}
 use Rattle.receive.proofs.Heard.{read_formed, asks_long, formed_long, asked_any, malformed_any, message_any}
 use Rattle.receive.proofs.answer.Goals as goal
@@ -10,15 +12,23 @@ word_at-requires c = omega (arith, asks_long c.args.bytes.now _ c.is_request.ens
 pub ask-requires : goal.ask-requires
 ask-requires c = shown_head _ _ c.requires
 
-pub returns-then-is_request : goal.returns-then-is_request
-returns-then-is_request c =
+pub returns-in-Ok : goal.returns-in-Ok
+returns-in-Ok c =
     let a = c.args in
-    asked_any a.bytes.now a.book.now a.house _ c.is_request.ensures c.if-is_request.true _ c.word_at.ensures _ c.ask.ensures
+    let given = ap (λ (o : Outcome). result_of o c.ask.new.book) c.help.ensures in
+    asked_any a.bytes.now a.book.now a.house _ c.is_request.ensures c.if-is_request.true _ c.word_at.ensures _ (given ∙ c.in-Ok.ensures)
+
+pub returns-in-Err : goal.returns-in-Err
+returns-in-Err c =
+    let a = c.args in
+    let given = ap (λ (o : Outcome). result_of o c.ask.new.book) c.refuse.ensures in
+    asked_any a.bytes.now a.book.now a.house _ c.is_request.ensures c.if-is_request.true _ c.word_at.ensures _ (given ∙ c.in-Err.ensures)
 
 pub returns-in_default : goal.returns-in_default
 returns-in_default c =
     let a = c.args in
-    malformed_any a.bytes.now a.book.now a.house _ c.is_request.ensures c.if-is_request.false c.in_default.ensures _ c.refuse.ensures
+    malformed_any a.bytes.now a.book.now a.house _ c.is_request.ensures c.if-is_request.false c.in_default.ensures _
+    c.refuse-in_default.ensures
 
 pub invariant_of-letter : goal.invariant_of-letter
 invariant_of-letter c =

@@ -12,7 +12,7 @@ pub returns-then-letter-season_of : goal.returns-then-letter-season_of
 returns-then-letter-season_of c =
     let a = c.args in
     let l = a.letter.now in
-    message_other a.book.now l.bytes.now a.house _ _ l.of_season c.season_of.ensures c.if-letter-season_of.true _ c.refused.ensures
+    message_other a.book.now l.bytes.now a.house _ _ l.of_season c.season_of.ensures c.if-letter-season_of.true
 
 pub find-requires : goal.find-requires
 find-requires c =

@@ -1,12 +1,29 @@
--- A READY: the slots lie within the book, and what is recorded, marked, given and delivered is the protocol's step.
-use Rattle.std.proofs.Common.{rules, ℕ, refl, arith, get_or, Fits, w8}
+-- A READY: the slots lie within the book, and what is recorded, marked and given is the protocol's step; what is refused is what recording
+-- answers.
+use Rattle.std.proofs.Common.{◌≡◌, rules, ℕ, ap, refl, ◌∙◌, arith, get_or, Fits, w8}
+use Rattle.std.specs.Prelude.{Result, Err}
+use Rattle.refusal.specs.declared.Refusal.{Refusal}
+use Rattle.refusal.proofs.Numbers.{never_accepted}
+use Rattle.calls.specs.Entered.{result_of}
+use Rattle.reply.specs.declared.Step.{Step}
+use Rattle.reply.specs.Handed.{outcome_of}
 use Rattle.layout.proofs.Begins.{lies, ready_room, ready_sent_room, delivered_room}
 use Rattle.step.proofs.Heard.{ready_refused, ready_lies, ready_heard}
 use Rattle.step.proofs.hear_ready.Goals as goal
 
-pub record_answer-answer-requires : goal.record_answer-answer-requires
-record_answer-answer-requires c =
+pub record_answer-requires : goal.record_answer-requires
+record_answer-requires c =
     omega (arith, ready_room _ _ (lies _ c.args.entry c.requires.2 c.requires.0.begins.within) _ c.requires.1, c.ready-at.ensures)
+
+pub returns-in_err-record_answer : goal.returns-in_err-record_answer
+returns-in_err-record_answer c =
+    let a = c.args in
+    let b = a.book.now in
+    let m = a.letter.now.bytes.now in
+    let e : c.from_residual.result ≡ Err c.in_err-record_answer.field-0.0 = search rules in
+    ap (λ (o : Result Step Refusal). result_of (outcome_of o m) b) e
+    ∙ ready_refused b m a.entry.base c.requires.0 a.house c.requires.1 _ _ _ _ c.requires.2 c.lot.ensures c.in_err-record_answer.ensures
+    c.ready-at.ensures (never_accepted _)
 
 pub put_slot-requires : goal.put_slot-requires
 put_slot-requires c =
@@ -15,35 +32,37 @@ put_slot-requires c =
 pub ready_marks-m-requires : goal.ready_marks-m-requires
 ready_marks-m-requires c =
     let a = c.args in
-    let bytes : (i : ℕ) → Fits w8 (get_or a.book.now i 0) = λ i. search rules in
-    ready_lies a.book.now a.letter.now.bytes.now a.entry.base c.requires.0 a.house c.requires.1 _ _ _ _ c.requires.2
-    c.lot.ensures c.record_answer-answer.ensures (λ i. (bytes i).fits) _
-    c.lot-then-answer-eq0.ensures _ c.put_slot.ensures c.ready-at.ensures a.entry refl c.requires.2
+    let b = a.book.now in
+    let m = a.letter.now.bytes.now in
+    let bytes : (i : ℕ) → Fits w8 (get_or b i 0) = λ i. search rules in
+    ready_lies b m a.entry.base c.requires.0 a.house c.requires.1 _ _ _ _ c.requires.2 c.lot.ensures c.in_ok-record_answer.ensures
+    (λ i. (bytes i).fits) _ c.lot-2.ensures _ c.put_slot.ensures c.ready-at.ensures a.entry refl c.requires.2
 
 pub mark-requires : goal.mark-requires
 mark-requires c =
-    let room = ready_sent_room _ _ (lies _ c.args.entry c.requires.2 c.requires.0.begins.within) in
-    omega (arith, room, c.ready_sent.ensures, c.put_slot.auto.b)
+    omega (
+      arith,
+      ready_sent_room _ _ (lies _ c.args.entry c.requires.2 c.requires.0.begins.within),
+      c.ready_sent.ensures,
+      c.put_slot.auto.b,
+    )
 
-pub mark-requires-then-answer-eq0 : goal.mark-requires-then-answer-eq0
-mark-requires-then-answer-eq0 c =
-    let room = delivered_room _ _ (lies _ c.args.entry c.requires.2 c.requires.0.begins.within) in
-    omega (arith, room, c.delivered.ensures, c.put_slot.auto.b, c.mark.auto.book)
-
-pub returns-then-answer-eq0 : goal.returns-then-answer-eq0
-returns-then-answer-eq0 c =
-    let a = c.args in
-    let bytes : (i : ℕ) → Fits w8 (get_or a.book.now i 0) = λ i. search rules in
-    ready_heard a.book.now a.letter.now.bytes.now a.entry.base c.requires.0 a.house c.requires.1 _ _ _ _ c.requires.2
-    c.lot.ensures c.record_answer-answer.ensures (λ i. (bytes i).fits) _
-    c.lot-then-answer-eq0.ensures _ c.put_slot.ensures _ c.ready_sent.ensures _ _ c.lot-then-answer-eq0-2.ensures
-    c.lot-then-answer-eq0-3.ensures _ c.if-answer-eq0.true c.ready-at.ensures _ c.ready_marks-m.ensures c.mark.ensures _
-    c.delivered.ensures _
-    c.lot-then-answer-eq0-4.ensures _ c.mark-then-answer-eq0.ensures
+pub mark-requires-2 : goal.mark-requires-2
+mark-requires-2 c =
+    omega (
+      arith,
+      delivered_room _ _ (lies _ c.args.entry c.requires.2 c.requires.0.begins.within),
+      c.delivered.ensures,
+      c.put_slot.auto.b,
+      c.mark.auto.book,
+    )
 
 pub returns : goal.returns
 returns c =
     let a = c.args in
-    ready_refused a.book.now a.letter.now.bytes.now a.entry.base c.requires.0 a.house c.requires.1 _ _ _ _ c.requires.2
-    c.lot.ensures c.record_answer-answer.ensures c.ready-at.ensures
-    c.if-answer-eq0.false _ c.refused.ensures
+    let b = a.book.now in
+    let m = a.letter.now.bytes.now in
+    let bytes : (i : ℕ) → Fits w8 (get_or b i 0) = λ i. search rules in
+    ready_heard b m a.entry.base c.requires.0 a.house c.requires.1 _ _ _ _ c.requires.2 c.lot.ensures c.in_ok-record_answer.ensures
+    (λ i. (bytes i).fits) _ c.lot-2.ensures _ c.put_slot.ensures _ c.ready_sent.ensures _ _ c.lot-3.ensures c.lot-4.ensures _ refl
+    c.ready-at.ensures _ c.ready_marks-m.ensures c.mark.ensures _ c.delivered.ensures _ c.lot-5.ensures _ c.mark-2.ensures
