@@ -1,2 +1,3 @@
+pub mod Formed
 pub mod Settled
 pub mod Reading
