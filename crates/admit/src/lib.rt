@@ -80,5 +80,6 @@ pub fn find(book: &mut [u8], house: u32, tested: Tested, letter: &Letter) -> Res
     if !gates::is_plausible(layout::sheet_of(book), letter.message.declaration) {
         return Err(Refusal::NotPlausible);
     }
+    // Kept: `as u8`, which the test before makes exact; try_from would bring a refusal that never comes.
     take(book, house as u8, entry, letter)
 }

@@ -37,7 +37,7 @@ fn sent_in(book: &[u8], at: usize, kind: Kind, sender: u8, number: u8) -> Option
     if !slots::is_full(book, at) {
         return None;
     }
-    let d = octets::bytes_of(octets::declaration_at(book, at + 1));
+    let d = octets::twenty_at(book, at + 1);
     let season = layout::season_of(book);
     Some(writer::lay_message(kind.into(), season, sender, number, d))
 }
@@ -75,6 +75,7 @@ fn find_sent(book: &[u8], kind: u8, sender: u32, number: u32) -> Result<Option<[
     if number >= u32::from(layout::numbers_of(book)) {
         return Err(Refusal::NotThere);
     }
+    // Kept: `as u8`, which the test before makes exact; try_from would bring a refusal that never comes.
     Ok(sent_entry(book, kind, sender as u8, number as u8))
 }
 

@@ -144,6 +144,7 @@ fn start_again<W: Write>(scene: &mut Scene<'_, W>, mut r: Numbers) -> io::Result
 }
 
 // A call or a step that changes no book.
+// Kept, here and in `transcript`: the call beside the numbers, among which its own stands, since it is looked up once.
 pub fn take_step<W: Write>(scene: &mut Scene<'_, W>, call: Call, r: Numbers) -> io::Result<()> {
     match call {
         Call::StartAgain => start_again(scene, r),

@@ -65,6 +65,7 @@ fn column_of(n: usize) -> Column
 }
 
 // Whether f houses of n may be down: 0 to 4, and some t fits.
+// Kept: n and f as two numbers, since f is asked of n before there is a column of both.
 #[tactic(auto, unfolding(card::specs::Card::down_ok, card::specs::Card::most_down))]
 pub fn is_down(n: u32, f: u32) -> bool
     ensures { result ≡ down_ok n f }

@@ -30,6 +30,7 @@ fn is_field(bytes: &[u8], i: usize, tag: u8, len: u16) -> bool
 }
 
 // The three tags and lengths, in this order.
+// Kept, this and the two below: three tests of one expression each; with their tags handed in they would be no shorter.
 #[tactic(auto, unfolding(message::specs::Message::tagged))]
 fn is_tagged(bytes: &[u8]) -> bool
     requires { length bytes.now ≡ 36 }

@@ -7,6 +7,7 @@ ghost use Rattle.sheet.specs.Sheet.{measurable, within, limits_measurable, order
 use lot::Declaration;
 use sheet::{Gate, Readings, Sheet};
 
+// Kept: no From, since it goes by `floats`, which stands above the crate of both types.
 fn readings_of(d: Declaration) -> Readings
     ensures { result ≡ readings_of d }
 {
@@ -16,7 +17,7 @@ fn readings_of(d: Declaration) -> Readings
     }
 }
 
-#[tactic(auto, using(sheet::proofs::Limits::both_measurable), unfolding(sheet::specs::Sheet::within, sheet::specs::Sheet::limits_measurable))]
+#[tactic(auto, using(crate::proofs::Ordered::limits), unfolding(sheet::specs::Sheet::within, sheet::specs::Sheet::limits_measurable))]
 fn is_within(g: Gate, x: f32) -> bool
     requires { (limits_measurable g ≡ true) × (measurable x ≡ true) }
     ensures { result ≡ within g x }
@@ -29,7 +30,7 @@ fn is_within(g: Gate, x: f32) -> bool
 }
 
 // No low exceeds its high, no limit being NaN, infinite or below zero.
-#[tactic(auto, using(crate::proofs::Ordered::low_at_most, sheet::proofs::Limits::both_measurable), unfolding(sheet::specs::Sheet::ordered))]
+#[tactic(auto, using(crate::proofs::Ordered::limits), unfolding(sheet::specs::Sheet::ordered))]
 pub fn is_ordered(g: Gate) -> bool
     requires { limits_measurable g ≡ true }
     ensures { result ≡ ordered g }

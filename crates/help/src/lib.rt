@@ -18,6 +18,7 @@ pub fn hear_request(book: &mut [u8], house: u32) -> Result<(), Refusal>
     if house >= u32::from(layout::n_of(book)) {
         return Err(Refusal::NotThere);
     }
+    // Kept: `as u8`, which the test before makes exact; try_from would bring a refusal that never comes.
     let asker = house as u8;
     if layout::helped_at(book, asker) >= layout::limit_of(book) {
         return Err(Refusal::HelpedEnough);

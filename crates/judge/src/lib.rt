@@ -47,6 +47,7 @@ fn legal_sheet(bytes: &[u8]) -> Option<Sheet>
 }
 
 // The sheet whose 22 bytes stand at i, whatever they are.
+// Kept: beside `legal_sheet_at`, since the sheet of a book is read where its legality was tested, and is tested once.
 #[tactic(auto, unfolding(sheet::specs::Kept::sheet_at))]
 pub fn sheet_at(bytes: &[u8], i: usize) -> Sheet
     requires { i + 21 < length bytes.now }
@@ -60,6 +61,7 @@ pub fn sheet_at(bytes: &[u8], i: usize) -> Sheet
 }
 
 // The 22 bytes at i are the one form of a legal sheet.
+// Kept, this and the one below: a book's sheet stands at a place, and a sheet that is lent has to have its length.
 pub fn is_sheet_at(bytes: &[u8], i: usize) -> bool
     requires { i + 21 < length bytes.now }
     ensures { result ≡ sheet_legal_at bytes.now i }

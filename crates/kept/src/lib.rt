@@ -19,6 +19,7 @@ pub fn kept_at(bytes: &[u8], i: usize) -> Kept
     }
 }
 
+// Kept, here and in `has_measurable_limits`: by the number, as the bytes have it; the two give different things of the same cases.
 #[tactic(auto, unfolding(sheet::specs::Kept::gate_of))]
 pub fn gate_of(k: Kept) -> Gate
     ensures { result ≡ gate_of k }

@@ -114,6 +114,8 @@ impl Shape {
 }
 
 // An entry: where its slots begin, in a book of n houses.
+// Kept: that it lies within a book (`Has`, `Opens`, `Lies`, `Carries`) is a clause and no invariant, since the book is lent beside it and
+// changes; and sender and number are handed in apart, since they come so from C and from a message, and may be none of the book's.
 #[derive(Clone, Copy, PartialEq, Eq, Debug)]
 pub struct EntryAt {
     pub base: u32,
@@ -172,7 +174,8 @@ impl EntryAt {
     }
 }
 
-// Kept: five names for five bytes of the header; one function generic in the place, as field::<N>(b), would say no more than b[N] does.
+// Kept: six names for six bytes of the header; one function generic in the place, as field::<N>(b), would say no more than b[N] does. And
+// that a field stands in the bytes is a clause of each, since some are read before the head is known to be legal, and C lends bare bytes.
 
 // Houses n.
 pub fn n_of(b: &[u8]) -> u8

@@ -57,6 +57,8 @@ pub fn is_finite_line(l: Line) -> bool
 }
 
 // The rank of finite bits: a higher float has a higher rank, and both zeros have the same.
+// Kept, here and in `raise` and `merge`: by ranks of bits and no Ord, since both zeros have one rank, a caller's float mode may not matter,
+// and of equals the lower lot stands.
 fn rank_of(bits: u32) -> u32
     ensures { result ≡ rank bits }
 {

@@ -26,6 +26,7 @@ pub struct Marks {
 
 // Whether nothing was accepted of this kind from this house on this entry: 7, with the same declaration; 13, with a different one. The slot
 // is compared as vouchers are counted, so that declarations are compared in one place.
+// Kept: counted and not compared by ==, of which two ways were counted and took more instructions (MEASURES).
 pub fn record_answer(book: &[u8], at: usize, d: [u8; 20]) -> Result<(), Refusal>
     requires { at + slot_length ≤ length book.now }
     ensures { answer_of result ≡ recording (slot_at book.now at) d }
@@ -48,6 +49,7 @@ fn is_reached(book: &[u8], at: usize, least: usize, votes: usize) -> bool
 }
 
 // Fills the slot at `at` where `yes` says so.
+// Kept: a flag, since the clause says both cases, and a step goes one way for both.
 pub fn mark(book: &mut [u8], at: usize, yes: bool, d: [u8; 20])
     requires { at + slot_length ≤ length book.old }
     ensures { book.new ≡ cond yes (put_slot book.old at d) book.old }

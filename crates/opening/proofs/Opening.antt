@@ -9,6 +9,7 @@ use borrow.Author.Tests.{eq-eqb, ne_eqb}
 use Rattle.words.specs.Words.{Bytes, be32}
 use Rattle.sheet.specs.Kept.{is_sheet, sheet_at}
 use Rattle.sheet.proofs.OneForm.{bytes_of_sheet}
+use Rattle.sheet.proofs.Gates.{sheet_sized}
 use Rattle.meaning.specs.Layout.{helped_place, head_length, slot_length, slot_count, length_of}
 use Rattle.meaning.specs.Book.{rows, help_bytes, head, write}
 use Rattle.meaning.proofs.Rows.{rows_zeros}
@@ -66,4 +67,4 @@ module _ (b : List ℕ) (n s own f d season : ℕ) (sheet : List ℕ) where
             rw (← e, t, ← q, u, eq-eqb _ _ (h ∙ k)) (λ i. record { answer = 0; book = z i })
 
 -- the answers of `open_book`, for its search
-pub ruleset opens = (opens_9, opens_10, opens_11, opens_0)
+pub ruleset opens = (opens_9, opens_10, opens_11, opens_0, sheet_sized)

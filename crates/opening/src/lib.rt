@@ -32,6 +32,7 @@ impl Asked {
     }
 
     // n and S, in a byte each.
+    // Kept, here and below: `as u8`, which the clause makes exact; try_from would bring a refusal that never comes.
     #[tactic(auto, using(crate::proofs::Opening::allowed_bytes))]
     fn shape(self) -> Shape
         requires { allowed self.n self.numbers self.own self.f self.d ≡ true }
@@ -79,7 +80,7 @@ fn lay_blank(b: &mut [u8], asked: Asked, sheet: &[u8])
 }
 
 // Opening: 9, 10, 11; else it writes the whole buffer.
-#[tactic(auto, using(crate::proofs::Opening::opens, sheet::proofs::Gates::sheet_sized), unfolding(meaning::specs::Layout::length_of, meaning::specs::Layout::head_length))]
+#[tactic(auto, using(crate::proofs::Opening::opens), unfolding(meaning::specs::Layout::length_of, meaning::specs::Layout::head_length))]
 pub fn open_book(book: &mut [u8], asked: Asked, sheet: &[u8]) -> Result<(), Refusal>
     ensures { ◌≡◌ {A = Opened} (record { answer = answer_of result; book = book.new })
         (opened book.old asked.n asked.numbers asked.own asked.f asked.d asked.season sheet.now) }

@@ -11,7 +11,6 @@ use post::{APART, BOOKS};
 use refusal::answer_of;
 use script::{BYTES, Call, HELP_LIMIT, HOUSES, Numbers, OWN, SEASON, TAIL};
 use sheet::Kept;
-use sizes::LengthAnswer;
 use std::ops::Range;
 
 // ---- the numbers, by their letters
@@ -62,12 +61,20 @@ fn sheet_of(r: &Numbers) -> [u8; 22] {
 
 // ---- the calls
 
-// Kept: 0 for a length that is not set, since a script may set b to 0, and is then given the right one; the answer is C's number.
+// Kept: 0 for a length that is not set, since a script may set b to 0, and is then given the right one.
 fn length(r: &mut Numbers) {
-    let found = LengthAnswer::from(sizes::length_of(r.get(HOUSES), r.get(NUMBERS)));
-    answered(r, found.answer);
-    r.set(TAIL, if found.answer == 0 { 2 } else { 0 });
-    r.set(BYTES, u32::try_from(found.length).unwrap_or(0));
+    match sizes::length_of(r.get(HOUSES), r.get(NUMBERS)) {
+        Ok(length) => {
+            answered(r, 0);
+            r.set(TAIL, 2);
+            r.set(BYTES, u32::try_from(length).unwrap_or(0));
+        }
+        Err(refusal) => {
+            answered(r, u8::from(refusal));
+            r.set(TAIL, 0);
+            r.set(BYTES, 0);
+        }
+    }
 }
 
 // Unless the script has set it, a book has the length that is right for it.

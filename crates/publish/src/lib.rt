@@ -25,6 +25,7 @@ fn enter(book: &mut [u8], number: u32, declaration: &[u8; 20]) -> Result<Outcome
     ) {
         return Err(Refusal::NotPlausible);
     }
+    // Kept: `as u8`, which here and below the test makes exact; try_from would bring a refusal that never comes.
     let at = layout::shape_of(book).published(number as u8);
     if slots::is_full(book, at) {
         return Err(Refusal::PublishedBefore);

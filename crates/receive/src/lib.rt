@@ -23,6 +23,8 @@ use step::Letter;
 const SEASON: usize = 7;
 
 // A request, by the season that it names: 3, then 4 and 14.
+// Kept, here, in `help` and in `waiting`: that the head is legal is a clause, since C lends bare bytes, and no type of a legal book
+// outlives the call.
 fn ask(book: &mut [u8], house: u32, named: u32) -> Result<(), Refusal>
     requires { head_legal book.old ≡ true }
     ensures { result_of (help_of result) book.new ≡ requested book.old house named }
@@ -65,6 +67,7 @@ fn answer(book: &mut [u8], house: u32, tested: Tested, bytes: &[u8]) -> Outcome
     reply::hand(hear(book, house, tested, &letter), bytes)
 }
 
+// Kept, this and the one below: two functions, since C links both names; what follows the test that differs is one.
 // Receiving: 1, 2, then 3 and on: 1 to 6 in order, then 7 or 13; a request 1 to 4, then 14.
 pub fn receive(book: &mut [u8], house: u32, message: &[u8]) -> Outcome
     ensures { result_of result book.new ≡ received book.old house message.now }

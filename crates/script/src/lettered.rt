@@ -43,6 +43,7 @@ impl Numbers {
     pub fn set(&mut self, letter: u8, value: u32)
         ensures { self.new ≡ slice_set self.old letter value }
     {
+        // Kept: tried as get_mut; the goal of the clause did not close.
         let place = usize::from(letter);
         if place < self.by_letter.len() {
             self.by_letter[place] = value;

@@ -47,6 +47,7 @@ pub fn length_of(n: u32, numbers: u32) -> Result<u64, Refusal>
     if !is_size(n, numbers) {
         return Err(Refusal::NotAllowed);
     }
+    // Kept: `as u8`, which the test before makes exact; try_from would bring a refusal that never comes.
     let shape = Shape {
         n: n as u8,
         numbers: numbers as u8,

@@ -10,8 +10,8 @@ ghost use Rattle.meaning.specs.Legal.{row_ok};
 ghost use Rattle.slots.specs.Strays.{clear};
 
 // The bytes of a slot.
-// Kept, here and in `vouchers`: a slot, and a row of them by its first, is named by its place in the book's bytes, as the definitions name
-// it (`slot_at`, `put_slot`, `row_ok`), and not by a type of its own, which would ask for the same room where it is made.
+// Kept, here, in `vouchers`, `marks` and `again`: a slot, and a row of them by its first, is named by its place in the book's bytes, as
+// the definitions name it (`slot_at`, `put_slot`, `row_ok`), and not by a type of its own, which would ask for the same room.
 pub const LENGTH: usize = 21;
 
 // The slots that one turn of the scan gathers.

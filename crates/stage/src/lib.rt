@@ -48,7 +48,8 @@ pub struct Scene<'a, W> {
 }
 
 // What a call gives, by its number in the script. Of a refusal this is not told.
-// Kept: the number is set and read back among the numbers, and the bytes stand beside it, since a script may set g itself.
+// Kept: the number is set and read back among the numbers (`as u32`, as of what bytes read as and of what waits), and the bytes stand
+// beside it, since a script may set g itself.
 #[derive(Clone, Copy, PartialEq, Eq, Debug)]
 pub enum Gives {
     Nothing = 0,

@@ -20,7 +20,6 @@ pub fn write_request(season: u32) -> [u8; 11]
 // Kept: five arguments, the kind as a number, and no Message, since the clause promises the bytes of each number; the pages name this
 // function, and `gm_write` hands C's numbers on.
 pub fn lay_message(kind: u8, season: u32, sender: u8, number: u8, d: [u8; 20]) -> [u8; 36]
-    requires { length d ≡ 20 }
     ensures { result ≡ fields kind season sender number d }
 {
     let q = season.to_be_bytes();

@@ -1,5 +1,5 @@
 -- The bytes laid are the message's three fields.
-use Rattle.std.proofs.Common.{◌≡◌, ℕ, ◌/◌, ◌%◌, List, ◌∷◌, ◌++◌, length, get_or, sym, ◌∙◌}
+use Rattle.std.proofs.Common.{rules, ◌≡◌, ℕ, ◌/◌, ◌%◌, List, ◌∷◌, ◌++◌, length, get_or, sym, ◌∙◌}
 use Rattle.words.specs.Words.{be32}
 use Rattle.words.proofs.Laws.{be32_to_be_bytes}
 use Rattle.words.proofs.Listed.{listed, listed_is}
@@ -20,5 +20,6 @@ laid_is kind sender number season q d e l =
 pub returns : goal.returns
 returns c =
     let a = c.args in
+    let long : length a.d ≡ 20 = search rules in
     laid_is a.kind a.sender a.number a.season c.to_be_bytes-q.result a.d
-    (c.to_be_bytes-q.ensures ∙ be32_to_be_bytes a.season c.ranges.season.fits) c.requires
+    (c.to_be_bytes-q.ensures ∙ be32_to_be_bytes a.season c.ranges.season.fits) long
