@@ -32,6 +32,7 @@ fn is_size(n: u32, numbers: u32) -> bool
 }
 
 // n, S, own number, f and d are allowed.
+// Kept: five numbers, since a book's are bytes of its head and opening's are C's; a struct of them would be made for this test alone.
 #[tactic(auto, unfolding(meaning::specs::Opening::allowed, meaning::specs::Layout::most_limit))]
 pub fn is_allowed(n: u32, numbers: u32, own: u32, f: u32, d: u32) -> bool
     ensures { result ≡ allowed n numbers own f d }
