@@ -3,7 +3,7 @@ use mathlib.Core.Path.{sym, ◌∙◌}
 use Rattle.message.specs.Claims.{Claims}
 use Rattle.message.proofs.RoundTrip as trip
 use Rattle.message.proofs.Request as request
-use Rattle.message.proofs.Told.{told_injective}
+use Rattle.message.proofs.Told.{told_injective, read_as_injective, read_as_something}
 
 pub claims : Claims
 claims =
@@ -16,6 +16,8 @@ claims =
       wire_of_request = request.wire_of_request;
       request_alone = request.request_alone;
       told_injective = told_injective;
+      read_as_injective = read_as_injective;
+      read_as_something = read_as_something;
       settled = record {
         read_settled = λ s r r' p q. told_injective r r' (p ∙ sym q);
         write_settled = λ kind season sender number d r r' p q. p ∙ sym q;

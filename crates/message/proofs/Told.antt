@@ -7,7 +7,8 @@ use Rattle.std.specs.Prelude.{Option, Some, None}
 use Rattle.message.specs.declared.Kind.{Kind}
 use Rattle.message.specs.declared.Kind.TheVariants.{Send, Echo, Ready}
 use Rattle.message.specs.declared.Message.{Message}
-use Rattle.message.specs.Message.{Five, number_of, told}
+use native.Mathlib.Omega.{arith}
+use Rattle.message.specs.Message.{Five, Told, number_of, told, read_as, malformed}
 
 -- the kind that has this number
 abbrev kind_of : ℕ → Kind
@@ -43,3 +44,16 @@ found_told None = refl
 
 pub told_injective : (a b : Option Message) → told a ≡ told b → a ≡ b
 told_injective a b h = sym (found_told a) ∙ (λ i. found (h i).five) ∙ found_told b
+
+-- the five things told, or those
+abbrev five_or : Five → maybe.Option Five → Five
+five_or a none = a
+five_or a (some m) = m
+
+pub read_as_injective : (a b : Five) → read_as a ≡ read_as b → a ≡ b
+read_as_injective a b h = λ i. five_or a (h i).five
+
+pub read_as_something : (a : Five) → read_as a ≡ malformed → ⊥
+read_as_something a h =
+    let e : 0 ≡ 2 = λ i. (h i).answer in
+    omega (arith, e)

@@ -29,7 +29,10 @@ pub record Claims : Type 0 where
   pub request_of_wire : (season : ℕ) → request_of (request_wire season) ≡ some season
   pub wire_of_request : (bytes : List ℕ) → is_request bytes ≡ true → Bytes bytes → bytes ≡ request_wire (word_at bytes 7)
   pub request_alone : (bytes : List ℕ) → is_request bytes ≡ true → read_of bytes ≡ malformed
-  -- The answer and the five things settle what the reader found.
+  -- The answer and the five things settle what the reader found, and five things that are no message's too: the same is told of no others,
   pub told_injective : (a b : Option Message) → told a ≡ told b → a ≡ b
+  pub read_as_injective : (a b : Five) → read_as a ≡ read_as b → a ≡ b
+  -- nor of what is malformed.
+  pub read_as_something : (a : Five) → read_as a ≡ malformed → ⊥
   -- The reader's contract and the writer's settle their outcome.
   pub settled : Settles

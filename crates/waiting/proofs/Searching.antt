@@ -12,6 +12,7 @@ use Rattle.meaning.specs.Layout.{place_from, send_slot, delivered_slot}
 use Rattle.meaning.specs.Book.{n_of, numbers_of, look}
 use Rattle.meaning.specs.Legal.{legal, Has}
 use Rattle.calls.specs.declared.Waiting.{Waiting}
+use Rattle.calls.specs.Search as search
 use Rattle.std.specs.Prelude as std
 use Rattle.std.specs.Prelude.{Some, None}
 use Rattle.waiting.specs.declared.Place.{Place}
@@ -107,3 +108,14 @@ module _ (b : List ℕ) where
       → record { answer = answer; waits = false; number = 0; sender = 0 } ≡ waiting b
   unfolding waiting
   waiting_no_book h answer e = rw (h, e)
+
+-- the place told, or none
+abbrev place_of : Waiting → Option search.Place
+place_of w = cond w.waits (some (record { number = w.number; sender = w.sender })) none
+
+place_of_found : (x : Option search.Place) → place_of (search.found x) ≡ x
+place_of_found (some x) = refl
+place_of_found none = refl
+
+pub found_injective : (x y : Option search.Place) → search.found x ≡ search.found y → x ≡ y
+found_injective x y h = sym (place_of_found x) ∙ ap place_of h ∙ place_of_found y
