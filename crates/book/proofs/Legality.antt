@@ -1,14 +1,17 @@
 -- Legality, part by part: the numbers and the length, the help given, the sheet; the slots, and those of an entry.
 use Prim.Native.Nat.{ℕ, zero, suc, ◌+◌, ◌<◌, ◌≤◌}
-use mathlib.Core.Path.{◌≡◌, refl, sym, ap, ap₂, ◌∙◌}
-use mathlib.Core.Bool.{Bool, true, false, ◌&&◌, and-eq-true_iff}
-use mathlib.Core.List.{List}
-use native.Mathlib.Decide.{dec_lt}
+use mathlib.Core.Path.{◌≡◌, refl, sym, ap, ap₂, subst, ◌∙◌}
+use mathlib.Core.Bool.{Bool, true, false, ◌&&◌, and-eq-true_iff, and_assoc}
+use mathlib.Core.List.{List, [], ◌∷◌, ◌++◌}
 use native.Mathlib.Omega.{arith}
 use native.Mathlib.Numerals.{add-one}
 use lib.Dec.{eqb, leb}
 use lib.ListN.{length, get_or}
-use borrow.Author.Tests.{eqb-true, ne_eqb, le-leb, lt-leb}
+use borrow.Author.Tests.{eqb-true, ne_eqb}
+use Rattle.std.specs.List.{list_all, range_with_len}
+use Rattle.std.proofs.lemmas.List.Folds.{list_all-map}
+use Rattle.std.proofs.lemmas.List.FromFn.{map-range_with_len_more}
+use Rattle.std.specs.Prelude.{map}
 use Rattle.sheet.specs.Kept.{sheet_legal_at}
 use Rattle.entry.proofs.Basics.{T_of, true_of, and_l, and_r, and_mk, and_false}
 use Rattle.entry.proofs.Basics as basics
@@ -24,31 +27,33 @@ use Rattle.book.specs.Parts.{sized}
 -- ---- the help given, one more
 
 module _ (b : List ℕ) (d : ℕ) where
-  pub helps_none : helps_ok b d 0 ≡ true
-  unfolding helps_ok
-  helps_none = refl
-
   helps_more : (k : ℕ) → helps_ok b d (k + 1) ≡ helps_ok b d k && leb (get_or b (helped_place k) 0) d
   unfolding helps_ok
   helps_more k = rw (add-one k)
 
-  helps_at : (m k : ℕ) → helps_ok b d m ≡ true → k < m → leb (get_or b (helped_place k) 0) d ≡ true
+  -- whether asker p was helped at most d times
+  abbrev pub help_at : ℕ → Bool
+  help_at p = leb (get_or b (helped_place p) 0) d
+
+  all_more : (xs : List Bool) (x : Bool) → list_all (λ y. y) (xs ++ x ∷ []) ≡ list_all (λ y. y) xs && x
+  all_more [] true = refl
+  all_more [] false = refl
+  all_more (y ∷ xs) x = ap (λ z. y && z) (all_more xs x) ∙ sym (and_assoc y (list_all (λ y. y) xs) x)
+
+  abbrev Mapped : ℕ → Type 0
+  Mapped k = list_all (λ y. y) (map help_at (range_with_len 0 k)) ≡ helps_ok b d k
+
+  mapped_more : (k : ℕ) → Mapped k → Mapped (k + 1)
+  mapped_more k h =
+      rw (map-range_with_len_more help_at 0 k k (omega arith), all_more (map help_at (range_with_len 0 k)) (help_at k), helps_more k, h)
+
+  mapped : (k : ℕ) → Mapped k
   unfolding helps_ok
-  helps_at zero k h l = absurd (omega arith)
-  helps_at (suc m) k h l =
-      let t = (and-eq-true_iff (helps_ok b d m) (leb (get_or b (helped_place m) 0) d)).0 h in
-      elim (dec_lt k m) [ yes a ↦ helps_at m k t.0 a | no g ↦ let e : k ≡ m = omega arith in rw e t.1 ]
+  mapped zero = refl
+  mapped (suc k) = subst Mapped (add-one k) (mapped_more k (mapped k))
 
-  module _ (k x : ℕ) (e : x ≡ get_or b (helped_place k) 0) where
-    pub helps_hit : helps_ok b d k ≡ true → x ≤ d → helps_ok b d (k + 1) ≡ true
-    helps_hit h l = rw (helps_more k, h, ← e) (le-leb x d l)
-
-    pub helps_miss : (m : ℕ) → k < m → d < x → false ≡ helps_ok b d m
-    helps_miss m l g = go (helps_ok b d m) refl
-      where
-        go : (y : Bool) → helps_ok b d m ≡ y → false ≡ y
-        go true q = sym (lt-leb x d g) ∙ ap (λ (z : ℕ). leb z d) e ∙ helps_at m k q l
-        go false q = refl
+  pub helps_all : (k : ℕ) → list_all help_at (range_with_len 0 k) ≡ helps_ok b d k
+  helps_all k = sym (list_all-map (λ y. y) help_at (range_with_len 0 k)) ∙ mapped k
 
 -- ---- the numbers and the length
 

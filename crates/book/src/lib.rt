@@ -11,18 +11,11 @@ ghost use Rattle.book.specs.Parts.{sized};
 use layout::EntryAt;
 
 // Each of the first k askers was helped at most d times.
-// Kept: tried as `(0..k).all(..)`, whose answer is not found from what `all` promises; the loop's is.
-#[tactic(auto, using(crate::proofs::Legality::helps_none, crate::proofs::Legality::helps_hit, crate::proofs::Legality::helps_miss))]
 fn are_helps_ok(b: &[u8], d: u8, k: u8) -> bool
     requires { helped_place k ≤ length b.now }
     ensures { result ≡ helps_ok b.now d k }
 {
-    for p in 0..k {
-        if d < layout::helped_at(b, p) {
-            return false;
-        }
-    }
-    true
+    (0..k).all(|p| layout::helped_at(b, p) <= d)
 }
 
 // n, S, own number, f and d are allowed, and there are as many bytes as n and S ask.

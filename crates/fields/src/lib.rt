@@ -6,13 +6,6 @@ ghost use Rattle.message.specs.Message.{is_kind, field_at, tagged, well_formed, 
 
 use message::Kind;
 
-// The kinds of a message on an entry, by their numbers.
-pub const SEND: u8 = 1;
-
-pub const ECHO: u8 = 2;
-
-pub const READY: u8 = 3;
-
 // 1 SEND, 2 ECHO, 3 READY.
 #[tactic(auto, using(message::proofs::Numbers::known))]
 pub fn is_kind(kind: u8) -> bool

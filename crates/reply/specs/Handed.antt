@@ -1,9 +1,11 @@
 -- What is handed back of a step on the entry that a message names. A message given is the one that came, with another kind; what is
 -- delivered is its declaration.
-use Rattle.std.specs.Prelude.{ℕ, List, get_or, set, take, drop, Result, Ok, Err}
-use Rattle.std.proofs.Math.Option.{none}
+use Rattle.std.specs.Prelude.{ℕ, List, get_or, set, take, drop, Result, Ok, Err, Some, None}
+use Rattle.std.specs.Prelude as std
+use Rattle.std.proofs.Math.Option.{Option, none, some}
 use Rattle.refusal.specs.declared.Refusal.{Refusal}
 use Rattle.refusal.specs.Answer.{number_of}
+use Rattle.message.specs.declared.Kind.{Kind}
 use Rattle.message.specs.Message as kinds
 use Rattle.entry.specs.Entry.{Decl}
 use Rattle.protocol.specs.Steps.{only_if}
@@ -25,9 +27,14 @@ lot_in m = take 20 (drop 16 m)
 abbrev pub with_kind : ℕ → List ℕ → List ℕ
 with_kind kind m = set m 3 kind
 
+-- the message with the kind that is given, or none
+abbrev pub given_of : std.Option Kind → List ℕ → Option (List ℕ)
+given_of None m = none
+given_of (Some kind) m = some (with_kind (kinds.number_of kind) m)
+
 -- what the step gives and delivers, or the number of its refusal alone
 abbrev pub outcome_of : Result Step Refusal → List ℕ → Outcome
-outcome_of (Ok s) m = handed 0 (only_if s.gives (with_kind (kinds.number_of s.kind) m)) (only_if s.delivers (lot_in m))
+outcome_of (Ok s) m = handed 0 (given_of s.gives m) (only_if s.delivers (lot_in m))
 outcome_of (Err refusal) m = handed (number_of refusal) none none
 
 -- a request that is accepted, or the number of its refusal alone

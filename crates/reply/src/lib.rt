@@ -7,21 +7,18 @@ ghost use Rattle.lot.specs.Declaration.{declaration_at};
 ghost use Rattle.protocol.specs.Steps.{only_if};
 ghost use Rattle.meaning.specs.Legal.{IsDecl};
 ghost use Rattle.calls.specs.Entered.{handed, helping, or_zeros, wired};
-ghost use Rattle.message.specs.Message as kinds;
 ghost use Rattle.refusal.specs.Answer.{number_of};
-ghost use Rattle.reply.specs.Handed.{lot_in, with_kind, outcome_of};
+ghost use Rattle.reply.specs.Handed.{lot_in, with_kind, given_of, outcome_of};
 
 use calls::Outcome;
-use fields::SEND;
 use message::Kind;
 use refusal::Refusal;
 
-// What a step on a message's entry gives: whether a message and of which kind, whether the declaration is delivered. The bytes of both
-// stand in the message that came, so that they are laid once, at the end.
+// What a step on a message's entry gives: the kind of its message, if it gives one, and whether the declaration is delivered. The bytes of
+// both stand in the message that came, so that they are laid once, at the end.
 #[derive(Clone, Copy, PartialEq, Eq, Debug)]
 pub struct Step {
-    pub gives: bool,
-    pub kind: Kind,
+    pub gives: Option<Kind>,
     pub delivers: bool,
 }
 
@@ -58,7 +55,7 @@ pub fn announce(season: u32, sender: u8, number: u8, d: [u8; 20]) -> Outcome
     requires { IsDecl d }
     ensures { result ≡ handed 0 (some (wired 1 season sender number (declaration_at d 0))) none }
 {
-    let message = writer::lay_message(SEND, season, sender, number, d);
+    let message = writer::lay_message(u8::from(Kind::Send), season, sender, number, d);
     Outcome {
         answer: 0,
         gives: true,
@@ -81,15 +78,15 @@ fn with_kind(message: &[u8], kind: u8) -> [u8; 36]
     out
 }
 
-// The message with that kind, or none.
-fn letter_of(gives: bool, kind: Kind, message: &[u8]) -> [u8; 36]
+// The message with the kind that is given, or none.
+fn letter_of(gives: Option<Kind>, message: &[u8]) -> [u8; 36]
     requires { length message.now ≡ 36 }
-    ensures { result ≡ or_zeros 36 (only_if gives (with_kind (kinds.number_of kind) message.now)) }
+    ensures { result ≡ or_zeros 36 (given_of gives message.now) }
 {
-    if gives {
-        return with_kind(message, kind.into());
+    match gives {
+        Some(kind) => with_kind(message, kind.into()),
+        None => [0; 36],
     }
-    [0; 36]
 }
 
 // The message's declaration, or none.
@@ -110,11 +107,11 @@ pub fn hand(step: Result<Step, Refusal>, message: &[u8]) -> Outcome
 {
     match step {
         Ok(step) => {
-            let letter = letter_of(step.gives, step.kind, message);
+            let letter = letter_of(step.gives, message);
             let lot = lot_of(step.delivers, message);
             Outcome {
                 answer: 0,
-                gives: step.gives,
+                gives: step.gives.is_some(),
                 message: letter,
                 delivers: step.delivers,
                 declaration: lot,

@@ -4,8 +4,11 @@ use Prim.Native.Nat.{ℕ, ◌<◌}
 use mathlib.Core.Path.{◌≡◌, refl, sym, ap, ap₂, ◌∙◌, subst}
 use mathlib.Core.Bool.{Bool, true, false, cond}
 use mathlib.Core.List.{List}
-use mathlib.Core.Option.{Option, none}
+use mathlib.Core.Option.{Option, none, some}
 use Rattle.std.specs.Prelude.{Ok}
+use Rattle.std.specs.Prelude as std
+use Rattle.std.specs.Bool.{then_some}
+use Rattle.message.specs.declared.Kind as kind
 use Rattle.message.specs.Message as kinds
 use Rattle.words.specs.Words.{Bytes, word_at}
 use Rattle.lot.specs.Declaration.{declaration_at}
@@ -25,7 +28,7 @@ use Rattle.calls.proofs.Entered.{letter_bytes, letter_wired}
 use Rattle.layout.specs.Places.{Within, Begins}
 use Rattle.layout.proofs.Begins.{begins}
 use Rattle.reply.specs.declared.Step.{Step}
-use Rattle.reply.specs.Handed.{sender_in, number_in, lot_in, with_kind, outcome_of}
+use Rattle.reply.specs.Handed.{sender_in, number_in, lot_in, with_kind, given_of, outcome_of}
 use Rattle.marks.specs.declared.Marks.{Marks}
 use Rattle.marks.specs.Marks.{echo_mark, ready_marks}
 use Rattle.step.specs.Carries.{Carries}
@@ -56,10 +59,16 @@ module _ (b m : List ℕ) (base : ℕ) (C : Carries b m base) where
       ∙ letter_bytes k (word_at m 7) (sender_in m) (number_in m) lot C.plausible.decl
       ∙ ap (λ (x : ℕ). wired k x (sender_in m) (number_in m) (declaration_at lot 0)) C.comes.season
 
-  pub outcome_wired : (s : Step) → outcome_of (Ok s) m
-      ≡ handed 0 (only_if s.gives (wired (kinds.number_of s.kind) (season_of b) (sender_in m) (number_in m) (declaration_at lot 0)))
+  given_wired : (g : Bool) (k : kind.Kind) → given_of (then_some g k) m
+      ≡ only_if g (wired (kinds.number_of k) (season_of b) (sender_in m) (number_in m) (declaration_at lot 0))
+  given_wired true k = ap some (kind_wired (kinds.number_of k))
+  given_wired false k = refl
+
+  pub outcome_wired : (g : Bool) (k : kind.Kind) (s : Step) → s.gives ≡ then_some g k → outcome_of (Ok s) m
+      ≡ handed 0 (only_if g (wired (kinds.number_of k) (season_of b) (sender_in m) (number_in m) (declaration_at lot 0)))
       (only_if s.delivers lot)
-  outcome_wired s = ap (λ (l : List ℕ). handed 0 (only_if s.gives l) (only_if s.delivers lot)) (kind_wired (kinds.number_of s.kind))
+  outcome_wired g k s e =
+      ap (λ (o : Option (List ℕ)). handed 0 o (only_if s.delivers lot)) (ap (λ (o : std.Option kind.Kind). given_of o m) e ∙ given_wired g k)
 
 module _ (b : List ℕ) (bytes : Bytes b) (j c p : ℕ) (fits : Fits b j c) (hp : p < n_of b) (v : Decl) (dv : IsDecl v) where
   abbrev has : Has b j c

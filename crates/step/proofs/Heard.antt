@@ -13,7 +13,9 @@ use Rattle.meaning.specs.Book.{n_of, header_of, look}
 use Rattle.meaning.specs.Legal.{IsDecl, Fits}
 use Rattle.meaning.proofs.Seen.{from_base}
 use mathlib.Core.Option.{none}
-use Rattle.std.specs.Prelude.{Ok}
+use Rattle.std.specs.Prelude.{Ok, Some, Option}
+use Rattle.std.specs.Bool.{then_some}
+use Rattle.message.specs.declared.Kind as kind
 use Rattle.message.specs.declared.Kind.TheVariants.{Echo, Ready}
 use Rattle.calls.specs.Entered.{handed, result_of, rules_by}
 use Rattle.calls.specs.ByEntry.{entered_in, called_in}
@@ -66,11 +68,11 @@ module _ (b m : List ℕ) (base : ℕ) (C : Carries b m base) where
     send_refused = refused_heard SEND j fits.has.sender own_send at r d ea ed er
 
     pub send_heard : Bytes b → r ≡ 0 → (d₁ : Decl) → d₁ ≡ v → (b₁ : List ℕ) → b₁ ≡ put_slot b at d₁
-        → result_of (outcome_of (Ok (record { gives = true; kind = Echo; delivers = false })) m) b₁ ≡ called_in b (asked_by j SEND m)
+        → result_of (outcome_of (Ok (record { gives = Some Echo; delivers = false })) m) b₁ ≡ called_in b (asked_by j SEND m)
     send_heard bytes z d₁ e₁ b₁ q =
-        let s : Step = record { gives = true; kind = Echo; delivers = false } in
+        let s : Step = record { gives = Some Echo; delivers = false } in
         send_entered b bytes j c j fits fits.has.sender v dv at b₁ (outcome_of (Ok s) m)
-        (ea ∙ from_base b j c fits.has base C.begins.is send_slot) (q ∙ ap (put_slot b at) e₁) (outcome_wired b m base C s)
+        (ea ∙ from_base b j c fits.has base C.begins.is send_slot) (q ∙ ap (put_slot b at) e₁) (outcome_wired b m base C true Echo s refl)
         ∙ taken_heard SEND j fits.has.sender own_send at r d ea ed er z
 
   -- ---- a voucher
@@ -109,22 +111,25 @@ module _ (b m : List ℕ) (base : ℕ) (C : Carries b m base) where
       module _ (sent : ℕ) (et : sent ≡ place_from base (ready_sent_slot n)) (d₂ d₃ : Decl) (e₂ : d₂ ≡ v) (e₃ : d₃ ≡ v) (b₂ : List ℕ)
           (z : r ≡ 0) where
         pub echo_heard : at ≡ place_from base (echo_slot p) → (g : Bool) → g ≡ echo_mark b₁ base d₂ → b₂ ≡ cond g (put_slot b₁ sent d₃) b₁
-            → result_of (outcome_of (Ok (record { gives = g; kind = Ready; delivers = false })) m) b₂ ≡ called_in b (asked_by p ECHO m)
-        echo_heard ea g eg q₂ =
-            let s : Step = record { gives = g; kind = Ready; delivers = false } in
+            → (o : Option kind.Kind) → o ≡ then_some g Ready
+            → result_of (outcome_of (Ok (record { gives = o; delivers = false })) m) b₂ ≡ called_in b (asked_by p ECHO m)
+        echo_heard ea g eg q₂ o given =
+            let s : Step = record { gives = o; delivers = false } in
             echo_entered b bytes j c p fits hp v dv base n at sent b₁ b₂ (outcome_of (Ok s) m) C.begins en et ea stored g
-            (eg ∙ ap (echo_mark b₁ base) e₂) (q₂ ∙ ap (λ (x : Decl). cond g (put_slot b₁ sent x) b₁) e₃) (outcome_wired b m base C s)
+            (eg ∙ ap (echo_mark b₁ base) e₂) (q₂ ∙ ap (λ (x : Decl). cond g (put_slot b₁ sent x) b₁) e₃)
+            (outcome_wired b m base C g Ready s given)
             ∙ taken_heard ECHO p hp refl at r d ea ed er z
 
         pub ready_heard : at ≡ place_from base (ready_slot n p) → (g : Marks) → g ≡ ready_marks b₁ base d₂
             → b₂ ≡ cond g.gives (put_slot b₁ sent d₃) b₁
             → (done : ℕ) → done ≡ place_from base (delivered_slot n) → (d₄ : Decl) → d₄ ≡ v
             → (b₃ : List ℕ) → b₃ ≡ cond g.delivers (put_slot b₂ done d₄) b₂
-            → result_of (outcome_of (Ok (record { gives = g.gives; kind = Ready; delivers = g.delivers })) m) b₃
-            ≡ called_in b (asked_by p READY m)
-        ready_heard ea g eg q₂ done eo d₄ e₄ b₃ q₃ =
-            let s : Step = record { gives = g.gives; kind = Ready; delivers = g.delivers } in
+            → (o : Option kind.Kind) → o ≡ then_some g.gives Ready
+            → result_of (outcome_of (Ok (record { gives = o; delivers = g.delivers })) m) b₃ ≡ called_in b (asked_by p READY m)
+        ready_heard ea g eg q₂ done eo d₄ e₄ b₃ q₃ o given =
+            let s : Step = record { gives = o; delivers = g.delivers } in
             ready_entered b bytes j c p fits hp v dv base n at sent b₁ b₂ (outcome_of (Ok s) m) C.begins en et done eo ea stored g
             (eg ∙ ap (ready_marks b₁ base) e₂) (q₂ ∙ ap (λ (x : Decl). cond g.gives (put_slot b₁ sent x) b₁) e₃) b₃
-            (q₃ ∙ ap (λ (x : Decl). cond g.delivers (put_slot b₂ done x) b₂) e₄) (outcome_wired b m base C s)
+            (q₃ ∙ ap (λ (x : Decl). cond g.delivers (put_slot b₂ done x) b₂) e₄)
+            (outcome_wired b m base C g.gives Ready s given)
             ∙ taken_heard READY p hp refl at r d (ready_place ea) ed er z

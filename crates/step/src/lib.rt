@@ -53,8 +53,7 @@ pub fn hear_send(book: &mut [u8], entry: EntryAt, letter: &Letter) -> Result<Ste
     marks::record_answer(book, at, letter.lot())?;
     slots::put_slot(book, at, letter.lot());
     Ok(Step {
-        gives: true,
-        kind: Kind::Echo,
+        gives: Some(Kind::Echo),
         delivers: false,
     })
 }
@@ -76,8 +75,7 @@ pub fn hear_echo(
     let gives = marks::echo_mark(book, entry, letter.lot());
     marks::mark(book, entry.ready_sent(), gives, letter.lot());
     Ok(Step {
-        gives,
-        kind: Kind::Ready,
+        gives: gives.then_some(Kind::Ready),
         delivers: false,
     })
 }
@@ -100,8 +98,7 @@ pub fn hear_ready(
     marks::mark(book, entry.ready_sent(), m.gives, letter.lot());
     marks::mark(book, entry.delivered(), m.delivers, letter.lot());
     Ok(Step {
-        gives: m.gives,
-        kind: Kind::Ready,
+        gives: m.gives.then_some(Kind::Ready),
         delivers: m.delivers,
     })
 }

@@ -55,4 +55,4 @@ returns c =
     let bytes : (i : ℕ) → Fits w8 (get_or b i 0) = λ i. search rules in
     echo_heard b m a.entry.base c.requires.0 a.house c.requires.1 _ _ _ _ c.requires.2 c.lot.ensures c.in_ok-record_answer.ensures
     (λ i. (bytes i).fits) _ c.lot-2.ensures _ c.put_slot.ensures _ c.ready_sent.ensures _ _ c.lot-3.ensures c.lot-4.ensures _ refl
-    c.echo-at.ensures _ c.echo_mark-gives.ensures c.mark.ensures
+    c.echo-at.ensures _ c.echo_mark-gives.ensures c.mark.ensures _ c.then_some.ensures
