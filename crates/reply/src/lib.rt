@@ -23,6 +23,7 @@ pub struct Step {
 }
 
 // A refusal: the number, no message, no delivery.
+// Kept, here and in the three that make one below: all six fields, since each has a clause of its own; what is absent is zeros.
 pub fn refuse(refusal: Refusal) -> Outcome
     ensures { result ≡ handed (number_of refusal) none none }
 {
@@ -67,6 +68,8 @@ pub fn announce(season: u32, sender: u8, number: u8, d: [u8; 20]) -> Outcome
 }
 
 // The message with another kind.
+// Kept, here and below: that a message has 36 bytes is a clause, since this crate lies below the letter, and asks for nothing else of it;
+// and two functions for its bytes and its declaration's, of which each is a match of one line.
 #[tactic(auto, using(crate::proofs::Whole::whole))]
 fn with_kind(message: &[u8], kind: u8) -> [u8; 36]
     requires { length message.now ≡ 36 }

@@ -75,7 +75,8 @@ fn gather_row(b: &[u8], at: usize, k: usize, s: Strays) -> Strays
     ensures { clear result ≡ clear s && row_ok b.now at k }
 {
     let mut strays = s;
-    // Kept: slots are counted from `at` on, as the clause counts them (`row_ok`, `place_from`), and not by chunks_exact.
+    // Kept, here and below: tried as a fold; of a step the clause says what `clear` gives, and not what is gathered, and the goal of the
+    // whole did not close.
     for i in 0..k {
         strays = gather(b, at + LENGTH * i, strays);
     }

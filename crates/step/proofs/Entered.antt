@@ -68,7 +68,8 @@ module _ (b m : List ℕ) (base : ℕ) (C : Carries b m base) where
       ≡ handed 0 (only_if g (wired (kinds.number_of k) (season_of b) (sender_in m) (number_in m) (declaration_at lot 0)))
       (only_if s.delivers lot)
   outcome_wired g k s e =
-      ap (λ (o : Option (List ℕ)). handed 0 o (only_if s.delivers lot)) (ap (λ (o : std.Option kind.Kind). given_of o m) e ∙ given_wired g k)
+      ap (λ (o : Option (List ℕ)). handed 0 o (only_if s.delivers lot))
+      (ap (λ (o : std.Option kind.Kind). given_of o m) e ∙ given_wired g k)
 
 module _ (b : List ℕ) (bytes : Bytes b) (j c p : ℕ) (fits : Fits b j c) (hp : p < n_of b) (v : Decl) (dv : IsDecl v) where
   abbrev has : Has b j c

@@ -44,6 +44,7 @@ impl Letter<'_> {
 }
 
 // A SEND from the entry's sender: recorded, and answered with an ECHO of it.
+// Kept, this and the two below: three functions, since the pages name each, and each has the clause of its own kind.
 pub fn hear_send(book: &mut [u8], entry: EntryAt, letter: &Letter) -> Result<Step, Refusal>
     requires { Carries book.old letter.now.bytes.now entry.base }
     ensures { result_of (outcome_of result letter.now.bytes.now) book.new

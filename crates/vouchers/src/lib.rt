@@ -19,7 +19,8 @@ pub fn count_same(b: &[u8], at: usize, n: usize, d: [u8; 20]) -> usize
     let second = slots::eight_at(&slot, 5);
     let third = slots::eight_at(&slot, 13);
     let mut found = 0;
-    // Kept: slots are counted from `at` on, as the clause counts them (`place_from`), and not by chunks_exact.
+    // Kept: tried as a filter and a count over the range, by which an absent slot takes 8 instructions for 4.
+    // Kept: three numbers of eight bytes, and no == of slices, by which an absent slot and an equal one take more (MEASURES).
     for p in 0..n {
         let i = at + slots::LENGTH * p;
         if slots::eight_at(b, i) == first

@@ -2,4 +2,3 @@ pub mod Listed
 pub mod Laws
 pub mod Bytes
 pub mod Claims
-pub mod Copied

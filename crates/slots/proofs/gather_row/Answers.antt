@@ -8,8 +8,3 @@ loop-i-init c = row_none _ _ _
 
 pub loop-i-preserved : goal.loop-i-preserved
 loop-i-preserved c = row_next _ _ _ _ _ c.loop-i.i c.loop-i.invariant c.gather-strays.ensures
-
-pub returns : goal.returns
-returns c =
-    let e : c.loop-i.i ≡ c.args.k = omega arith in
-    rw e at c.loop-i.invariant

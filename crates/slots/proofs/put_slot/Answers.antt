@@ -3,8 +3,5 @@ use Rattle.std.proofs.Common.{rules, ◌∙◌, arith, length-set}
 use Rattle.slots.proofs.Slots.{put_done}
 use Rattle.slots.proofs.put_slot.Goals as goal
 
-pub lay_at-requires : goal.lay_at-requires
-lay_at-requires c = simp length-set (omega arith)
-
 pub returns : goal.returns
 returns c = c.lay_at.ensures ∙ put_done _ _ _ (search rules) (search rules)
