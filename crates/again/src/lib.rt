@@ -37,7 +37,8 @@ fn sent_in(book: &[u8], at: usize, kind: Kind, sender: u8, number: u8) -> Option
     if !slots::is_full(book, at) {
         return None;
     }
-    let d = octets::twenty_at(book, at + 1);
+    // Kept: by the numbers and back, as `letter_of` tells them; tried as the bytes that stand, and the proof did not close.
+    let d = octets::bytes_of(octets::declaration_at(book, at + 1));
     let season = layout::season_of(book);
     Some(writer::lay_message(kind.into(), season, sender, number, d))
 }
