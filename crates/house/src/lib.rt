@@ -142,7 +142,7 @@ pub extern "C" fn gm_roll_line(declaration: &[u8; 20]) -> Line
     ensures { result ≡ line_of (declaration_at declaration.now 0) }
 {
     let d = octets::declaration_at(declaration, 0);
-    Line::from(d)
+    lines::line_of(d)
 }
 
 // Entering a line on the roll, the totals brought up to date: 20, 21, 22, 23. Kept: the answer is a number, since C takes it so.

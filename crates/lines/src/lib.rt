@@ -4,9 +4,10 @@
 
 ghost use Rattle.std.specs.Prelude.{◌≡◌, ◌<◌, ◌^◌};
 ghost use Rattle.roll.specs.Rank.{rank};
-ghost use Rattle.roll.specs.Roll.{finite_readings};
+ghost use Rattle.roll.specs.Roll.{line_of, finite_readings};
 ghost use Rattle.lines.specs.Look.{top_of, raised, merged, Fair, nothing_seen, fine_next, looked};
 
+use lot::Declaration;
 use roll::Line;
 
 // The highest moisture so far: its rank, its bits, and its lot.
@@ -45,6 +46,20 @@ impl Default for Seen {
             all: None,
             others: None,
         }
+    }
+}
+
+// The line of a delivered declaration.
+// Kept: a function, and no `From`, which would stand with the type, and what is said has no function.
+pub fn line_of(d: Declaration) -> Line
+    ensures { result ≡ line_of d }
+{
+    Line {
+        lot: d.lot,
+        colonies: d.colonies,
+        kilograms: d.kilograms,
+        moisture: d.moisture,
+        conductivity: d.conductivity,
     }
 }
 

@@ -1,11 +1,6 @@
 // A roll of lot lines and the season's totals, both lent by the caller, and what is asked of them.
 #![tactic(auto)]
 
-ghost use Rattle.std.specs.Prelude.{◌≡◌};
-ghost use Rattle.roll.specs.Roll.{line_of};
-
-use lot::Declaration;
-
 // A lot's line: a declaration's five numbers, the readings as their bits. The default is the line zeroed.
 // Kept: beside `Declaration`, whose five numbers it has, since the C interface has this layout.
 #[repr(C)]
@@ -16,21 +11,6 @@ pub struct Line {
     pub kilograms: u32,
     pub moisture: u32,
     pub conductivity: u32,
-}
-
-// The line of a delivered declaration.
-impl From<Declaration> for Line {
-    ghost from_gives = { λ declaration line. line ≡ line_of declaration };
-
-    fn from(d: Declaration) -> Line {
-        Line {
-            lot: d.lot,
-            colonies: d.colonies,
-            kilograms: d.kilograms,
-            moisture: d.moisture,
-            conductivity: d.conductivity,
-        }
-    }
 }
 
 // The season's totals: kilograms, lines in use, and the highest moisture's bits; measured is 1, or 0 where there is none.
