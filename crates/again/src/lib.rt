@@ -40,7 +40,7 @@ fn sent_in(book: &[u8], at: usize, kind: Kind, sender: u8, number: u8) -> Option
     // Kept: by the numbers and back, as `letter_of` tells them; tried as the bytes that stand, and the proof did not close.
     let d = octets::bytes_of(octets::declaration_at(book, at + 1));
     let season = layout::season_of(book);
-    Some(writer::lay_message(kind.into(), season, sender, number, d))
+    Some(writer::lay_message(fields::number_of(kind), season, sender, number, d))
 }
 
 // What this house sent of the kind on an entry of the book. An ECHO sent is of the SEND recorded, so it is read there.
@@ -69,7 +69,7 @@ fn find_sent(book: &[u8], kind: u8, sender: u32, number: u32) -> Result<Option<[
     if !book::is_legal(book) {
         return Err(Refusal::NotLegal);
     }
-    let kind = Kind::try_from(kind)?;
+    let kind = fields::kind_of(kind)?;
     if sender >= u32::from(layout::n_of(book)) {
         return Err(Refusal::NotThere);
     }

@@ -93,7 +93,7 @@ fn send_kind<W: Write>(
     to: &Range<u32>,
 ) -> io::Result<()> {
     r.set(CALL, u32::from(Call::Sent));
-    r.set(KIND, u32::from(u8::from(kind)));
+    r.set(KIND, u32::from(fields::number_of(kind)));
     let message = look_up(scene.desk, Call::Sent, &mut r);
     if r.get(GIVES) == Gives::Message as u32 {
         hand::read(&mut r, &message);

@@ -1,17 +1,45 @@
-// The fields of a message: tags and lengths, by which 36 bytes are well formed and 11 a request.
+// The fields of a message: tags and lengths, by which 36 bytes are well formed and 11 a request; and the kinds by their numbers.
 #![tactic(auto)]
 
 ghost use Rattle.std.specs.Prelude.{◌≡◌, ◌+◌, ◌<◌, length};
-ghost use Rattle.message.specs.Message.{is_kind, field_at, tagged, well_formed, is_request};
+ghost use Rattle.message.specs.Message.{is_kind, number_of, field_at, tagged, well_formed, is_request};
+ghost use Rattle.fields.specs.Kinds.{IsKindOf};
 
 use message::Kind;
+use refusal::Refusal;
+
+// 1 SEND, 2 ECHO, 3 READY, and no other.
+// Kept: a function, and no `TryFrom`, which would stand with the type, and what is said has no function.
+#[tactic(auto, unfolding(message::specs::Message::is_kind))]
+pub fn kind_of(number: u8) -> Result<Kind, Refusal>
+    ensures { IsKindOf number result }
+{
+    match number {
+        1 => Ok(Kind::Send),
+        2 => Ok(Kind::Echo),
+        3 => Ok(Kind::Ready),
+        _ => Err(Refusal::Malformed),
+    }
+}
+
+// The number of a kind.
+// Kept: a function, and no `From`, which would stand with the type, and what is said has no function.
+pub fn number_of(kind: Kind) -> u8
+    ensures { result ≡ number_of kind }
+{
+    match kind {
+        Kind::Send => 1,
+        Kind::Echo => 2,
+        Kind::Ready => 3,
+    }
+}
 
 // 1 SEND, 2 ECHO, 3 READY.
 #[tactic(auto, using(message::proofs::Numbers::known))]
 pub fn is_kind(kind: u8) -> bool
     ensures { result ≡ is_kind kind }
 {
-    Kind::try_from(kind).is_ok()
+    kind_of(kind).is_ok()
 }
 
 // At i stand a tag and a two-byte length.

@@ -112,7 +112,7 @@ fn message_of(r: &Numbers) -> [u8; 36] {
     if as_told.answer == 0 {
         return as_told.message;
     }
-    written(r, u8::from(Kind::Send)).message
+    written(r, fields::number_of(Kind::Send)).message
 }
 
 // The bytes of a message, or of a request where there are to be fewer than 13, with this kind, and zeros after them.

@@ -8,7 +8,7 @@ use Rattle.message.specs.declared.Kind.{Kind}
 use Rattle.message.specs.declared.Kind.TheVariants.{Send, Echo, Ready}
 use Rattle.message.specs.declared.Message.{Message}
 use native.Mathlib.Omega.{arith}
-use Rattle.message.specs.Message.{Five, Told, number_of, told, read_as, malformed}
+use Rattle.message.specs.Message.{Five, number_of, told, read_as, malformed}
 
 -- the kind that has this number
 abbrev kind_of : ℕ → Kind

@@ -1,10 +1,8 @@
 -- One message, 36 bytes: how it is written, and what reading bytes gives.
-use Rattle.std.specs.Prelude.{ℕ, ◌≡◌, ◌+◌, ◌*◌, ◌/◌, ◌%◌, Bool, false, cond, ◌&&◌, List, [], ◌∷◌, ◌++◌, leb, eqb, length, get_or, replicate}
-use Rattle.std.specs.Prelude.{Result, MatchResult, Some, None}
+use Rattle.std.specs.Prelude.{ℕ, ◌+◌, ◌*◌, ◌/◌, ◌%◌, Bool, cond, ◌&&◌, List, [], ◌∷◌, ◌++◌, leb, eqb, length, get_or, replicate}
+use Rattle.std.specs.Prelude.{Some, None}
 use Rattle.std.specs.Prelude as std
 use Rattle.std.proofs.Math.Option.{Option, none, some}
-use Rattle.refusal.specs.declared.Refusal.{Refusal}
-use Rattle.refusal.specs.declared.Refusal.TheVariants.{Malformed}
 use Rattle.words.specs.Words.{be32, word_at}
 use Rattle.lot.specs.declared.Declaration.{Declaration}
 use Rattle.lot.specs.Declaration.{declaration_at, bytes_of}
@@ -29,10 +27,6 @@ abbrev pub number_of : Kind → ℕ
 number_of Send = 1
 number_of Echo = 2
 number_of Ready = 3
-
--- the kind with this number, or the refusal of a number that no kind has
-abbrev pub IsKindOf : ℕ → Result Kind Refusal → Type 0
-IsKindOf k r = MatchResult r (λ kind. number_of kind ≡ k) (λ e. (is_kind k ≡ false) × (e ≡ Malformed))
 
 -- a tagged field: one-byte tag, two-byte big-endian length, content
 abbrev pub field : ℕ → List ℕ → List ℕ

@@ -1,11 +1,7 @@
 // What reading a message finds, and what writing one gives.
 #![tactic(auto)]
 
-ghost use Rattle.std.specs.Prelude.{◌≡◌};
-ghost use Rattle.message.specs.Message.{number_of, IsKindOf};
-
 use lot::Declaration;
-use refusal::Refusal;
 
 // What a message on an entry says of it.
 #[derive(Clone, Copy, PartialEq, Eq, Debug)]
@@ -13,35 +9,6 @@ pub enum Kind {
     Send,
     Echo,
     Ready,
-}
-
-// 1 SEND, 2 ECHO, 3 READY, and no other.
-impl TryFrom<u8> for Kind {
-    type Error = Refusal;
-
-    ghost try_from_gives = { IsKindOf };
-
-    #[tactic(auto, unfolding(crate::specs::Message::is_kind))]
-    fn try_from(number: u8) -> Result<Self, Refusal> {
-        match number {
-            1 => Ok(Kind::Send),
-            2 => Ok(Kind::Echo),
-            3 => Ok(Kind::Ready),
-            _ => Err(Refusal::Malformed),
-        }
-    }
-}
-
-impl From<Kind> for u8 {
-    ghost from_gives = { λ kind number. number ≡ number_of kind };
-
-    fn from(kind: Kind) -> u8 {
-        match kind {
-            Kind::Send => 1,
-            Kind::Echo => 2,
-            Kind::Ready => 3,
-        }
-    }
 }
 
 // What reading finds where the bytes are a message.

@@ -6,7 +6,7 @@ ghost use Rattle.std.proofs.Math.Option.{none, some};
 ghost use Rattle.message.specs.Message.{read_of, told, request_of};
 ghost use Rattle.message.specs.Read.{read_answer};
 
-use message::{Kind, Message, ReadAnswer};
+use message::{Message, ReadAnswer};
 use refusal::Refusal;
 
 // Where the kind, the season, the sender, the number and the declaration stand.
@@ -28,7 +28,7 @@ pub fn read_message(bytes: &[u8]) -> Option<Message>
     if !fields::is_well_formed(bytes) {
         return None;
     }
-    let kind = Kind::try_from(bytes[KIND]).ok()?;
+    let kind = fields::kind_of(bytes[KIND]).ok()?;
     Some(Message {
         kind,
         season: octets::word_at(bytes, SEASON),

@@ -56,7 +56,7 @@ pub fn announce(season: u32, sender: u8, number: u8, d: [u8; 20]) -> Outcome
     requires { IsDecl d }
     ensures { result ≡ handed 0 (some (wired 1 season sender number (declaration_at d 0))) none }
 {
-    let message = writer::lay_message(u8::from(Kind::Send), season, sender, number, d);
+    let message = writer::lay_message(fields::number_of(Kind::Send), season, sender, number, d);
     Outcome {
         answer: 0,
         gives: true,
@@ -87,7 +87,7 @@ fn letter_of(gives: Option<Kind>, message: &[u8]) -> [u8; 36]
     ensures { result ≡ or_zeros 36 (given_of gives message.now) }
 {
     match gives {
-        Some(kind) => with_kind(message, kind.into()),
+        Some(kind) => with_kind(message, fields::number_of(kind)),
         None => [0; 36],
     }
 }

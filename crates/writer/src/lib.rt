@@ -5,7 +5,7 @@ ghost use Rattle.std.specs.Prelude.{◌≡◌, length};
 ghost use Rattle.message.specs.Message.{fields, written_of, request_wire};
 
 use lot::Declaration;
-use message::{Kind, Written};
+use message::Written;
 
 // The 11 bytes of a request for help.
 #[tactic(auto, using(words::proofs::Laws::be32_to_be_bytes), unfolding(message::specs::Message::request_wire))]
@@ -34,7 +34,7 @@ pub fn lay_message(kind: u8, season: u32, sender: u8, number: u8, d: [u8; 20]) -
 pub fn write_message(kind: u8, season: u32, sender: u8, number: u8, d: Declaration) -> Written
     ensures { result ≡ written_of kind season sender number d }
 {
-    match Kind::try_from(kind) {
+    match fields::kind_of(kind) {
         Ok(_) => Written {
             answer: 0,
             message: lay_message(kind, season, sender, number, octets::bytes_of(d)),

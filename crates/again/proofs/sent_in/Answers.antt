@@ -7,4 +7,4 @@ pub returns : goal.returns
 returns c =
     let a = c.args in
     sent_full a.book.now a.at (number_of a.kind) a.sender a.number c.requires.0 _ c.is_full.ensures c.if-not-is_full.false _
-    c.declaration_at.ensures _ c.bytes_of-d.ensures _ c.season_of-season.ensures _ c.into.ensures _ c.lay_message.ensures
+    c.declaration_at.ensures _ c.bytes_of-d.ensures _ c.season_of-season.ensures _ c.number_of.ensures _ c.lay_message.ensures

@@ -6,7 +6,7 @@ use Rattle.reply.proofs.announce.Goals as goal
 pub returns : goal.returns
 returns c =
     let a = c.args in
-    let letter = (rw c.from.ensures at c.lay_message-message.ensures) ∙ letter_bytes 1 a.season a.sender a.number a.d c.requires in
+    let letter = (rw c.number_of.ensures at c.lay_message-message.ensures) ∙ letter_bytes 1 a.season a.sender a.number a.d c.requires in
     λ i.
     record {
       answer = 0;
