@@ -166,8 +166,12 @@ impl<'a> Script<'a> {
     // The word or number that begins at a place.
     fn word_at(self, at: u32) -> Option<&'a [u8]> {
         let before = self.text.get(at.checked_sub(1)? as usize)?;
+        // First, since most places lie inside a word, and the word is as long as its writer likes.
+        if is_letter(*before) {
+            return None;
+        }
         let word = self.text_at(at).split(|c| !is_letter(*c)).next()?;
-        if is_letter(*before) || word.is_empty() {
+        if word.is_empty() {
             return None;
         }
         Some(word)
