@@ -16,7 +16,7 @@ mod lettered;
 pub use calling::{Call, UnknownCall};
 pub use lettered::{
     BYTES, CALL, DELIVERS, FREE, FROM, GIVES, HELP_LIMIT, HONEST, HOUSES, KIND, LENGTH, LINE,
-    NUMBER, Numbers, OWN, SEASON, SENDER, TAIL, TEXT,
+    NUMBER, Numbers, OWN, SEASON, SENDER, TAIL, TEXT, WRONG,
 };
 use lettered::{DONE, WAITS};
 
