@@ -126,6 +126,10 @@ impl<'a> Script<'a> {
 
     // The name in the line after the line end at a place.
     fn name_after(self, at: u32) -> Option<Name<'a>> {
+        // Most places end no line, so that the byte there is looked at first.
+        if *self.text.get(at as usize)? != b'\n' {
+            return None;
+        }
         match self.text.get(at as usize..)? {
             [b'\n', b':', letter, tens, ones, _, text @ ..] => Some(Name {
                 letter: *letter,
