@@ -56,6 +56,7 @@ pub fn is_houses(n: u32) -> bool
 }
 
 // The card's column for n houses. The card is borrowed, so that it stays among the constants: as a value it is laid on the stack first.
+#[tactic(auto, unfolding(card::specs::Card::column_of))]
 fn column_of(n: usize) -> Column
     requires { houses_ok n ≡ true }
     ensures { result ≡ column_of n }

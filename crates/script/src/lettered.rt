@@ -6,7 +6,7 @@ use std::marker::Model;
 
 // The numbers. The first places, which no letter has, are the reader's own.
 // Kept: they lie in one table, as numbers, since a script may name them by the bytes 0 to 4, and what `transcript` answers to it stands.
-#[derive(Clone, Copy)]
+#[derive(Clone, Copy, PartialEq, Eq, Debug)]
 pub struct Numbers {
     by_letter: [u32; 128],
 }

@@ -16,7 +16,7 @@ mod lettered;
 pub use calling::{Call, UnknownCall};
 pub use lettered::{
     BYTES, CALL, DELIVERS, FREE, FROM, GIVES, HELP_LIMIT, HONEST, HOUSES, KIND, LENGTH, LINE,
-    NUMBER, Numbers, OWN, SEASON, SENDER, TAIL, TEXT,
+    NUMBER, Numbers, OWN, SEASON, SENDER, TAIL, TEXT, WRONG,
 };
 use lettered::{DONE, WAITS};
 
@@ -126,6 +126,10 @@ impl<'a> Script<'a> {
 
     // The name in the line after the line end at a place.
     fn name_after(self, at: u32) -> Option<Name<'a>> {
+        // Most places end no line, so that the byte there is looked at first.
+        if *self.text.get(at as usize)? != b'\n' {
+            return None;
+        }
         match self.text.get(at as usize..)? {
             [b'\n', b':', letter, tens, ones, _, text @ ..] => Some(Name {
                 letter: *letter,
@@ -166,8 +170,12 @@ impl<'a> Script<'a> {
     // The word or number that begins at a place.
     fn word_at(self, at: u32) -> Option<&'a [u8]> {
         let before = self.text.get(at.checked_sub(1)? as usize)?;
+        // First, since most places lie inside a word, and the word is as long as its writer likes.
+        if is_letter(*before) {
+            return None;
+        }
         let word = self.text_at(at).split(|c| !is_letter(*c)).next()?;
-        if is_letter(*before) || word.is_empty() {
+        if word.is_empty() {
             return None;
         }
         Some(word)
