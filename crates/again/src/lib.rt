@@ -84,13 +84,21 @@ fn find_sent(book: &[u8], kind: u8, sender: u32, number: u32) -> Result<Option<[
 pub fn sent_on(book: &[u8], kind: u8, sender: u32, number: u32) -> Sent
     ensures { result ≡ sent_of book.now kind sender number }
 {
-    let (answer, message) = match find_sent(book, kind, sender, number) {
-        Ok(message) => (0, message),
-        Err(refusal) => (refusal.into(), None),
-    };
-    Sent {
-        answer,
-        gives: message.is_some(),
-        message: message.unwrap_or([0; 36]),
+    match find_sent(book, kind, sender, number) {
+        Ok(Some(message)) => Sent {
+            answer: 0,
+            gives: true,
+            message,
+        },
+        Ok(None) => Sent {
+            answer: 0,
+            gives: false,
+            message: [0; 36],
+        },
+        Err(refusal) => Sent {
+            answer: refusal.into(),
+            gives: false,
+            message: [0; 36],
+        },
     }
 }
