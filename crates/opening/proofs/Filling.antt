@@ -3,8 +3,9 @@ use Prim.Native.Nat.{ℕ, ◌+◌, ◌-◌, ◌<◌, ◌≤◌}
 use mathlib.Core.Path.{◌≡◌, sym, ap, ◌∙◌}
 use mathlib.Core.List.{List, [], ◌∷◌, ◌++◌, append_assoc}
 use native.Mathlib.Omega.{arith}
-use lib.ListN.{length, take, drop, length-take, replicate, length-drop, length-replicate, get_or-replicate}
+use lib.ListN.{length, take, drop, length-take, drop_of_length-le, replicate, length-drop, length-replicate, get_or-replicate}
 use lib.Seq.{paste, take_all, drop-drop, drop-append-add, get_or-drop, ext_get_or}
+use Rattle.std.proofs.lemmas.List.{append-nil}
 use Rattle.words.specs.Words.{be32}
 use Rattle.sheet.specs.Kept.{sheet_length}
 use Rattle.meaning.specs.Layout.{sheet_place, down_place, limit_place, helped_place}
@@ -28,6 +29,13 @@ past : (x y : List ℕ) → down_place ≤ length x → drop down_place (take do
 past x y l =
     let e : down_place ≡ length (take down_place x) + 0 = omega (arith, length-take down_place x) in
     ap (λ (k : ℕ). drop k (take down_place x ++ y)) e ∙ drop-append-add (take down_place x) y 0
+
+-- A buffer of which so many first bytes are cleared, where it has no more: so a body that clears by a range, and leaves a byte, is
+-- refused for that byte.
+pub cleared : (b first : List ℕ) (k : ℕ) → length b ≤ k → first ≡ replicate (length (take k b)) 0 → first ++ drop k b ≡ replicate (length b) 0
+cleared b first k l e =
+    let t : length (take k b) ≡ length b = ap length (take_all k b l) in
+    rw (drop_of_length-le b l, append-nil first) (e ∙ ap (λ (n : ℕ). replicate n 0) t)
 
 pub blank_laid : (b b1 b2 b3 b4 bytes two sheet : List ℕ) (n s own f d season : ℕ) → limit_place < length b → b1 ≡ replicate (length b) 0
     → bytes ≡ n ∷ s ∷ own ∷ be32 season → b2 ≡ paste b1 0 bytes (length bytes) → two ≡ f ∷ d ∷ []

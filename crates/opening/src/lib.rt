@@ -66,7 +66,7 @@ impl Asked {
 }
 
 // Writes the whole buffer: the header, and every slot empty.
-#[tactic(auto, using(crate::proofs::Filling::blank_laid))]
+#[tactic(auto, using(crate::proofs::Filling::blank_laid, crate::proofs::Filling::cleared))]
 fn lay_blank(b: &mut [u8], asked: Asked, sheet: &[u8])
     requires room { limit_place < length b.old }
     requires sheet { length sheet.now ≡ sheet_length }
