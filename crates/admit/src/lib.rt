@@ -28,7 +28,7 @@ pub enum Tested {
 
 // 6, then the step of the kind, which answers 7 or 13 where its kind was heard before.
 fn take(book: &mut [u8], house: u8, entry: EntryAt, letter: &Letter) -> Result<Step, Refusal>
-    requires { Carries book.old letter.now.bytes.now entry.base × (house < n_of book.old) × (entry.n ≡ n_of book.old) }
+    requires { Carries book.old letter.now.bytes.now entry.base × (house < n_of book.old) }
     ensures { result_of (outcome_of result letter.now.bytes.now) book.new
         ≡ heard_as book.old house letter.now.bytes.now }
 {
@@ -37,10 +37,10 @@ fn take(book: &mut [u8], house: u8, entry: EntryAt, letter: &Letter) -> Result<S
             if house != letter.message.sender {
                 return Err(Refusal::NotFromSender);
             }
-            step::hear_send(book, entry, letter)
+            step::hear_send(book, entry, letter.bytes)
         }
-        Kind::Echo => step::hear_echo(book, house, entry, letter),
-        Kind::Ready => step::hear_ready(book, house, entry, letter),
+        Kind::Echo => step::hear_echo(book, house, entry, letter.bytes),
+        Kind::Ready => step::hear_ready(book, house, entry, letter.bytes),
     }
 }
 

@@ -5,7 +5,7 @@ ghost use Rattle.std.specs.Prelude.{◌≡◌, ◌≤◌, length};
 ghost use Rattle.meaning.specs.Layout.{helped_place, per_entry};
 ghost use Rattle.meaning.specs.Book.{n_of};
 ghost use Rattle.meaning.specs.Legal.{helps_ok, legal, head_legal, row_ok};
-ghost use Rattle.layout.specs.Places.{Lies};
+ghost use Rattle.layout.specs.Places.{Within};
 ghost use Rattle.book.specs.Parts.{sized};
 
 use layout::EntryAt;
@@ -60,8 +60,9 @@ pub fn is_legal(b: &[u8]) -> bool
 
 // Whether each slot of the entry has its one form.
 pub fn is_entry_ok(b: &[u8], entry: EntryAt) -> bool
-    requires { Lies b.now entry }
+    requires { Within b.now entry.base }
     ensures { result ≡ row_ok b.now entry.base (per_entry (n_of b.now)) }
 {
+    let entry = entry.in_book(b);
     slots::are_slots_ok(b, entry.send(), entry.slots())
 }

@@ -7,7 +7,7 @@ ghost use Rattle.meaning.specs.Layout.{per_entry, slot_count, length_of, place_f
 ghost use Rattle.meaning.specs.Layout.{send_slot, echo_slot, ready_slot, ready_sent_slot, delivered_slot};
 ghost use Rattle.meaning.specs.Book.{n_of, numbers_of, own_of, season_of, sheet_of, down_of, limit_of, count_help};
 ghost use Rattle.meaning.specs.Legal.{Has};
-ghost use Rattle.layout.specs.Places.{Opens};
+ghost use Rattle.layout.specs.Places.{Within, Lies, Opens};
 
 use sheet::Sheet;
 
@@ -114,8 +114,9 @@ impl Shape {
 }
 
 // An entry: where its slots begin, in a book of n houses.
-// Kept: that it lies within a book (`Has`, `Opens`, `Lies`, `Carries`) is a clause and no invariant, since the book is lent beside it and
-// changes; and sender and number are handed in apart, since they come so from C and from a message, and may be none of the book's.
+// Kept: that it lies within a book (`Has`, `Opens`, `Within`, `Lies`, `Carries`) is a clause and no invariant, since the book is lent
+// beside it and changes; and sender and number are handed in apart, since they come so from C and from a message, and may be none of the
+// book's.
 #[derive(Clone, Copy, PartialEq, Eq, Debug)]
 pub struct EntryAt {
     pub base: u32,
@@ -123,6 +124,17 @@ pub struct EntryAt {
 }
 
 impl EntryAt {
+    // The entry of this book that begins at the same place: n is read off the book, so that a function asks its caller for the place alone.
+    pub fn in_book(self, book: &[u8]) -> EntryAt
+        requires { Within book.now self.base }
+        ensures { Lies book.now result × (result.base ≡ self.base) }
+    {
+        EntryAt {
+            base: self.base,
+            n: n_of(book),
+        }
+    }
+
     // How many slots it has.
     pub fn slots(self) -> usize
         ensures { result ≡ per_entry self.n }
@@ -142,7 +154,7 @@ impl EntryAt {
     pub fn send(self) -> usize
         ensures { result ≡ place_from self.base send_slot }
     {
-        self.slot(0)
+        send_at(self.base as usize)
     }
 
     // Where a house's ECHO stands.
@@ -172,6 +184,14 @@ impl EntryAt {
     {
         self.slot(2 + 2 * usize::from(self.n))
     }
+}
+
+// Where the SEND of an entry that begins at `base` stands.
+// Kept beside `send`: it is asked of every usize, and an entry's base is below 2^32.
+pub fn send_at(base: usize) -> usize
+    ensures { result ≡ place_from base send_slot }
+{
+    base
 }
 
 // Kept: six names for six bytes of the header; one function generic in the place, as field::<N>(b), would say no more than b[N] does. And

@@ -10,7 +10,7 @@ ghost use Rattle.protocol.specs.Steps.{recording};
 ghost use Rattle.meaning.specs.Slot.{slot_at, put_slot};
 ghost use Rattle.meaning.specs.Layout.{slot_length, place_from};
 ghost use Rattle.meaning.specs.Book.{down_of};
-ghost use Rattle.layout.specs.Places.{Lies};
+ghost use Rattle.layout.specs.Places.{Within, Lies};
 ghost use Rattle.marks.specs.Marks.{echo_mark, ready_marks};
 
 use card::Counts;
@@ -72,18 +72,20 @@ fn tally(book: &[u8], entry: EntryAt, row: usize, d: [u8; 20]) -> (Counts, usize
 
 // Whether the ECHOes of d now make a READY.
 pub fn echo_mark(book: &[u8], entry: EntryAt, d: [u8; 20]) -> bool
-    requires { Lies book.now entry }
+    requires { Within book.now entry.base }
     ensures { result ≡ echo_mark book.now entry.base d }
 {
-    let (counts, votes) = tally(book, entry, entry.echo(0), d);
-    is_reached(book, entry.ready_sent(), counts.quorum, votes)
+    let here = entry.in_book(book);
+    let (counts, votes) = tally(book, here, here.echo(0), d);
+    is_reached(book, here.ready_sent(), counts.quorum, votes)
 }
 
 // Whether the READYs of d now make a READY, and deliver.
 pub fn ready_marks(book: &[u8], entry: EntryAt, d: [u8; 20]) -> Marks
-    requires { Lies book.now entry }
+    requires { Within book.now entry.base }
     ensures { result ≡ ready_marks book.now entry.base d }
 {
+    let entry = entry.in_book(book);
     let (counts, votes) = tally(book, entry, entry.ready(0), d);
     Marks {
         gives: is_reached(book, entry.ready_sent(), counts.amplify, votes),

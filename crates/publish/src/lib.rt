@@ -42,6 +42,6 @@ pub fn publish(book: &mut [u8], number: u32, declaration: &[u8; 20]) -> Outcome
 {
     match enter(book, number, declaration) {
         Ok(outcome) => outcome,
-        Err(refusal) => reply::refuse(refusal),
+        Err(refusal) => reply::refuse(refusal.into()),
     }
 }

@@ -56,12 +56,12 @@ fn answer(book: &mut [u8], house: u32, tested: Tested, bytes: &[u8]) -> Outcome
     if fields::is_request(bytes) {
         return match ask(book, house, octets::word_at(bytes, SEASON)) {
             Ok(()) => reply::help(),
-            Err(refusal) => reply::refuse(refusal),
+            Err(refusal) => reply::refuse(refusal.into()),
         };
     }
     // Kept: document 01 names this form, let-else on what the reader gives; the else branch answers 2.
     let Some(message) = reader::read_message(bytes) else {
-        return reply::refuse(Refusal::Malformed);
+        return reply::refuse(Refusal::Malformed.into());
     };
     let letter = Letter { message, bytes };
     reply::hand(hear(book, house, tested, &letter), bytes)
@@ -73,7 +73,7 @@ pub fn receive(book: &mut [u8], house: u32, message: &[u8]) -> Outcome
     ensures { result_of result book.new ≡ received book.old house message.now }
 {
     if !book::is_legal(book) {
-        return reply::refuse(Refusal::NotLegal);
+        return reply::refuse(Refusal::NotLegal.into());
     }
     answer(book, house, Tested::Whole, message)
 }
@@ -83,7 +83,7 @@ pub fn receive_entry(book: &mut [u8], house: u32, message: &[u8]) -> Outcome
     ensures { result_of result book.new ≡ received_entry book.old house message.now }
 {
     if !book::is_head_legal(book) {
-        return reply::refuse(Refusal::NotLegal);
+        return reply::refuse(Refusal::NotLegal.into());
     }
     answer(book, house, Tested::Head, message)
 }

@@ -1,6 +1,6 @@
 -- What is handed back of a step on the entry that a message names. A message given is the one that came, with another kind; what is
 -- delivered is its declaration.
-use Rattle.std.specs.Prelude.{ℕ, List, get_or, set, take, drop, Result, Ok, Err, Some, None}
+use Rattle.std.specs.Prelude.{ℕ, Bool, List, get_or, set, take, drop, Result, Ok, Err, Some, None}
 use Rattle.std.specs.Prelude as std
 use Rattle.std.proofs.Math.Option.{Option, none, some}
 use Rattle.refusal.specs.declared.Refusal.{Refusal}
@@ -31,6 +31,15 @@ with_kind kind m = set m 3 kind
 abbrev pub given_of : std.Option Kind → List ℕ → Option (List ℕ)
 given_of None m = none
 given_of (Some kind) m = some (with_kind (kinds.number_of kind) m)
+
+-- the message with the kind of that number, or none
+abbrev pub numbered_of : std.Option ℕ → List ℕ → Option (List ℕ)
+numbered_of None m = none
+numbered_of (Some kind) m = some (with_kind kind m)
+
+-- any answer, the message with the kind of that number, if one is given, and its declaration where it is delivered
+abbrev pub laid_of : ℕ → std.Option ℕ → (delivers : Bool) → List ℕ → Outcome
+laid_of answer gives delivers m = handed answer (numbered_of gives m) (only_if delivers (lot_in m))
 
 -- what the step gives and delivers, or the number of its refusal alone
 abbrev pub outcome_of : Result Step Refusal → List ℕ → Outcome

@@ -7,8 +7,7 @@ ghost use Rattle.lot.specs.Declaration.{declaration_at};
 ghost use Rattle.protocol.specs.Steps.{only_if};
 ghost use Rattle.meaning.specs.Legal.{IsDecl};
 ghost use Rattle.calls.specs.Entered.{handed, helping, or_zeros, wired};
-ghost use Rattle.refusal.specs.Answer.{number_of};
-ghost use Rattle.reply.specs.Handed.{lot_in, with_kind, given_of, outcome_of};
+ghost use Rattle.reply.specs.Handed.{lot_in, with_kind, numbered_of, laid_of, outcome_of};
 
 use calls::Outcome;
 use message::Kind;
@@ -24,11 +23,12 @@ pub struct Step {
 
 // A refusal: the number, no message, no delivery.
 // Kept, here and in the three that make one below: all six fields, since each has a clause of its own; what is absent is zeros.
-pub fn refuse(refusal: Refusal) -> Outcome
-    ensures { result ≡ handed (number_of refusal) none none }
+// Kept, here and in `lay`: any number, where `Refusal` and `Kind` have those that the calls answer.
+pub fn refuse(answer: u8) -> Outcome
+    ensures { result ≡ handed answer none none }
 {
     Outcome {
-        answer: refusal.into(),
+        answer,
         gives: false,
         message: [0; 36],
         delivers: false,
@@ -82,12 +82,12 @@ fn with_kind(message: &[u8], kind: u8) -> [u8; 36]
 }
 
 // The message with the kind that is given, or none.
-fn letter_of(gives: Option<Kind>, message: &[u8]) -> [u8; 36]
+fn letter_of(gives: Option<u8>, message: &[u8]) -> [u8; 36]
     requires { length message.now ≡ 36 }
-    ensures { result ≡ or_zeros 36 (given_of gives message.now) }
+    ensures { result ≡ or_zeros 36 (numbered_of gives message.now) }
 {
     match gives {
-        Some(kind) => with_kind(message, fields::number_of(kind)),
+        Some(kind) => with_kind(message, kind),
         None => [0; 36],
     }
 }
@@ -103,24 +103,30 @@ fn lot_of(delivers: bool, message: &[u8]) -> [u8; 20]
     [0; 20]
 }
 
+// Any answer, the message with any kind that is given, if one is, and the message's declaration where it is delivered.
+pub fn lay(answer: u8, gives: Option<u8>, delivers: bool, message: &[u8]) -> Outcome
+    requires { length message.now ≡ 36 }
+    ensures { result ≡ laid_of answer gives delivers message.now }
+{
+    let letter = letter_of(gives, message);
+    let lot = lot_of(delivers, message);
+    Outcome {
+        answer,
+        gives: gives.is_some(),
+        message: letter,
+        delivers,
+        declaration: lot,
+        helps: false,
+    }
+}
+
 // A step on a message's entry, with the bytes that it gives and delivers, or its refusal.
 pub fn hand(step: Result<Step, Refusal>, message: &[u8]) -> Outcome
     requires { length message.now ≡ 36 }
     ensures { result ≡ outcome_of step message.now }
 {
     match step {
-        Ok(step) => {
-            let letter = letter_of(step.gives, message);
-            let lot = lot_of(step.delivers, message);
-            Outcome {
-                answer: 0,
-                gives: step.gives.is_some(),
-                message: letter,
-                delivers: step.delivers,
-                declaration: lot,
-                helps: false,
-            }
-        }
-        Err(refusal) => refuse(refusal),
+        Ok(step) => lay(0, step.gives.map(fields::number_of), step.delivers, message),
+        Err(refusal) => refuse(refusal.into()),
     }
 }

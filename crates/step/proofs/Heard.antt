@@ -1,6 +1,6 @@
 -- The steps as the code makes them: from what each call on the way gave to what the step gives and leaves.
 use Prim.Native.Nat.{ℕ, ◌<◌}
-use mathlib.Core.Path.{◌≡◌, refl, sym, ap, ◌∙◌}
+use mathlib.Core.Path.{◌≡◌, refl, sym, ap, ◌∙◌, subst}
 use mathlib.Core.Bool.{Bool, true, false, cond}
 use mathlib.Core.List.{List}
 use borrow.Author.Tests.{eq-eqb}
@@ -28,6 +28,10 @@ use Rattle.marks.specs.declared.Marks.{Marks}
 use Rattle.marks.specs.Marks.{echo_mark, ready_marks}
 use Rattle.step.specs.Carries.{Carries, asked_by}
 use Rattle.step.proofs.Entered.{slot_checked, outcome_wired, send_entered, heard_n, heard_within, echo_entered, ready_entered}
+
+-- what is carried at a place is carried at the same place of the entry that was read off the book
+pub carries_along : (b m : List ℕ) (base at : ℕ) → at ≡ base → Carries b m base → Carries b m at
+carries_along b m base at e C = subst (λ (x : ℕ). Carries b m x) (sym e) C
 
 module _ (b m : List ℕ) (base : ℕ) (C : Carries b m base) where
   abbrev j : ℕ

@@ -33,26 +33,25 @@ pub struct Letter<'a> {
     pub ghost of_declaration: { message.declaration ≡ declaration_at bytes.now 16 },
 }
 
-impl Letter<'_> {
-    // The declaration's bytes.
-    #[tactic(auto, using(message::proofs::Form::sized))]
-    fn lot(&self) -> [u8; 20]
-        ensures { result ≡ lot_in self.now.bytes.now }
-    {
-        octets::twenty_at(self.bytes, LOT)
-    }
+// The declaration's bytes.
+#[tactic(auto, using(message::proofs::Form::sized))]
+fn lot_of(message: &[u8]) -> [u8; 20]
+    requires { well_formed message.now ≡ true }
+    ensures { result ≡ lot_in message.now }
+{
+    octets::twenty_at(message, LOT)
 }
 
 // A SEND from the entry's sender: recorded, and answered with an ECHO of it.
 // Kept, this and the two below: three functions, since the pages name each, and each has the clause of its own kind.
-pub fn hear_send(book: &mut [u8], entry: EntryAt, letter: &Letter) -> Result<Step, Refusal>
-    requires { Carries book.old letter.now.bytes.now entry.base }
-    ensures { result_of (outcome_of result letter.now.bytes.now) book.new
-        ≡ called_in book.old (asked_by (sender_in letter.now.bytes.now) SEND letter.now.bytes.now) }
+pub fn hear_send(book: &mut [u8], entry: EntryAt, message: &[u8]) -> Result<Step, Refusal>
+    requires { Carries book.old message.now entry.base }
+    ensures { result_of (outcome_of result message.now) book.new
+        ≡ called_in book.old (asked_by (sender_in message.now) SEND message.now) }
 {
     let at = entry.send();
-    marks::record_answer(book, at, letter.lot())?;
-    slots::put_slot(book, at, letter.lot());
+    marks::record_answer(book, at, lot_of(message))?;
+    slots::put_slot(book, at, lot_of(message));
     Ok(Step {
         gives: Some(Kind::Echo),
         delivers: false,
@@ -64,17 +63,18 @@ pub fn hear_echo(
     book: &mut [u8],
     house: u8,
     entry: EntryAt,
-    letter: &Letter,
+    message: &[u8],
 ) -> Result<Step, Refusal>
-    requires { Carries book.old letter.now.bytes.now entry.base × (house < n_of book.old) × (entry.n ≡ n_of book.old) }
-    ensures { result_of (outcome_of result letter.now.bytes.now) book.new
-        ≡ called_in book.old (asked_by house ECHO letter.now.bytes.now) }
+    requires { Carries book.old message.now entry.base × (house < n_of book.old) }
+    ensures { result_of (outcome_of result message.now) book.new
+        ≡ called_in book.old (asked_by house ECHO message.now) }
 {
-    let at = entry.echo(house);
-    marks::record_answer(book, at, letter.lot())?;
-    slots::put_slot(book, at, letter.lot());
-    let gives = marks::echo_mark(book, entry, letter.lot());
-    marks::mark(book, entry.ready_sent(), gives, letter.lot());
+    let here = entry.in_book(book);
+    let at = here.echo(house);
+    marks::record_answer(book, at, lot_of(message))?;
+    slots::put_slot(book, at, lot_of(message));
+    let gives = marks::echo_mark(book, here, lot_of(message));
+    marks::mark(book, here.ready_sent(), gives, lot_of(message));
     Ok(Step {
         gives: gives.then_some(Kind::Ready),
         delivers: false,
@@ -86,18 +86,19 @@ pub fn hear_ready(
     book: &mut [u8],
     house: u8,
     entry: EntryAt,
-    letter: &Letter,
+    message: &[u8],
 ) -> Result<Step, Refusal>
-    requires { Carries book.old letter.now.bytes.now entry.base × (house < n_of book.old) × (entry.n ≡ n_of book.old) }
-    ensures { result_of (outcome_of result letter.now.bytes.now) book.new
-        ≡ called_in book.old (asked_by house READY letter.now.bytes.now) }
+    requires { Carries book.old message.now entry.base × (house < n_of book.old) }
+    ensures { result_of (outcome_of result message.now) book.new
+        ≡ called_in book.old (asked_by house READY message.now) }
 {
+    let entry = entry.in_book(book);
     let at = entry.ready(house);
-    marks::record_answer(book, at, letter.lot())?;
-    slots::put_slot(book, at, letter.lot());
-    let m = marks::ready_marks(book, entry, letter.lot());
-    marks::mark(book, entry.ready_sent(), m.gives, letter.lot());
-    marks::mark(book, entry.delivered(), m.delivers, letter.lot());
+    marks::record_answer(book, at, lot_of(message))?;
+    slots::put_slot(book, at, lot_of(message));
+    let m = marks::ready_marks(book, entry, lot_of(message));
+    marks::mark(book, entry.ready_sent(), m.gives, lot_of(message));
+    marks::mark(book, entry.delivered(), m.delivers, lot_of(message));
     Ok(Step {
         gives: m.gives.then_some(Kind::Ready),
         delivers: m.delivers,

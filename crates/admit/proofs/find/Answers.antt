@@ -92,7 +92,6 @@ take-requires c =
         plausible = record { decl = lot_decl b m C; ok = sym ok ∙ c.if-not-is_plausible.false };
       },
       omega arith,
-      o.n,
     )
 
 pub returns : goal.returns

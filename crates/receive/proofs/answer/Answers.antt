@@ -21,14 +21,14 @@ returns-in-Ok c =
 pub returns-in-Err : goal.returns-in-Err
 returns-in-Err c =
     let a = c.args in
-    let given = ap (λ (o : Outcome). result_of o c.ask.new.book) c.refuse.ensures in
+    let given = ap (λ (o : Outcome). result_of o c.ask.new.book) (rw c.into.ensures at c.refuse.ensures) in
     asked_any a.bytes.now a.book.now a.house _ c.is_request.ensures c.if-is_request.true _ c.word_at.ensures _ (given ∙ c.in-Err.ensures)
 
 pub returns-in_default : goal.returns-in_default
 returns-in_default c =
     let a = c.args in
     malformed_any a.bytes.now a.book.now a.house _ c.is_request.ensures c.if-is_request.false c.in_default.ensures _
-    c.refuse-in_default.ensures
+    (rw c.into-in_default.ensures at c.refuse-in_default.ensures)
 
 pub invariant_of-letter : goal.invariant_of-letter
 invariant_of-letter c =

@@ -7,7 +7,8 @@ use Rattle.receive.proofs.receive.Goals as goal
 pub returns-then-not-is_legal : goal.returns-then-not-is_legal
 returns-then-not-is_legal c =
     let a = c.args in
-    received_no_book a.book.now a.house a.message.now (sym c.is_legal.ensures ∙ c.if-not-is_legal.true) _ c.refuse.ensures
+    received_no_book a.book.now a.house a.message.now (sym c.is_legal.ensures ∙ c.if-not-is_legal.true) _
+    (rw c.into.ensures at c.refuse.ensures)
 
 pub answer-requires : goal.answer-requires
 answer-requires c = sym c.is_legal.ensures ∙ c.if-not-is_legal.false

@@ -5,7 +5,8 @@ use Rattle.receive.proofs.receive_entry.Goals as goal
 pub returns-then-not-is_head_legal : goal.returns-then-not-is_head_legal
 returns-then-not-is_head_legal c =
     let a = c.args in
-    head_refused a.book.now a.message.now a.house _ c.is_head_legal.ensures c.if-not-is_head_legal.true _ c.refuse.ensures
+    head_refused a.book.now a.message.now a.house _ c.is_head_legal.ensures c.if-not-is_head_legal.true _
+    (rw c.into.ensures at c.refuse.ensures)
 
 pub returns : goal.returns
 returns c =

@@ -7,42 +7,46 @@ use Rattle.refusal.proofs.Numbers.{never_accepted}
 use Rattle.calls.specs.Entered.{result_of}
 use Rattle.reply.specs.declared.Step.{Step}
 use Rattle.reply.specs.Handed.{outcome_of}
-use Rattle.layout.proofs.Begins.{lies, echo_room, ready_sent_room}
-use Rattle.step.proofs.Heard.{echo_refused, echo_lies, echo_heard}
+use Rattle.layout.proofs.Begins.{echo_room, ready_sent_room}
+use Rattle.step.proofs.Heard.{carries_along, echo_refused, echo_lies, echo_heard}
 use Rattle.step.proofs.hear_echo.Goals as goal
 
 pub record_answer-requires : goal.record_answer-requires
 record_answer-requires c =
-    omega (arith, echo_room _ _ (lies _ c.args.entry c.requires.2 c.requires.0.begins.within) _ c.requires.1, c.echo-at.ensures)
+    omega (arith, echo_room _ _ c.in_book-here.ensures.0 _ c.requires.1, c.echo-at.ensures)
 
 pub returns-in_err-record_answer : goal.returns-in_err-record_answer
 returns-in_err-record_answer c =
     let a = c.args in
     let b = a.book.now in
-    let m = a.letter.now.bytes.now in
-    let e : c.from_residual.result ≡ Err c.in_err-record_answer.field-0.0 = search rules in
-    ap (λ (o : Result Step Refusal). result_of (outcome_of o m) b) e
-    ∙ echo_refused b m a.entry.base c.requires.0 a.house c.requires.1 _ _ _ _ c.requires.2 c.lot.ensures c.in_err-record_answer.ensures
+    let m = a.message.now in
+    let e = c.in_book-here in
+    let C = carries_along b m _ _ e.ensures.1 c.requires.0 in
+    let r : c.from_residual.result ≡ Err c.in_err-record_answer.field-0.0 = search rules in
+    ap (λ (o : Result Step Refusal). result_of (outcome_of o m) b) r
+    ∙ echo_refused b m e.result.base C a.house c.requires.1 _ _ _ _ e.ensures.0.n c.lot_of.ensures c.in_err-record_answer.ensures
     c.echo-at.ensures (never_accepted _)
 
 pub put_slot-requires : goal.put_slot-requires
 put_slot-requires c =
-    omega (arith, echo_room _ _ (lies _ c.args.entry c.requires.2 c.requires.0.begins.within) _ c.requires.1, c.echo-at.ensures)
+    omega (arith, echo_room _ _ c.in_book-here.ensures.0 _ c.requires.1, c.echo-at.ensures)
 
 pub echo_mark-gives-requires : goal.echo_mark-gives-requires
 echo_mark-gives-requires c =
     let a = c.args in
     let b = a.book.now in
-    let m = a.letter.now.bytes.now in
+    let m = a.message.now in
+    let e = c.in_book-here in
+    let C = carries_along b m _ _ e.ensures.1 c.requires.0 in
     let bytes : (i : ℕ) → Fits w8 (get_or b i 0) = λ i. search rules in
-    echo_lies b m a.entry.base c.requires.0 a.house c.requires.1 _ _ _ _ c.requires.2 c.lot.ensures c.in_ok-record_answer.ensures
-    (λ i. (bytes i).fits) _ c.lot-2.ensures _ c.put_slot.ensures c.echo-at.ensures a.entry refl c.requires.2
+    (echo_lies b m e.result.base C a.house c.requires.1 _ _ _ _ e.ensures.0.n c.lot_of.ensures c.in_ok-record_answer.ensures
+    (λ i. (bytes i).fits) _ c.lot_of-2.ensures _ c.put_slot.ensures c.echo-at.ensures e.result refl e.ensures.0.n).within
 
 pub mark-requires : goal.mark-requires
 mark-requires c =
     omega (
       arith,
-      ready_sent_room _ _ (lies _ c.args.entry c.requires.2 c.requires.0.begins.within),
+      ready_sent_room _ _ c.in_book-here.ensures.0,
       c.ready_sent.ensures,
       c.put_slot.auto.b,
     )
@@ -51,8 +55,10 @@ pub returns : goal.returns
 returns c =
     let a = c.args in
     let b = a.book.now in
-    let m = a.letter.now.bytes.now in
+    let m = a.message.now in
+    let e = c.in_book-here in
+    let C = carries_along b m _ _ e.ensures.1 c.requires.0 in
     let bytes : (i : ℕ) → Fits w8 (get_or b i 0) = λ i. search rules in
-    echo_heard b m a.entry.base c.requires.0 a.house c.requires.1 _ _ _ _ c.requires.2 c.lot.ensures c.in_ok-record_answer.ensures
-    (λ i. (bytes i).fits) _ c.lot-2.ensures _ c.put_slot.ensures _ c.ready_sent.ensures _ _ c.lot-3.ensures c.lot-4.ensures _ refl
+    echo_heard b m e.result.base C a.house c.requires.1 _ _ _ _ e.ensures.0.n c.lot_of.ensures c.in_ok-record_answer.ensures
+    (λ i. (bytes i).fits) _ c.lot_of-2.ensures _ c.put_slot.ensures _ c.ready_sent.ensures _ _ c.lot_of-3.ensures c.lot_of-4.ensures _ refl
     c.echo-at.ensures _ c.echo_mark-gives.ensures c.mark.ensures _ c.then_some.ensures

@@ -20,10 +20,10 @@ pub returns-in_err-record_answer : goal.returns-in_err-record_answer
 returns-in_err-record_answer c =
     let a = c.args in
     let b = a.book.now in
-    let m = a.letter.now.bytes.now in
+    let m = a.message.now in
     let e : c.from_residual.result ≡ Err c.in_err-record_answer.field-0.0 = search rules in
     ap (λ (o : Result Step Refusal). result_of (outcome_of o m) b) e
-    ∙ send_refused b m a.entry.base c.requires _ _ _ c.send-at.ensures c.lot.ensures c.in_err-record_answer.ensures (never_accepted _)
+    ∙ send_refused b m a.entry.base c.requires _ _ _ c.send-at.ensures c.lot_of.ensures c.in_err-record_answer.ensures (never_accepted _)
 
 pub put_slot-requires : goal.put_slot-requires
 put_slot-requires c = omega (arith, slot_room _ _ _ c.requires.begins.within (send_below (n_of c.args.book.now)), c.send-at.ensures)
@@ -32,7 +32,7 @@ pub returns : goal.returns
 returns c =
     let a = c.args in
     let b = a.book.now in
-    let m = a.letter.now.bytes.now in
+    let m = a.message.now in
     let bytes : (i : ℕ) → Fits w8 (get_or b i 0) = λ i. search rules in
-    send_heard b m a.entry.base c.requires _ _ _ c.send-at.ensures c.lot.ensures c.in_ok-record_answer.ensures
-    (λ i. (bytes i).fits) refl _ c.lot-2.ensures _ c.put_slot.ensures
+    send_heard b m a.entry.base c.requires _ _ _ c.send-at.ensures c.lot_of.ensures c.in_ok-record_answer.ensures
+    (λ i. (bytes i).fits) refl _ c.lot_of-2.ensures _ c.put_slot.ensures
