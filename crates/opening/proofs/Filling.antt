@@ -32,7 +32,8 @@ past x y l =
 
 -- A buffer of which so many first bytes are cleared, where it has no more: so a body that clears by a range, and leaves a byte, is
 -- refused for that byte.
-pub cleared : (b first : List ℕ) (k : ℕ) → length b ≤ k → first ≡ replicate (length (take k b)) 0 → first ++ drop k b ≡ replicate (length b) 0
+pub cleared : (b first : List ℕ) (k : ℕ) → length b ≤ k → first ≡ replicate (length (take k b)) 0
+    → first ++ drop k b ≡ replicate (length b) 0
 cleared b first k l e =
     let t : length (take k b) ≡ length b = ap length (take_all k b l) in
     rw (drop_of_length-le b l, append-nil first) (e ∙ ap (λ (n : ℕ). replicate n 0) t)
