@@ -80,7 +80,8 @@ fn rank_of(bits: u32) -> u32
     if bits < 0x8000_0000 {
         0x8000_0000 + bits
     } else {
-        0x8000_0000 - bits % 0x8000_0000
+        // 2^31 less the bits without the sign: it takes two instructions fewer as 2^32 less all of them.
+        u32::MAX - bits + 1
     }
 }
 
@@ -97,12 +98,14 @@ fn top_of(l: Line) -> Top
 }
 
 // The next line takes the place of one whose moisture is lower: among equal moistures the first stands.
+// Kept: none is asked for first, and apart from the lower moisture: together, last, they take a look 2 to 5 instructions a line more.
 fn raise(best: Option<Top>, next: Top) -> Top
     ensures { result ≡ raised best next }
 {
     match best {
-        Some(top) if top.rank >= next.rank => top,
-        _ => next,
+        None => next,
+        Some(top) if top.rank < next.rank => next,
+        Some(top) => top,
     }
 }
 

@@ -10,7 +10,6 @@ ghost use Rattle.plans.specs.Plan.{long_enough, top_totals, begun, enter_plan, s
 use lines::{Seen, Top};
 use refusal::Refusal;
 use roll::{Ask, Line, Totals};
-use std::ops::Range;
 
 // A roll has at most so many lines.
 const MOST_LINES: usize = 4096;
@@ -37,12 +36,19 @@ pub enum Way {
     Down,
 }
 
+// Places of a roll, from one to before another: a Range of the library is not copied, and a plan is.
+#[derive(Clone, Copy, PartialEq, Eq, Debug)]
+pub struct Places {
+    pub start: usize,
+    pub end: usize,
+}
+
 // The lines at some places move by one, over the last of them or over the first, and a line is laid down in the place that is left; and the
 // totals afterwards.
 // Kept: that the places are of the roll (`WithinRoll`) is a clause, and no invariant here, since the roll's length is no part of a plan.
-#[derive(Drop)]
+#[derive(Clone, Copy)]
 pub struct Plan {
-    pub places: Range<usize>,
+    pub places: Places,
     pub way: Way,
     pub line: Line,
     pub totals: Totals,
@@ -119,8 +125,9 @@ impl Before {
         }
         let kilograms = totals.kilograms + u64::from(line.kilograms);
         let top = lines::merge(seen.others, line);
+        let (start, end) = (seen.place, totals.lines + 1);
         Ok(Plan {
-            places: seen.place..totals.lines + 1,
+            places: Places { start, end },
             way: Way::Up,
             line,
             totals: totals_with(kilograms, totals.lines + 1, Some(top)),
@@ -139,8 +146,9 @@ impl Before {
             return Err(Refusal::LotNotThere);
         };
         let kilograms = totals.kilograms - u64::from(weight);
+        let (start, end) = (seen.place, totals.lines);
         Ok(Plan {
-            places: seen.place..totals.lines,
+            places: Places { start, end },
             way: Way::Down,
             line: Line::default(),
             totals: totals_with(kilograms, totals.lines - 1, seen.others),

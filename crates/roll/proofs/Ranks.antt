@@ -1,6 +1,6 @@
 -- Float comparison of finite readings is comparison of the ranks of their bits.
 use Prim.Native.Nat.{ℕ, ◌+◌, ◌-◌, ◌%◌, ◌^◌, ◌≤◌, ◌<◌}
-use mathlib.Core.Path.{◌≡◌, refl, sym, ap, ◌∙◌}
+use mathlib.Core.Path.{◌≡◌, refl, sym, ap, ◌∙◌, subst}
 use mathlib.Core.Bool.{Bool, true, false, not, ◌||◌, true≢false}
 use native.Mathlib.Omega.{arith}
 use lib.Dec.{leb, ltb}
@@ -8,6 +8,7 @@ use lib.Pow.{pow_pos}
 use lib.Ieee.{Float, binary32, of_bits, below, lt, le, eq}
 use borrow.Author.Tests.{le-leb, lt-leb, le-ltb, ltb-true, ltb-false}
 use Rattle.sheet.specs.Sheet.{finite}
+use Rattle.sheet.proofs.Finite.{finite_bits}
 use Rattle.sheet.proofs.Order.{same_ltb, units_of, units, units_mono, units_back, sized, lt_sized, le_is}
 use Rattle.roll.specs.Rank.{rank}
 use Rattle.std.proofs.Math.Bool.{or-true}
@@ -87,6 +88,14 @@ lt_rank a b h k =
     (units (b % 0x8000_0000)) (2 ^ 149) (pow_pos 149) (sized a h) (sized b k)
     ∙ below_ranked (leb 0x8000_0000 a) (leb 0x8000_0000 b) (a % 0x8000_0000) (b % 0x8000_0000) (without_sign a) (without_sign b)
     ∙ λ i. ltb (sym (rank_is a) i) (sym (rank_is b) i)
+
+-- the rank of a finite reading is not 0
+pub rank_there : (b : ℕ) → finite (of_bits binary32 b) ≡ true → 0 < rank b
+rank_there b h = subst (λ (k : ℕ). 0 < k) (sym (rank_is b)) (go (leb 0x8000_0000 b) (ltb-true _ _ (sym (finite_bits b) ∙ h)))
+  where
+    go : (s : Bool) → b % 0x8000_0000 < 0x7f80_0000 → 0 < ranked s (b % 0x8000_0000)
+    go true l = omega arith
+    go false l = omega arith
 
 -- ---- equal is neither below nor above
 

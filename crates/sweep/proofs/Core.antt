@@ -1,6 +1,7 @@
 -- What the code works out is what 2026-05 asks: the answer, every line and the totals.
 use Prim.Native.Nat.{ℕ, ◌<◌, min}
 use mathlib.Core.Path.{◌≡◌, refl, sym, ap, ◌∙◌}
+use mathlib.Core.Option.{Option, none, some}
 use mathlib.Core.Bool.{Bool, true, false, ◌&&◌}
 use mathlib.Core.List.{List}
 use native.Mathlib.Omega.{arith}
@@ -14,18 +15,27 @@ use Rattle.roll.specs.declared.Line.{Line}
 use Rattle.roll.specs.declared.Totals.{Totals}
 use Rattle.roll.specs.declared.Ask.{Ask}
 use Rattle.roll.specs.declared.Ask.TheVariants.{Enter, Strike}
-use Rattle.roll.specs.Roll.{ordered, all_finite, weight, totals_of, same_totals, sound}
+use Rattle.roll.specs.Roll.{ordered, all_finite, weight, highest, totals_of, same_totals, sound}
 use Rattle.roll.specs.Roll.{refused, entered, struck, lot_asked, changed}
 use Rattle.std.proofs.lemmas.Bool.{and_parts}
 use Rattle.roll.proofs.Tests.{bcase}
+use Rattle.roll.proofs.Highest.{among_finite, top_is}
 use Rattle.lines.specs.declared.Seen.{Seen}
 use Rattle.lines.specs.Look.{nothing_seen, seen_in}
 use Rattle.lines.proofs.Scan.{sees_fine, sees_kilograms}
-use Rattle.lines.proofs.Tops.{all_is}
+use Rattle.lines.proofs.Tops.{FiniteIn, all_is}
 use Rattle.plans.specs.Plan.{long_enough, begun, top_totals, sound_seen}
 use Rattle.plans.specs.Plan.{planned, decided}
 use Rattle.sweep.specs.Sweep.{looked_at, settled, worked}
 use Rattle.sweep.proofs.Settling.{marked, strike_settles, enter_settles}
+
+-- the highest line of ordered and finite ones is finite
+highest_finite : (ls : List Line) → ordered ls ≡ true → all_finite ls ≡ true → FiniteIn (highest ls)
+highest_finite ls o a = go (highest ls) refl
+  where
+    go : (b : Option Line) → highest ls ≡ b → FiniteIn b
+    go none e = tt
+    go (some l) e = among_finite ls a l (top_is ls l o a e).one_of
 
 -- ---- a roll that is not sound is refused
 
