@@ -64,7 +64,7 @@ fn answer(book: &mut [u8], house: u32, tested: Tested, bytes: &[u8]) -> Outcome
         return reply::refuse(Refusal::Malformed.into());
     };
     let letter = Letter { message, bytes };
-    reply::hand(hear(book, house, tested, &letter), bytes)
+    reply::hand_step(hear(book, house, tested, &letter), bytes)
 }
 
 // Kept, this and the one below: two functions, since C links both names; what follows the test that differs is one.

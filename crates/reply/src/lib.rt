@@ -23,12 +23,12 @@ pub struct Step {
 
 // A refusal: the number, no message, no delivery.
 // Kept, here and in the three that make one below: all six fields, since each has a clause of its own; what is absent is zeros.
-// Kept, here and in `lay`: any number, where `Refusal` and `Kind` have those that the calls answer.
+// Kept, here and in `hand`: any number, where `Refusal` and `Kind` have those that the calls answer.
 pub fn refuse(answer: u8) -> Outcome
     ensures { result ≡ handed answer none none }
 {
     Outcome {
-        answer,
+        answer, // any number
         gives: false,
         message: [0; 36],
         delivers: false,
@@ -104,7 +104,7 @@ fn lot_of(delivers: bool, message: &[u8]) -> [u8; 20]
 }
 
 // Any answer, the message with any kind that is given, if one is, and the message's declaration where it is delivered.
-pub fn lay(answer: u8, gives: Option<u8>, delivers: bool, message: &[u8]) -> Outcome
+pub fn hand(answer: u8, gives: Option<u8>, delivers: bool, message: &[u8]) -> Outcome
     requires { length message.now ≡ 36 }
     ensures { result ≡ laid_of answer gives delivers message.now }
 {
@@ -121,12 +121,12 @@ pub fn lay(answer: u8, gives: Option<u8>, delivers: bool, message: &[u8]) -> Out
 }
 
 // A step on a message's entry, with the bytes that it gives and delivers, or its refusal.
-pub fn hand(step: Result<Step, Refusal>, message: &[u8]) -> Outcome
+pub fn hand_step(step: Result<Step, Refusal>, message: &[u8]) -> Outcome
     requires { length message.now ≡ 36 }
     ensures { result ≡ outcome_of step message.now }
 {
     match step {
-        Ok(step) => lay(0, step.gives.map(fields::number_of), step.delivers, message),
+        Ok(step) => hand(0, step.gives.map(fields::number_of), step.delivers, message),
         Err(refusal) => refuse(refusal.into()),
     }
 }

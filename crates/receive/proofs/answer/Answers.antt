@@ -42,8 +42,8 @@ invariant_of-letter c =
       of_declaration = F.declaration;
     }
 
-pub hand-requires : goal.hand-requires
-hand-requires c = formed_long c.args.bytes.now _ (read_formed c.args.bytes.now _ c.in-Some.ensures)
+pub hand_step-requires : goal.hand_step-requires
+hand_step-requires c = formed_long c.args.bytes.now _ (read_formed c.args.bytes.now _ c.in-Some.ensures)
 
 pub returns : goal.returns
 returns c =
@@ -51,4 +51,4 @@ returns c =
     let m = a.bytes.now in
     let F = read_formed m _ c.in-Some.ensures in
     message_any m a.book.now a.house _ c.is_request.ensures c.if-is_request.false _ F c.hear.result _ c.hear.ensures _
-    c.hand.ensures
+    c.hand_step.ensures
