@@ -23,7 +23,7 @@ pub struct Step {
 
 // A refusal: the number, no message, no delivery.
 // Kept, here and in the three that make one below: all six fields, since each has a clause of its own; what is absent is zeros.
-// Kept, here and in `hand`: any number, where `Refusal` and `Kind` have those that the calls answer.
+// Kept, here, in `letter_of` and in `hand`: any number, where `Refusal` and `Kind` have those that the calls answer.
 pub fn refuse(answer: u8) -> Outcome
     ensures { result ≡ handed answer none none }
 {
